@@ -1,0 +1,2 @@
+-- Laws of checks.
+pub mod Checks

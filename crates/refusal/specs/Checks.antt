@@ -1,0 +1,29 @@
+-- Checks in order: the first that fails gives the refusal.
+use mathlib.Core.Bool.{Bool, true, false, _||_}
+use mathlib.Core.List.{List, [], _∷_}
+use Prim.Native.Nat.{ℕ}
+use lib.Dec.{ltb}
+use Rattle.refusal.specs.declared.Cause.{Cause}
+use Rattle.refusal.specs.declared.Verdict.{Verdict}
+
+-- A condition that turns an input down, and the cause that it gives.
+pub record Check : Type 0 where
+  pub fails : Bool
+  pub cause : Cause
+
+infix 68 _↝_
+abbrev pub _↝_ : Bool → Cause → Check
+fails ↝ cause = record { fails = fails; cause = cause }
+
+abbrev pub refuses : Bool → Cause → Verdict → Verdict
+refuses true cause later = Verdict.Refused cause
+refuses false cause later = later
+
+-- The verdict of a list of checks, tried from its head.
+abbrev pub verdict : List Check → Verdict
+verdict [] = Verdict.Passed
+verdict (check ∷ checks) = refuses (check .fails) (check .cause) (verdict checks)
+
+-- "n not low..high"
+abbrev pub outside : ℕ → ℕ → ℕ → Bool
+outside low high n = ltb n low || ltb high n

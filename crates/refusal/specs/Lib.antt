@@ -1,0 +1,3 @@
+-- What a reader has to believe of refusals.
+pub mod Numbers
+pub mod Checks

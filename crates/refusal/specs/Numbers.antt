@@ -1,0 +1,24 @@
+-- Document 01, "What is turned down, by place": the number of each cause. No other place gives a cause its number.
+use Prim.Native.Nat.{ℕ}
+use Rattle.refusal.specs.declared.Cause.{Cause}
+
+abbrev pub numberOf : Cause → ℕ
+numberOf Cause.Kind = 1
+numberOf Cause.InputWidth = 2
+numberOf Cause.OutputWidth = 3
+numberOf Cause.GuardBits = 4
+numberOf Cause.InitialBits = 5
+numberOf Cause.TableCount = 6
+numberOf Cause.SegmentBits = 7
+numberOf Cause.OffsetBits = 8
+numberOf Cause.CutSum = 9
+numberOf Cause.TablesShort = 10
+numberOf Cause.NotAdmitted = 11
+numberOf Cause.WordRange = 12
+numberOf Cause.SumRange = 13
+numberOf Cause.OutputShort = 14
+numberOf Cause.Line = 15
+numberOf Cause.Frame = 16
+numberOf Cause.State = 17
+numberOf Cause.EntryWidth = 18
+numberOf Cause.LineNumber = 19
