@@ -1,0 +1,67 @@
+-- Document 01, "A design": where words and tables lie.
+use mathlib.Core.List.{List}
+use Prim.Native.Nat.{ℕ, zero, suc, _+_, _-_, _*_, _/_, _%_, _^_}
+use lib.ListN.{getD, take}
+use Rattle.values.specs.declared.rows.Row.{Row}
+use Rattle.values.specs.Rows.{rowOf}
+use Rattle.design.specs.declared.Pair.{Pair}
+use Rattle.design.specs.declared.Design.{Design}
+
+-- "m pairs (a_i, b_i), i from 0"; "pairs beyond m are not read"
+unfoldable pub tables : Design → List Pair
+tables d = take (d .m) (d .pairs)
+
+unfoldable pub pairAt : Design → ℕ → Pair
+pairAt d i = getD (tables d) i (record { a = 0; b = 0 })
+
+abbrev pub aOf : Design → ℕ → ℕ
+aOf d i = pairAt d i .a
+
+abbrev pub bOf : Design → ℕ → ℕ
+bOf d i = pairAt d i .b
+
+abbrev pub row : Design → Row
+row d = rowOf (d .kind)
+
+-- "a table entry P = q + g"
+abbrev pub tableBits : Design → ℕ
+tableBits d = d .q + d .g
+
+-- The sum of f over the numbers below n.
+unfoldable pub sumBelow : ℕ → (ℕ → ℕ) → ℕ
+sumBelow zero f = 0
+sumBelow (suc n) f = sumBelow n f + f n
+
+-- "p_0 = 0 and p_(i+1) = p_i + b_i"
+unfoldable pub position : Design → ℕ → ℕ
+position d i = sumBelow i (bOf d)
+
+-- "Word A is floor(x / 2^(w-alpha))"
+unfoldable pub initialWord : Design → ℕ → ℕ
+initialWord d x = x / 2 ^ (d .w - d .alpha)
+
+-- "A_i is floor(x / 2^(w-a_i)), the top a_i bits of x"
+unfoldable pub segmentWord : Design → ℕ → ℕ → ℕ
+segmentWord d i x = x / 2 ^ (d .w - aOf d i)
+
+-- "B_i is floor(x / 2^(p_i)) mod 2^(b_i)"
+unfoldable pub offsetWord : Design → ℕ → ℕ → ℕ
+offsetWord d i x = x / 2 ^ position d i % 2 ^ bOf d i
+
+-- "2^alpha initial entries and, for each i, 2^(a_i+b_i) offsets"
+unfoldable pub initialCount : Design → ℕ
+initialCount d = 2 ^ d .alpha
+
+unfoldable pub offsetCount : Design → ℕ → ℕ
+offsetCount d i = 2 ^ (aOf d i + bOf d i)
+
+-- "Offset tables lie one after another, table 0 first": where table i begins, and after the last where they end.
+unfoldable pub tableStart : Design → ℕ → ℕ
+tableStart d i = sumBelow i (offsetCount d)
+
+unfoldable pub offsetTotal : Design → ℕ
+offsetTotal d = tableStart d (d .m)
+
+-- "entry A_i·2^(b_i) + B_i": the place of an offset among all of them
+unfoldable pub offsetPlace : Design → ℕ → ℕ → ℕ → ℕ
+offsetPlace d i A B = tableStart d i + (A * 2 ^ bOf d i + B)

@@ -1,0 +1,41 @@
+-- Document 01, "What is turned down, by place", 1 to 9, in the order in which they are tried.
+use mathlib.Core.Bool.{Bool, false, not, _||_}
+use mathlib.Core.List.{List, [], _∷_, _++_}
+use mathlib.Core.Path.{_≡_}
+use Prim.Native.Nat.{ℕ, zero, suc, _+_, _-_}
+use lib.Dec.{leb, ltb, eqb}
+use Rattle.refusal.specs.declared.Cause.{Cause}
+use Rattle.refusal.specs.declared.Verdict.{Verdict}
+use Rattle.refusal.specs.Checks.{Check, _↝_, outside, verdict}
+use Rattle.values.specs.Widths.{widthChecks}
+use Rattle.design.specs.declared.Design.{Design}
+use Rattle.design.specs.Cut.{aOf, bOf, position}
+
+-- Whether the test holds for some number below n.
+unfoldable pub someBelow : ℕ → (ℕ → Bool) → Bool
+someBelow zero test = false
+someBelow (suc n) test = someBelow n test || test n
+
+unfoldable pub segmentBitsFail : Design → ℕ → Bool
+segmentBitsFail d i = outside 1 (d .alpha) (aOf d i)
+
+unfoldable pub offsetBitsFail : Design → ℕ → Bool
+offsetBitsFail d i = outside 1 8 (bOf d i) || ltb 12 (aOf d i + bOf d i)
+
+unfoldable pub cutChecks : Design → List Check
+cutChecks d =
+    (outside 2 13 (d .alpha) || leb (d .w) (d .alpha)) ↝ Cause.InitialBits ∷
+    outside 1 4 (d .m) ↝ Cause.TableCount ∷
+    someBelow (d .m) (segmentBitsFail d) ↝ Cause.SegmentBits ∷
+    someBelow (d .m) (offsetBitsFail d) ↝ Cause.OffsetBits ∷
+    not (eqb (position d (d .m)) (d .w - d .alpha)) ↝ Cause.CutSum ∷ []
+
+unfoldable pub designChecks : Design → List Check
+designChecks d = widthChecks (d .kind) (d .w) (d .q) (d .g) ++ cutChecks d
+
+unfoldable pub designVerdict : Design → Verdict
+designVerdict d = verdict (designChecks d)
+
+-- "A design is legal when none of 1 to 9 .. turns it down."
+abbrev pub Legal : Design → Type 0
+Legal d = designVerdict d ≡ Verdict.Passed

@@ -1,0 +1,5 @@
+-- What a reader has to believe of designs.
+pub mod Cut
+pub mod Legal
+pub mod Budget
+pub mod Answers

@@ -1,0 +1,4 @@
+-- What a reader has to believe of lines and frames.
+pub mod Hex
+pub mod Line
+pub mod DesignFrame

@@ -1,0 +1,37 @@
+-- Document 01, refusal 15, "empty, odd length, over 32 digits, other character, wrong sum", and what a sound line holds.
+use mathlib.Core.Bool.{Bool, cond, not, _||_}
+use mathlib.Core.List.{List, [], _∷_, _++_}
+use Prim.Native.Nat.{ℕ, _+_, _-_, _%_}
+use lib.Dec.{ltb, eqb}
+use lib.ListN.{length, replicate}
+use Rattle.refusal.specs.declared.Cause.{Cause}
+use Rattle.refusal.specs.declared.Verdict.{Verdict}
+use Rattle.refusal.specs.Checks.{Check, _↝_}
+use Rattle.frames.specs.declared.Decoded.{Decoded}
+use Rattle.frames.specs.Hex.{allDigits, bytesOf}
+
+unfoldable pub total : List ℕ → ℕ
+total [] = 0
+total (n ∷ ns) = n + total ns
+
+-- "all bytes sum to 0 mod 256"
+unfoldable pub sumFails : List ℕ → Bool
+sumFails bytes = not (eqb (total bytes % 256) 0)
+
+unfoldable pub lineFails : List ℕ → Bool
+lineFails line =
+    eqb (length line) 0 || eqb (length line % 2) 1 || ltb 32 (length line) || not (allDigits line) || sumFails (bytesOf line)
+
+unfoldable pub lineChecks : List ℕ → List Check
+lineChecks line = lineFails line ↝ Cause.Line ∷ []
+
+-- The bytes with zeros behind them, 16 in all.
+unfoldable pub padded : List ℕ → List ℕ
+padded bytes = bytes ++ replicate (16 - length bytes) 0
+
+-- What the call `decode` answers: the bytes of a sound line, nothing of any other.
+unfoldable pub decoded : List ℕ → Decoded
+decoded line =
+    cond (lineFails line)
+    (record { verdict = Verdict.Refused Cause.Line; bytes = padded []; count = 0 })
+    (record { verdict = Verdict.Passed; bytes = padded (bytesOf line); count = length (bytesOf line) })

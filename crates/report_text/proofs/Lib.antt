@@ -1,0 +1,2 @@
+-- Laws of the report's text.
+mod Examples

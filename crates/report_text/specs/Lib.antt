@@ -1,0 +1,3 @@
+-- What a reader has to believe of the report.
+pub mod Words
+pub mod Report

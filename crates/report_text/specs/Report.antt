@@ -1,0 +1,39 @@
+-- Document 01, "Bits, lines and the report": the report's whole output.
+use mathlib.Core.Bool.{cond}
+use mathlib.Core.List.{List, _++_}
+use Prim.Native.Nat.{ℕ}
+use lib.ListN.{length}
+use Rattle.refusal.specs.declared.Cause.{Cause}
+use Rattle.refusal.specs.declared.Verdict.{Verdict}
+use Rattle.refusal.specs.Numbers.{numberOf}
+use Rattle.refusal.specs.Checks.{verdict}
+use Rattle.design.specs.declared.Design.{Design}
+use Rattle.design.specs.Legal.{designChecks}
+use Rattle.design.specs.Budget.{budget, limit, admitted, size}
+use Rattle.frames.specs.Hex.{bytesOf}
+use Rattle.frames.specs.Line.{lineChecks}
+use Rattle.frames.specs.DesignFrame.{frameChecks, frameDesign}
+use Rattle.report_text.specs.declared.Text.{Text}
+use Rattle.report_text.specs.Words.{ascii, decimal, textOf}
+
+-- "budget, 2^(g+17), size, verdict (`ADMITTED` or `NOT ADMITTED`), all decimal"
+unfoldable pub designText : Design → List ℕ
+designText d =
+    ascii "BUDGET " ++ decimal (budget d) ++ ascii " LIMIT " ++ decimal (limit d) ++ ascii " BITS " ++ decimal (size d)
+    ++ cond (admitted d) (ascii " ADMITTED\n") (ascii " NOT ADMITTED\n")
+
+-- "`REFUSED`, a space, its number and a newline"
+unfoldable pub refusedText : Cause → List ℕ
+refusedText cause = ascii "REFUSED " ++ decimal (numberOf cause) ++ ascii "\n"
+
+abbrev pub verdictText : Verdict → Design → List ℕ
+verdictText Verdict.Passed d = designText d
+verdictText (Verdict.Refused cause) d = refusedText cause
+
+-- "report 15, 16, 1 to 9"
+unfoldable pub reportVerdict : List ℕ → Verdict
+reportVerdict line =
+    verdict (lineChecks line ++ frameChecks (bytesOf line) (length (bytesOf line)) ++ designChecks (frameDesign (bytesOf line)))
+
+unfoldable pub reportOf : List ℕ → Text
+reportOf line = textOf (verdictText (reportVerdict line) (frameDesign (bytesOf line)))

@@ -1,0 +1,81 @@
+-- The floor value is the greatest number that is at most the exact value, for every row, width and P.
+use mathlib.Core.Path.{_≡_, refl, sym, ap, _∙_}
+use mathlib.Core.Bool.{Bool, true, false, cond}
+use Prim.Native.Nat.{ℕ, zero, suc, _+_, _*_, _/_, _^_, _≤_, _<_}
+use native.Mathlib.Nat.{
+  le-trans,
+  le-refl,
+  lt-of-le-of-lt,
+  lt-of-lt-of-le,
+  pow-le-pow-left,
+  not-le-of-lt,
+  lt-of-not-le,
+  le-div-iff-mul-le,
+  div-lt-iff-lt-mul,
+  two-pow-succ,
+  add-assoc,
+  pow-suc,
+  mul-zero,
+  zero-add,
+}
+use native.Mathlib.Decide.{decLe}
+use native.Mathlib.Numerals.{add-one}
+use native.Mathlib.Omega.{arith}
+use lib.Dec.{leb}
+use borrow.Author.Tests.{leb-true, leb-false}
+use Rattle.values.specs.declared.rows.Row.{Row}
+use Rattle.values.specs.Rows.{Lawful}
+use Rattle.values.specs.Reach.{InRange}
+use Rattle.values.specs.Exact.{num, den, numberSide, valueSide, AtMost, LessThan, AtLeast, MoreThan, Greatest}
+use Rattle.values.specs.Floor.{rootFrom, scaled, floorValue}
+use Rattle.values.proofs.Powers.{pow-cancel}
+use Rattle.values.proofs.ExactLaws.{degree, den-pos, value-high, below}
+
+-- r is the k-th root of the limit, rounded down
+pub record IsRoot (k limit r : ℕ) : Type 0 where
+  pub low : r ^ k ≤ limit
+  pub high : limit < (r + 1) ^ k
+
+-- The search keeps root^k ≤ limit < (root + 2^b)^k, of any degree.
+module _ (k limit : ℕ) where
+  digit : (b root : ℕ) (t : Bool) → leb ((root + 2 ^ b) ^ k) limit ≡ t
+      → ((next : ℕ) → next ^ k ≤ limit → limit < (next + 2 ^ b) ^ k → IsRoot k limit (rootFrom k limit b next))
+      → root ^ k ≤ limit → limit < (root + 2 ^ suc b) ^ k
+      → IsRoot k limit (rootFrom k limit b (cond t (root + 2 ^ b) root))
+  digit b root true e rec low high = rec (root + 2 ^ b) (leb-true _ _ e) (rw (two-pow-succ, ← add-assoc) at high)
+  digit b root false e rec low high = rec root low (leb-false _ _ e)
+
+  pub root-from : (b root : ℕ) → root ^ k ≤ limit → limit < (root + 2 ^ b) ^ k → IsRoot k limit (rootFrom k limit b root)
+  unfolding rootFrom
+  root-from zero root low high = record { low = low; high = high }
+  root-from (suc b) root low high = digit b root (leb ((root + 2 ^ b) ^ k) limit) refl (root-from b) low high
+
+module _ (row : Row) (lawful : Lawful row) (w P X : ℕ) (range : InRange w X) where
+  root-is : IsRoot (row .k) (scaled row w P X) (floorValue row w P X)
+  unfolding floorValue scaled
+  root-is = root-from (row .k) (scaled row w P X) (P + 1) 0 start end
+    where
+      start : 0 ^ row .k ≤ scaled row w P X
+      start = let d = degree (row .k) (lawful .k-pos) in rw (d .1, pow-suc, mul-zero) (omega arith)
+
+      end : scaled row w P X < (0 + 2 ^ (P + 1)) ^ row .k
+      end = rw zero-add (div-lt-iff-lt-mul (den-pos row lawful w X range) .1 (unfold numberSide in value-high row lawful w X range P))
+
+  -- Document 01: "L is the greatest n with .."
+  pub floor-greatest : Greatest (AtMost row w P X) (floorValue row w P X)
+  unfolding numberSide scaled
+  floor-greatest =
+      record {
+        holds = le-div-iff-mul-le (den-pos row lawful w X range) .0 (root-is .low);
+        greatest = λ m h. elim (decLe m (floorValue row w P X)) [
+          | yes p ↦ p
+          | no n ↦ absurd (not-le-of-lt (root-is .high)
+              (le-trans (pow-le-pow-left (omega (arith, lt-of-not-le n)) (row .k)) (le-div-iff-mul-le (den-pos row lawful w X range) .1 h)))
+        ];
+      }
+
+  pub floor-next : MoreThan row w P X (floorValue row w P X + 1)
+  floor-next = lt-of-not-le (λ h. omega (arith, floor-greatest .greatest (floorValue row w P X + 1) h))
+
+  pub floor-high : floorValue row w P X < 2 ^ (P + 1)
+  floor-high = below row w X P (floor-greatest .holds) (value-high row lawful w X range P)

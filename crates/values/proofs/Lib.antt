@@ -1,0 +1,5 @@
+-- Laws of values and slopes, one file a subject.
+pub mod Powers
+pub mod ExactLaws
+pub mod FloorLaws
+pub mod SlopeLaws

@@ -1,0 +1,8 @@
+-- What a reader has to believe of values and slopes.
+pub mod Rows
+pub mod Exact
+pub mod Reach
+pub mod Floor
+pub mod Slopes
+pub mod Widths
+pub mod Value

@@ -1,0 +1,32 @@
+-- Document 01, "Slopes and budget": the segment of a value A of the top a bits of x, and the bounds Hi and Lo of the slope on it.
+use Prim.Native.Nat.{ℕ, zero, suc, _+_, _-_, _*_, _/_, _^_, max}
+use Rattle.values.specs.declared.rows.Row.{Row}
+use Rattle.values.specs.Floor.{floorValue}
+
+-- "from X = s = 2^w + A_i·2^(w-a_i) to X = e = s + 2^(w-a_i) - 1"
+unfoldable pub segmentStart : ℕ → ℕ → ℕ → ℕ
+segmentStart w a A = 2 ^ w + A * 2 ^ (w - a)
+
+unfoldable pub segmentEnd : ℕ → ℕ → ℕ → ℕ
+unfolding segmentStart
+segmentEnd w a A = segmentStart w a A + 2 ^ (w - a) - 1
+
+-- "Hi = floor((L(s)+1)·65536 / (k·s)) + 1"
+unfoldable pub hi : Row → ℕ → ℕ → ℕ → ℕ
+hi row w P s = (floorValue row w P s + 1) * 65536 / (row .k * s) + 1
+
+-- "Lo = floor(L(e)·65536 / (k·e))"
+unfoldable pub lo : Row → ℕ → ℕ → ℕ → ℕ
+lo row w P e = floorValue row w P e * 65536 / (row .k * e)
+
+-- Hi - Lo of the segment of A
+unfoldable pub spread : Row → ℕ → ℕ → ℕ → ℕ → ℕ
+spread row w P a A = hi row w P (segmentStart w a A) - lo row w P (segmentEnd w a A)
+
+unfoldable pub largest : ℕ → (ℕ → ℕ) → ℕ
+largest zero f = 0
+largest (suc n) f = max (largest n f) (f n)
+
+-- "the largest Hi - Lo over all A_i"
+unfoldable pub largestSpread : Row → ℕ → ℕ → ℕ → ℕ
+largestSpread row w P a = largest (2 ^ a) (spread row w P a)
