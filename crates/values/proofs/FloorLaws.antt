@@ -22,7 +22,7 @@ use native.Mathlib.Decide.{decLe}
 use native.Mathlib.Numerals.{add-one}
 use native.Mathlib.Omega.{arith}
 use lib.Dec.{leb}
-use borrow.Author.Tests.{leb-true, leb-false}
+use borrow.Author.Tests.{leb-true, leb-false, le-leb, lt-leb}
 use Rattle.values.specs.declared.rows.Row.{Row}
 use Rattle.values.specs.Rows.{Lawful}
 use Rattle.values.specs.Reach.{InRange}
@@ -49,6 +49,15 @@ module _ (k limit : ℕ) where
   unfolding rootFrom
   root-from zero root low high = record { low = low; high = high }
   root-from (suc b) root low high = digit b root (leb ((root + 2 ^ b) ^ k) limit) refl (root-from b) low high
+
+  -- One digit of the search, by its test.
+  pub digit-one : (b root : ℕ) → (root + 2 ^ b) ^ k ≤ limit → rootFrom k limit (suc b) root ≡ rootFrom k limit b (root + 2 ^ b)
+  unfolding rootFrom
+  digit-one b root h = simp (le-leb _ _ h)
+
+  pub digit-zero : (b root : ℕ) → limit < (root + 2 ^ b) ^ k → rootFrom k limit (suc b) root ≡ rootFrom k limit b root
+  unfolding rootFrom
+  digit-zero b root h = simp (lt-leb _ _ h)
 
 module _ (row : Row) (lawful : Lawful row) (w P X : ℕ) (range : InRange w X) where
   root-is : IsRoot (row .k) (scaled row w P X) (floorValue row w P X)

@@ -3,3 +3,5 @@ pub mod Powers
 pub mod ExactLaws
 pub mod FloorLaws
 pub mod SlopeLaws
+pub mod Bounds
+pub mod WidthLaws

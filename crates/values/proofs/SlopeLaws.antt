@@ -112,7 +112,7 @@ pub record OnSegment (w a A X : ℕ) : Type 0 where
   pub to : X ≤ segmentEnd w a A
 
 module _ (w a A : ℕ) (a-le : a ≤ w) (A-lt : A < 2 ^ a) where
-  segment-room : suc A * 2 ^ (w - a) ≤ 2 ^ w
+  pub segment-room : suc A * 2 ^ (w - a) ≤ 2 ^ w
   segment-room =
       le-trans (mul-le-mul-right (2 ^ (w - a)) A-lt)
       (le-of-eq (sym (pow-add 2 a (w - a)) ∙ ap (λ (n : ℕ). 2 ^ n) (add-sub-of-le a-le)))

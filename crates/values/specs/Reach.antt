@@ -13,3 +13,16 @@ pub record Reach (row : Row) (w P X : ℕ) : Type 0 where
   pub w-small : w ≤ 16
   pub P-small : P ≤ 20
   pub range : InRange w X
+
+-- The segment of a value of the top a bits of an input word
+pub record Segment (w a A : ℕ) : Type 0 where
+  pub w-small : w ≤ 16
+  pub a-small : a ≤ w
+  pub A-small : A < 2 ^ a
+
+-- A row and widths at which slopes over segments of a bits are asked for
+pub record Slopewise (row : Row) (w P a : ℕ) : Type 0 where
+  pub lawful : Lawful row
+  pub w-small : w ≤ 16
+  pub P-small : P ≤ 20
+  pub a-small : a ≤ w

@@ -1,0 +1,47 @@
+-- `values::slopes::hi` meets its contract: a floor value has at most 21 binary digits, so nothing wraps.
+use native.Mathlib.Nat.{lt-of-le-of-lt}
+use native.Mathlib.Omega.{arith}
+use borrow.Author.Needs.{needs}
+use lib.Dec.{lit<}
+use Rattle.values.specs.Slopes as Slopes
+use Rattle.values.proofs.Bounds.{step-small, step-pos, hi-small}
+use Rattle.values.proofs.slopes.hi.Statement.{statement}
+use Rattle.values.proofs.slopes.hi.Tie as tie
+
+floor-count-requires : tie.Need-floor-count-requires
+floor-count-requires c κs = search needs
+
+add-result : tie.Need-add-result
+add-result c = search needs
+
+mul-result : tie.Need-mul-result
+mul-result c = search needs
+
+cast-result : tie.Need-cast-result
+cast-result c = search needs
+
+mul-result-2 : tie.Need-mul-result-2
+mul-result-2 c = omega (arith, step-small _ _ _ _ (c .before .before .pre))
+
+div-result : tie.Need-div-result
+div-result c = step-pos _ _ _ _ (c .before .before .pre)
+
+add-result-2 : tie.Need-add-result-2
+add-result-2 c = record { fits = lt-of-le-of-lt (hi-small _ _ (c .before .floor-count .ensures .1)) (lit< tt) }
+
+returns : tie.Need-returns
+unfolding Slopes.hi
+returns c = rw (c .before .floor-count .ensures .0)
+
+pub hi-spec : {M : Type 1} → statement M
+hi-spec =
+    tie.close
+    (tie.spec
+    floor-count-requires
+    add-result
+    mul-result
+    cast-result
+    mul-result-2
+    div-result
+    add-result-2
+    returns)

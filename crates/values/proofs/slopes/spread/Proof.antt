@@ -1,0 +1,41 @@
+-- `values::slopes::spread` meets its contract: both ends lie on the segment, where Lo is at most Hi.
+use borrow.Author.Needs.{needs}
+use Rattle.values.specs.Slopes as Slopes
+use Rattle.values.proofs.Bounds.{start-reach, end-reach, lo-below-hi}
+use Rattle.values.proofs.slopes.spread.Statement.{statement}
+use Rattle.values.proofs.slopes.spread.Tie as tie
+
+segment-start-requires : tie.Need-segment-start-requires
+segment-start-requires c κs = search needs
+
+hi-requires : tie.Need-hi-requires
+hi-requires c κs = rw (c .segment-start .ensures) (start-reach _ _ _ _ _ (c .before .pre .0) (c .before .pre .1))
+
+segment-end-requires : tie.Need-segment-end-requires
+segment-end-requires c κs = search needs
+
+lo-requires : tie.Need-lo-requires
+lo-requires c κs =
+    rw (c .segment-end .ensures) (end-reach _ _ _ _ _ (c .before .before .before .pre .0) (c .before .before .before .pre .1))
+
+sub-result : tie.Need-sub-result
+sub-result c =
+    let e = c .before .before .before .before .pre in
+    rw (c .lo .ensures, c .before .before .hi .ensures, c .before .segment-end .ensures, c .before .before .before .segment-start .ensures)
+    (lo-below-hi _ _ _ _ _ (e .0) (e .1))
+
+returns : tie.Need-returns
+unfolding Slopes.spread
+returns c =
+    rw (c .lo .ensures, c .before .before .hi .ensures, c .before .segment-end .ensures, c .before .before .before .segment-start .ensures)
+
+pub spread-spec : {M : Type 1} → statement M
+spread-spec =
+    tie.close
+    (tie.spec
+    segment-start-requires
+    hi-requires
+    segment-end-requires
+    lo-requires
+    sub-result
+    returns)

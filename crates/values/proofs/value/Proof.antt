@@ -1,0 +1,108 @@
+-- `values::value` meets its contract: the verdict of the widths, then the test of the word, then the floor value.
+use mathlib.Core.Path.{_≡_, sym, ap, _∙_}
+use Prim.Native.Nat.{ℕ, _+_, _^_, _≤_, _<_}
+use native.Mathlib.Omega.{arith}
+use borrow.Author.Needs.{needs}
+use borrow.Author.Tests.{le-leb, lt-leb}
+use lib.IntN.{pos}
+use lib.Pow.{pow-mono}
+use Rattle.refusal.specs.declared.Cause.{Cause}
+use Rattle.refusal.specs.declared.Verdict.{Verdict}
+use Rattle.refusal.specs.Checks.{verdict}
+use Rattle.refusal.proofs.Checks.{verdict-append}
+use Rattle.values.specs.declared.Valued.{Valued}
+use Rattle.values.specs.Rows.{rowOf}
+use Rattle.values.specs.Floor.{floorValue}
+use Rattle.values.specs.Reach.{Reach}
+use Rattle.values.specs.Widths.{widthChecks}
+use Rattle.values.specs.Value.{valueOf, wordCheck}
+use Rattle.values.proofs.WidthLaws.{Widths, widths-of, row-lawful}
+use Rattle.values.proofs.value.Statement.{statement}
+use Rattle.values.proofs.value.Tie as tie
+
+-- The answer by the verdict of the widths and the test of the word.
+module _ (kind w q g x : ℕ) where
+  refused : (cause : Cause) → verdict (widthChecks kind w q g) ≡ Verdict.Refused cause → Valued.Refused cause ≡ valueOf kind w q g x
+  unfolding valueOf wordCheck
+  refused cause e = rw (verdict-append, e)
+
+  module _ (passed : verdict (widthChecks kind w q g) ≡ Verdict.Passed) where
+    past : 2 ^ w ≤ x → Valued.Refused Cause.WordRange ≡ valueOf kind w q g x
+    unfolding valueOf wordCheck
+    past h = rw (verdict-append, passed, le-leb _ _ h)
+
+    within : x < 2 ^ w → Valued.Value (record { 0 = pos (floorValue (rowOf kind) w (q + g) (2 ^ w + x)) }) ≡ valueOf kind w q g x
+    unfolding valueOf wordCheck
+    within h = rw (verdict-append, passed, lt-leb _ _ h)
+
+    fits : x < 2 ^ w → Reach (rowOf kind) w (q + g) (2 ^ w + x)
+    fits h =
+        let widths = widths-of kind w q g passed in
+        record {
+          lawful = row-lawful kind (widths .kind-high);
+          w-small = widths .w-high;
+          P-small = widths .P-high;
+          range = record { low = omega arith; high = omega arith };
+        }
+
+-- where the widths passed
+passed : (c : tie.After-enum-told) →
+    let a = c .before .before .before .args in verdict (widthChecks (a .kind) (a .w) (a .q) (a .g)) ≡ Verdict.Passed
+passed c = sym (c .before .before .width-verdict .ensures) ∙ c .enum-told .given .1
+
+limits : (c : tie.After-enum-told) → let a = c .before .before .before .args in Widths (a .kind) (a .w) (a .q) (a .g)
+limits c = widths-of _ _ _ _ (passed c)
+
+width-verdict-requires : tie.Need-width-verdict-requires
+width-verdict-requires c κs = search needs
+
+enum-known-cause : tie.Need-enum-known-cause
+enum-known-cause c = search needs
+
+returns : tie.Need-returns
+returns c = refused _ _ _ _ _ _ (sym (c .before .before .before .width-verdict .ensures) ∙ c .before .cause .given .1)
+
+enum-told : tie.Need-enum-told
+enum-told c = search needs
+
+pow2-requires : tie.Need-pow2-requires
+pow2-requires c κs = omega (arith, limits c)
+
+returns-2 : tie.Need-returns-2
+returns-2 c = past _ _ _ _ _ (passed (c .before .before)) (rw (c .before .pow2 .ensures) at (c .if1 .taken))
+
+row-of-requires : tie.Need-row-of-requires
+row-of-requires c κs = omega (arith, limits (c .before .before))
+
+add-floor-value : tie.Need-add-floor-value
+add-floor-value c = omega (arith, limits (c .before .before .before))
+
+add-floor-value-2 : tie.Need-add-floor-value-2
+add-floor-value-2 c = omega (arith, pow-mono (limits (c .before .before .before) .w-high))
+
+floor-value-requires : tie.Need-floor-value-requires
+floor-value-requires c κs =
+    rw (c .row-of .ensures, c .before .before .pow2 .ensures)
+    (fits _ _ _ _ _ (passed (c .before .before .before)) (rw (c .before .before .pow2 .ensures) at (c .before .if1 .left)))
+
+returns-3 : tie.Need-returns-3
+returns-3 c =
+    ap Valued.Value (rw (c .before .row-of .ensures, c .before .before .before .pow2 .ensures) at (c .floor-value .ensures))
+    ∙ within _ _ _ _ _ (passed (c .before .before .before .before))
+    (rw (c .before .before .before .pow2 .ensures) at (c .before .before .if1 .left))
+
+pub value-spec : {M : Type 1} → statement M
+value-spec =
+    tie.close
+    (tie.spec
+    width-verdict-requires
+    enum-known-cause
+    returns
+    enum-told
+    pow2-requires
+    returns-2
+    row-of-requires
+    add-floor-value
+    add-floor-value-2
+    floor-value-requires
+    returns-3)

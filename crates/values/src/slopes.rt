@@ -1,0 +1,73 @@
+// Segments, and the bounds Hi and Lo of the slope on each.
+ghost use mathlib.Core.Path.{_≡_};
+ghost use Prim.Native.Nat.{ℕ, _+_, _*_, _^_, _<_, _≤_};
+ghost use Rattle.values.specs.Floor.{floorValue};
+ghost use Rattle.values.specs.Slopes.{segmentStart, segmentEnd, spread, largestSpread};
+ghost use Rattle.values.specs.Slopes as Slopes;
+ghost use Rattle.values.specs.Reach.{Reach, Segment, Slopewise};
+use crate::floor::floor_value;
+use crate::floor::pow2;
+use crate::rows::Row;
+
+// inner: the first X whose top a bits are the segment's.
+pub fn segment_start(w: u32, a: u32, segment: u64) -> u64
+    requires { ⌜ Segment w a segment ⌝ }
+    ensures { λ r. ⌜ r ≡ segmentStart w a segment ⌝ }
+{
+    pow2(w) + segment * pow2(w - a)
+}
+
+// inner: the last one.
+pub fn segment_end(w: u32, a: u32, segment: u64) -> u64
+    requires { ⌜ Segment w a segment ⌝ }
+    ensures { λ r. ⌜ r ≡ segmentEnd w a segment ⌝ }
+{
+    segment_start(w, a, segment) + pow2(w - a) - 1
+}
+
+// L(X) as a plain number.
+fn floor_count(row: Row, w: u32, p: u32, x: u64) -> u64
+    requires { ⌜ Reach row w p x ⌝ }
+    ensures { λ r. ⌜ (r ≡ floorValue row w p x) × (r < 2 ^ 21) ⌝ }
+{
+    floor_value(row, w, p, x).count()
+}
+
+// inner: Hi, at the segment's start.
+pub fn hi(row: Row, w: u32, p: u32, start: u64) -> u64
+    requires { ⌜ Reach row w p start ⌝ }
+    ensures { λ r. ⌜ r ≡ Slopes.hi row w p start ⌝ }
+{
+    (floor_count(row, w, p, start) + 1) * 65536 / (row.k as u64 * start) + 1
+}
+
+// inner: Lo, at the segment's end.
+pub fn lo(row: Row, w: u32, p: u32, end: u64) -> u64
+    requires { ⌜ Reach row w p end ⌝ }
+    ensures { λ r. ⌜ r ≡ Slopes.lo row w p end ⌝ }
+{
+    floor_count(row, w, p, end) * 65536 / (row.k as u64 * end)
+}
+
+fn spread(row: Row, w: u32, p: u32, a: u32, segment: u64) -> u64
+    requires { ⌜ Slopewise row w p a ⌝ }
+    requires { ⌜ segment < 2 ^ a ⌝ }
+    ensures { λ r. ⌜ r ≡ Slopes.spread row w p a segment ⌝ }
+{
+    hi(row, w, p, segment_start(w, a, segment)) - lo(row, w, p, segment_end(w, a, segment))
+}
+
+// inner: the largest Hi - Lo over the segments of a bits; two floor values a segment.
+pub fn largest_spread(row: Row, w: u32, p: u32, a: u32) -> u64
+    requires { ⌜ Slopewise row w p a ⌝ }
+    ensures { λ r. ⌜ r ≡ largestSpread row w p a ⌝ }
+{
+    let mut largest = 0;
+    for segment in 0..pow2(a) {
+        let here = spread(row, w, p, a, segment);
+        if largest < here {
+            largest = here;
+        }
+    }
+    largest
+}
