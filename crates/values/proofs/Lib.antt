@@ -5,3 +5,4 @@ pub mod FloorLaws
 pub mod SlopeLaws
 pub mod Bounds
 pub mod WidthLaws
+pub mod Document
