@@ -43,7 +43,7 @@ reads w s X n =
       number-3 = refl;
       value-3 = refl;
       number-4 = refl;
-      value-4 = refl
+      value-4 = refl;
     }
 
 -- Document 01's three sentences on L, for its five kinds: "the greatest n with .."
@@ -69,7 +69,7 @@ sentences w P X range =
       kind-1 = reworded (λ n. both-sides (reads w P X n .number-1) (reads w P X n .value-1)) (floor 1 (omega arith));
       kind-2 = reworded (λ n. both-sides (reads w P X n .number-2) (reads w P X n .value-2)) (floor 2 (omega arith));
       kind-3 = reworded (λ n. both-sides (reads w P X n .number-3) (reads w P X n .value-3)) (floor 3 (omega arith));
-      kind-4 = reworded (λ n. both-sides (reads w P X n .number-4) (reads w P X n .value-4)) (floor 4 (omega arith))
+      kind-4 = reworded (λ n. both-sides (reads w P X n .number-4) (reads w P X n .value-4)) (floor 4 (omega arith));
     }
   where
     floor : (kind : ℕ) → kind ≤ 4 → Greatest (AtMost (rowOf kind) w P X) (floorValue (rowOf kind) w P X)

@@ -1,0 +1,85 @@
+-- What legality tells of a design.
+use mathlib.Core.Path.{_≡_, refl, sym, _∙_}
+use mathlib.Core.Bool.{Bool, true, false}
+use Prim.Native.Nat.{ℕ, zero, suc, _+_, _-_, _*_, _^_, _≤_, _<_}
+use native.Mathlib.Omega.{arith}
+use borrow.Author.Tests.{ltb-false, leb-false, eqb-true, not-false}
+use Rattle.refusal.proofs.Checks.{passed-append, none-fails, or-false, inside}
+use Rattle.values.specs.Rows.{Lawful}
+use Rattle.values.specs.Reach.{Slopewise}
+use Rattle.values.specs.Widths.{widthChecks}
+use Rattle.values.proofs.WidthLaws.{Widths, widths-of, row-lawful}
+use Rattle.design.specs.declared.Design.{Design}
+use Rattle.design.specs.Cut.{aOf, bOf, row, tableBits, position}
+use Rattle.design.specs.Legal.{someBelow, segmentBitsFail, offsetBitsFail, cutChecks, designChecks, designVerdict, Legal}
+use Rattle.design.proofs.Sums.{none-below, sum-step}
+
+-- A table that lies within document 01's limits
+pub record Within (d : Design) (i : ℕ) : Type 0 where
+  pub a-low : 1 ≤ aOf d i
+  pub a-high : aOf d i ≤ d .alpha
+  pub b-low : 1 ≤ bOf d i
+  pub b-high : bOf d i ≤ 8
+  pub sum-high : aOf d i + bOf d i ≤ 12
+
+pub record Limits (d : Design) : Type 0 where
+  pub widths : Widths (d .kind) (d .w) (d .q) (d .g)
+  pub alpha-low : 2 ≤ d .alpha
+  pub alpha-high : d .alpha ≤ 13
+  pub alpha-below : d .alpha < d .w
+  pub m-low : 1 ≤ d .m
+  pub m-high : d .m ≤ 4
+  pub table : (i : ℕ) → i < d .m → Within d i
+  pub cut : position d (d .m) ≡ d .w - d .alpha
+
+module _ (d : Design) where
+  within : (i : ℕ) → segmentBitsFail d i ≡ false → offsetBitsFail d i ≡ false → Within d i
+  unfolding segmentBitsFail offsetBitsFail
+  within i segment offset =
+      let a = inside 1 (d .alpha) (aOf d i) segment in
+      let parts = or-false offset in
+      let b = inside 1 8 (bOf d i) (parts .0) in
+      record {
+        a-low = a .0;
+        a-high = a .1;
+        b-low = b .0;
+        b-high = b .1;
+        sum-high = ltb-false 12 (aOf d i + bOf d i) (parts .1);
+      }
+
+  pub limits : Legal d → Limits d
+  unfolding designVerdict designChecks cutChecks
+  limits legal =
+      let lists = passed-append (widthChecks (d .kind) (d .w) (d .q) (d .g)) (cutChecks d) legal in
+      let p = none-fails (cutChecks d) (lists .1) in
+      let alpha = or-false (p .0) in
+      record {
+        widths = widths-of (d .kind) (d .w) (d .q) (d .g) (lists .0);
+        alpha-low = inside 2 13 (d .alpha) (alpha .0) .0;
+        alpha-high = inside 2 13 (d .alpha) (alpha .0) .1;
+        alpha-below = leb-false (d .w) (d .alpha) (alpha .1);
+        m-low = inside 1 4 (d .m) (p .1 .0) .0;
+        m-high = inside 1 4 (d .m) (p .1 .0) .1;
+        table = λ i h. within i (none-below (d .m) (segmentBitsFail d) (p .1 .1 .0) i h)
+            (none-below (d .m) (offsetBitsFail d) (p .1 .1 .1 .0) i h);
+        cut = eqb-true _ _ (not-false _ (p .1 .1 .1 .1 .0));
+      }
+
+-- What the calls of the values ask, at a legal design
+module _ (d : Design) (l : Limits d) where
+  pub lawful : Lawful (row d)
+  lawful = row-lawful (d .kind) (l .widths .kind-high)
+
+  pub slopewise : (i : ℕ) → i < d .m → Slopewise (row d) (d .w) (tableBits d) (aOf d i)
+  slopewise i h =
+      record {
+        lawful = lawful;
+        w-small = l .widths .w-high;
+        P-small = l .widths .P-high;
+        a-small = omega (arith, l .table i h .a-high, l .alpha-below);
+      }
+
+  -- the bits of table i end within the w - alpha low bits of x
+  pub bits-end : (i : ℕ) → i < d .m → position d i + bOf d i ≤ d .w - d .alpha
+  unfolding position
+  bits-end i h = omega (arith, sum-step (bOf d) i (d .m) h, l .cut)

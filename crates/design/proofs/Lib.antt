@@ -1,0 +1,3 @@
+-- Laws of designs, one file a subject.
+pub mod Sums
+pub mod LegalLaws

@@ -1,0 +1,50 @@
+-- Sums and tests over the numbers below a bound.
+use mathlib.Core.Path.{_≡_, refl, ap₂}
+use mathlib.Core.Bool.{Bool, true, false, _||_}
+use mathlib.Core.Logic.{⊎-elim}
+use Prim.Native.Nat.{ℕ, zero, suc, _+_, _*_, _≤_, _<_}
+use native.Mathlib.Nat.{eq-or-lt-of-le, le-of-suc-le-suc, not-suc-le-zero, le-trans, le-step, le-refl, le-add-right}
+use native.Mathlib.Omega.{arith}
+use Rattle.refusal.proofs.Checks.{or-false}
+use Rattle.design.specs.Cut.{sumBelow}
+use Rattle.design.specs.Legal.{someBelow}
+
+-- a number below suc n is n or below n
+pub below-suc {ℓ} : {n i : ℕ} {A : Type ℓ} → i < suc n → (i ≡ n → A) → (i < n → A) → A
+below-suc h at below = ⊎-elim at below (eq-or-lt-of-le (le-of-suc-le-suc h))
+
+pub none-below : (n : ℕ) (test : ℕ → Bool) → someBelow n test ≡ false → (i : ℕ) → i < n → test i ≡ false
+unfolding someBelow
+none-below zero test e i h = absurd (not-suc-le-zero h)
+none-below (suc n) test e i h =
+    let parts = or-false e in
+    below-suc h (λ at. rw at (parts .1)) (λ below. none-below n test (parts .0) i below)
+
+pub some-congruence : (n : ℕ) (f g : ℕ → Bool) → ((i : ℕ) → i < n → f i ≡ g i) → someBelow n f ≡ someBelow n g
+unfolding someBelow
+some-congruence zero f g same = refl
+some-congruence (suc n) f g same =
+    ap₂ _||_ (some-congruence n f g (λ i h. same i (le-step h))) (same n (le-refl _))
+
+pub sum-congruence : (n : ℕ) (f g : ℕ → ℕ) → ((i : ℕ) → i < n → f i ≡ g i) → sumBelow n f ≡ sumBelow n g
+unfolding sumBelow
+sum-congruence zero f g same = refl
+sum-congruence (suc n) f g same =
+    ap₂ _+_ (sum-congruence n f g (λ i h. same i (le-step h))) (same n (le-refl _))
+
+-- a sum grows with its bound, and keeps below a bound for each part
+pub sum-mono : (f : ℕ → ℕ) (i n : ℕ) → i ≤ n → sumBelow i f ≤ sumBelow n f
+unfolding sumBelow
+sum-mono f i zero h = let e : i ≡ 0 = omega arith in rw e (le-refl _)
+sum-mono f i (suc n) h =
+    ⊎-elim (λ (e : i ≡ suc n). rw e (le-refl _)) (λ below. le-trans (sum-mono f i n (le-of-suc-le-suc below)) (le-add-right _ _))
+    (eq-or-lt-of-le h)
+
+pub sum-step : (f : ℕ → ℕ) (i n : ℕ) → i < n → sumBelow i f + f i ≤ sumBelow n f
+unfolding sumBelow
+sum-step f i n h = sum-mono f (suc i) n h
+
+pub sum-bounded : (n B : ℕ) (f : ℕ → ℕ) → ((i : ℕ) → i < n → f i ≤ B) → sumBelow n f ≤ n * B
+unfolding sumBelow
+sum-bounded zero B f h = omega arith
+sum-bounded (suc n) B f h = omega (arith, sum-bounded n B f (λ i g. h i (le-step g)), h n (le-refl _))
