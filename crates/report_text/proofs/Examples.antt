@@ -13,7 +13,7 @@ use Rattle.frames.specs.Hex.{digitValue, allDigits, bytesOf}
 use Rattle.frames.specs.Line.{total, sumFails, lineFails, lineChecks}
 use Rattle.frames.specs.DesignFrame.{frameFails, frameChecks, framePair, frameDesign}
 use Rattle.report_text.specs.Words.{ascii, decimalWithin, decimal, textOf}
-use Rattle.report_text.specs.Report.{designText, refusedText, reportVerdict, reportOf}
+use Rattle.report_text.specs.Report.{lineText, designText, refusedText, reportVerdict, reportOf}
 
 -- The report on a line is the text.
 abbrev Reports : String → String → Type 0
@@ -35,7 +35,7 @@ unfolding
     rows rowOf num den valueSide rootFrom scaled floorValue segmentStart segmentEnd hi lo spread largest largestSpread widthChecks
     tables pairAt sumBelow position initialCount offsetCount tableStart offsetTotal someBelow segmentBitsFail offsetBitsFail
     cutChecks designChecks reach tableBudget budget limit admitted size digitValue allDigits bytesOf total sumFails lineFails
-    lineChecks frameFails frameChecks framePair frameDesign decimalWithin decimal designText refusedText reportVerdict reportOf
+    lineChecks frameFails frameChecks framePair frameDesign decimalWithin decimal lineText designText refusedText reportVerdict reportOf
 examples =
     record {
       admitted-design = refl;

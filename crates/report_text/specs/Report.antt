@@ -1,5 +1,5 @@
 -- Document 01, "Bits, lines and the report": the report's whole output.
-use mathlib.Core.Bool.{cond}
+use mathlib.Core.Bool.{Bool, cond}
 use mathlib.Core.List.{List, _++_}
 use Prim.Native.Nat.{ℕ}
 use lib.ListN.{length}
@@ -16,11 +16,15 @@ use Rattle.frames.specs.DesignFrame.{frameChecks, frameDesign}
 use Rattle.report_text.specs.declared.Text.{Text}
 use Rattle.report_text.specs.Words.{ascii, decimal, textOf}
 
+-- The line on a design, of three numbers and the verdict.
+unfoldable pub lineText : ℕ → ℕ → ℕ → Bool → List ℕ
+lineText budget limit bits admitted =
+    ascii "BUDGET " ++ decimal budget ++ ascii " LIMIT " ++ decimal limit ++ ascii " BITS " ++ decimal bits
+    ++ cond admitted (ascii " ADMITTED\n") (ascii " NOT ADMITTED\n")
+
 -- "budget, 2^(g+17), size, verdict (`ADMITTED` or `NOT ADMITTED`), all decimal"
 unfoldable pub designText : Design → List ℕ
-designText d =
-    ascii "BUDGET " ++ decimal (budget d) ++ ascii " LIMIT " ++ decimal (limit d) ++ ascii " BITS " ++ decimal (size d)
-    ++ cond (admitted d) (ascii " ADMITTED\n") (ascii " NOT ADMITTED\n")
+designText d = lineText (budget d) (limit d) (size d) (admitted d)
 
 -- "`REFUSED`, a space, its number and a newline"
 unfoldable pub refusedText : Cause → List ℕ
