@@ -1,3 +1,4 @@
 -- Laws of designs, one file a subject.
 pub mod Sums
 pub mod LegalLaws
+pub mod CutLaws
