@@ -2,3 +2,4 @@
 pub mod Sums
 pub mod LegalLaws
 pub mod CutLaws
+pub mod BudgetLaws
