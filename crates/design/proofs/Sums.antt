@@ -1,9 +1,11 @@
 -- Sums and tests over the numbers below a bound.
 use mathlib.Core.Path.{_≡_, refl, ap₂}
-use mathlib.Core.Bool.{Bool, true, false, _||_}
+use mathlib.Core.Bool as Bool
+use mathlib.Core.Bool.{Bool, true, false, _||_, or-true}
 use mathlib.Core.Logic.{⊎-elim}
 use Prim.Native.Nat.{ℕ, zero, suc, _+_, _*_, _≤_, _<_}
 use native.Mathlib.Nat.{eq-or-lt-of-le, le-of-suc-le-suc, not-suc-le-zero, le-trans, le-step, le-refl, le-add-right}
+use native.Mathlib.Numerals.{add-one}
 use native.Mathlib.Omega.{arith}
 use Rattle.refusal.proofs.Checks.{or-false}
 use Rattle.design.specs.Cut.{sumBelow}
@@ -48,3 +50,16 @@ pub sum-bounded : (n B : ℕ) (f : ℕ → ℕ) → ((i : ℕ) → i < n → f i
 unfolding sumBelow
 sum-bounded zero B f h = omega arith
 sum-bounded (suc n) B f h = omega (arith, sum-bounded n B f (λ i g. h i (le-step g)), h n (le-refl _))
+
+-- One number more: a test that fails there leaves the answer, one that holds settles it.
+pub some-here : (n : ℕ) (test : ℕ → Bool) → test n ≡ true → someBelow (n + 1) test ≡ true
+unfolding someBelow
+some-here n test e = rw (add-one, e) (or-true (someBelow n test))
+
+pub some-not-here : (n : ℕ) (test : ℕ → Bool) → test n ≡ false → someBelow (n + 1) test ≡ someBelow n test
+unfolding someBelow
+some-not-here n test e = rw (add-one, e) (Bool.or-false (someBelow n test))
+
+pub sum-next : (n : ℕ) (f : ℕ → ℕ) → sumBelow (n + 1) f ≡ sumBelow n f + f n
+unfolding sumBelow
+sum-next n f = rw add-one refl

@@ -1,6 +1,16 @@
 // A design: how the input word is cut up, how many entries that takes, and whether the error stays within its budget.
 
+ghost use mathlib.Core.Path.{_≡_};
+ghost use Rattle.design.specs.Answers.{budgetAnswer, sizeAnswer};
+
+pub mod legal;
+pub mod measure;
+
+use legal::design_verdict;
+use measure::budget_of;
+use measure::size_of;
 use refusal::Cause;
+use refusal::Verdict;
 
 // One offset table: the top a bits of x choose the segment, b bits further down the place in it.
 pub struct Pair {
@@ -23,4 +33,22 @@ pub struct Design {
 pub enum Measured {
     Is(u64),
     Refused(Cause),
+}
+
+pub fn budget(d: Design) -> Measured
+    ensures { λ r. ⌜ r ≡ budgetAnswer d ⌝ }
+{
+    if let Verdict::Refused(cause) = design_verdict(d) {
+        return Measured::Refused(cause);
+    }
+    Measured::Is(budget_of(d))
+}
+
+pub fn size(d: Design) -> Measured
+    ensures { λ r. ⌜ r ≡ sizeAnswer d ⌝ }
+{
+    if let Verdict::Refused(cause) = design_verdict(d) {
+        return Measured::Refused(cause);
+    }
+    Measured::Is(size_of(d))
 }

@@ -57,3 +57,7 @@ passed-append first second e = both-passed (verdict first) (verdict second) (sym
 -- A number that is not outside lies between the two ends.
 pub inside : (low high n : ℕ) → outside low high n ≡ false → (low ≤ n) × (n ≤ high)
 inside low high n e = let b = or-false e in (ltb-false n low (b .0), ltb-false high n (b .1))
+
+-- What a branch on a call's answer tells of the test that the call promises.
+pub tested : {test result answer : Bool} → result ≡ test → result ≡ answer → test ≡ answer
+tested promise branch = sym promise ∙ branch

@@ -1,52 +1,48 @@
 -- `values::widths::width_verdict` meets its contract: each answer rewrites with the tests that led there.
-use mathlib.Core.Path.{_≡_, sym, _∙_}
-use mathlib.Core.Bool.{Bool, true, false}
+use mathlib.Core.Path.{_≡_}
+use mathlib.Core.Bool.{false}
 use native.Mathlib.Omega.{arith}
 use borrow.Author.Needs.{needs}
 use borrow.Author.Tests.{lt-ltb, le-ltb}
-use Rattle.refusal.proofs.Checks.{inside}
+use Rattle.refusal.proofs.Checks.{inside, tested}
 use Rattle.refusal.specs.Checks.{outside}
 use Rattle.values.specs.Widths.{widthChecks}
 use Rattle.values.proofs.widths.width_verdict.Statement.{statement}
 use Rattle.values.proofs.widths.width_verdict.Tie as tie
 
--- what the test of a call says of the definition: the call's promise and the branch taken
-by : {test result answer : Bool} → result ≡ test → result ≡ answer → test ≡ answer
-by promise branch = sym promise ∙ branch
-
 -- each test passed so far
 kind-passed : (c : tie.Else1) → outside 0 4 (c .before .before .args .kind) ≡ false
-kind-passed c = by (c .before .outside .ensures) (c .if1 .left)
+kind-passed c = tested (c .before .outside .ensures) (c .if1 .left)
 
 w-passed : (c : tie.Else2) → outside 6 16 (c .before .before .before .before .args .w) ≡ false
-w-passed c = by (c .before .outside2 .ensures) (c .if2 .left)
+w-passed c = tested (c .before .outside2 .ensures) (c .if2 .left)
 
 q-passed : (c : tie.Else3) → outside 6 16 (c .before .before .before .before .before .before .args .q) ≡ false
-q-passed c = by (c .before .outside3 .ensures) (c .if3 .left)
+q-passed c = tested (c .before .outside3 .ensures) (c .if3 .left)
 
 g-passed : (c : tie.Else4) → outside 2 6 (c .before .before .before .before .before .before .before .before .args .g) ≡ false
-g-passed c = by (c .before .outside4 .ensures) (c .if4 .left)
+g-passed c = tested (c .before .outside4 .ensures) (c .if4 .left)
 
 outside-requires : tie.Need-outside-requires
 outside-requires c κs = search needs
 
 returns : tie.Need-returns
 unfolding widthChecks
-returns c = rw (by (c .before .outside .ensures) (c .if1 .taken))
+returns c = rw (tested (c .before .outside .ensures) (c .if1 .taken))
 
 outside-requires-2 : tie.Need-outside-requires-2
 outside-requires-2 c κs = search needs
 
 returns-2 : tie.Need-returns-2
 unfolding widthChecks
-returns-2 c = rw (kind-passed (c .before .before), by (c .before .outside2 .ensures) (c .if2 .taken))
+returns-2 c = rw (kind-passed (c .before .before), tested (c .before .outside2 .ensures) (c .if2 .taken))
 
 outside-requires-3 : tie.Need-outside-requires-3
 outside-requires-3 c κs = search needs
 
 returns-3 : tie.Need-returns-3
 unfolding widthChecks
-returns-3 c = let b = c .before .before in rw (kind-passed (b .before .before), w-passed b, by (c .before .outside3 .ensures) (c .if3 .taken))
+returns-3 c = let b = c .before .before in rw (kind-passed (b .before .before), w-passed b, tested (c .before .outside3 .ensures) (c .if3 .taken))
 
 outside-requires-4 : tie.Need-outside-requires-4
 outside-requires-4 c κs = search needs
@@ -55,7 +51,7 @@ returns-4 : tie.Need-returns-4
 unfolding widthChecks
 returns-4 c =
     let b = c .before .before in
-    rw (kind-passed (b .before .before .before .before), w-passed (b .before .before), q-passed b, by (c .before .outside4 .ensures) (c .if4 .taken))
+    rw (kind-passed (b .before .before .before .before), w-passed (b .before .before), q-passed b, tested (c .before .outside4 .ensures) (c .if4 .taken))
 
 add-if5 : tie.Need-add-if5
 add-if5 c =

@@ -1,0 +1,127 @@
+-- `design::legal::cut_verdict` meets its contract: each answer rewrites with the tests that led there.
+use mathlib.Core.Path.{_≡_}
+use mathlib.Core.Bool.{false}
+use native.Mathlib.Omega.{arith}
+use borrow.Author.Needs.{needs}
+use borrow.Author.Tests.{le-leb, lt-leb, eq-eqb, ne-eqb}
+use lib.Dec.{leb}
+use Rattle.refusal.specs.Checks.{outside}
+use Rattle.refusal.proofs.Checks.{inside, tested}
+use Rattle.design.specs.Legal.{someBelow, segmentBitsFail, offsetBitsFail, cutChecks}
+use Rattle.design.proofs.legal.cut_verdict.Statement.{statement}
+use Rattle.design.proofs.legal.cut_verdict.Tie as tie
+
+-- each test passed so far
+alpha-passed : (c : tie.Else1) → outside 2 13 (c .before .before .args .d .alpha) ≡ false
+alpha-passed c = tested (c .before .outside .ensures) (c .if1 .left)
+
+w-passed : (c : tie.Else2) → let d = c .before .before .before .before .args .d in leb (d .w) (d .alpha) ≡ false
+w-passed c = lt-leb _ _ (c .if2 .left)
+
+m-passed : (c : tie.Else3) → outside 1 4 (c .before .before .before .before .before .before .args .d .m) ≡ false
+m-passed c = tested (c .before .outside2 .ensures) (c .if3 .left)
+
+segments-passed : (c : tie.Else4)
+    → let d = c .before .before .before .before .before .before .before .before .args .d in someBelow (d .m) (segmentBitsFail d) ≡ false
+segments-passed c = tested (c .before .segment-bits-fail .ensures) (c .if4 .left)
+
+offsets-passed : (c : tie.Else5)
+    → let d = c .before .before .before .before .before .before .before .before .before .before .args .d in
+    someBelow (d .m) (offsetBitsFail d) ≡ false
+offsets-passed c = tested (c .before .offset-bits-fail .ensures) (c .if5 .left)
+
+outside-requires : tie.Need-outside-requires
+outside-requires c κs = search needs
+
+returns : tie.Need-returns
+unfolding cutChecks
+returns c = rw (tested (c .before .outside .ensures) (c .if1 .taken))
+
+returns-2 : tie.Need-returns-2
+unfolding cutChecks
+returns-2 c = rw (alpha-passed (c .before .before), le-leb _ _ (c .if2 .taken))
+
+outside-requires-2 : tie.Need-outside-requires-2
+outside-requires-2 c κs = search needs
+
+returns-3 : tie.Need-returns-3
+unfolding cutChecks
+returns-3 c = rw (alpha-passed (c .before .before .before .before), w-passed (c .before .before), tested (c .before .outside2 .ensures) (c .if3 .taken))
+
+segment-bits-fail-requires : tie.Need-segment-bits-fail-requires
+segment-bits-fail-requires c κs = inside 1 4 _ (m-passed c) .1
+
+returns-4 : tie.Need-returns-4
+unfolding cutChecks
+returns-4 c =
+    let b = c .before .before in
+    rw (alpha-passed (b .before .before .before .before), w-passed (b .before .before), m-passed b, tested (c .before .segment-bits-fail .ensures) (c .if4 .taken))
+
+offset-bits-fail-requires : tie.Need-offset-bits-fail-requires
+offset-bits-fail-requires c κs = inside 1 4 _ (m-passed (c .before .before)) .1
+
+returns-5 : tie.Need-returns-5
+unfolding cutChecks
+returns-5 c =
+    let b = c .before .before in
+    rw (
+      alpha-passed (b .before .before .before .before .before .before),
+      w-passed (b .before .before .before .before),
+      m-passed (b .before .before),
+      segments-passed b,
+      tested (c .before .offset-bits-fail .ensures) (c .if5 .taken),
+    )
+
+offset-bits-requires : tie.Need-offset-bits-requires
+offset-bits-requires c κs = inside 1 4 _ (m-passed (c .before .before .before .before)) .1
+
+sub-if6 : tie.Need-sub-if6
+sub-if6 c = search needs
+
+cast-if6 : tie.Need-cast-if6
+cast-if6 c = search needs
+
+returns-6 : tie.Need-returns-6
+unfolding cutChecks
+returns-6 c =
+    let b = c .before .before .before in
+    rw (
+      alpha-passed (b .before .before .before .before .before .before .before .before),
+      w-passed (b .before .before .before .before .before .before),
+      m-passed (b .before .before .before .before),
+      segments-passed (b .before .before),
+      offsets-passed b,
+      ne-eqb _ _ (rw (c .before .before .offset-bits .ensures) at (c .if6 .taken)),
+    )
+
+returns-7 : tie.Need-returns-7
+unfolding cutChecks
+returns-7 c =
+    let b = c .before .before .before in
+    rw (
+      alpha-passed (b .before .before .before .before .before .before .before .before),
+      w-passed (b .before .before .before .before .before .before),
+      m-passed (b .before .before .before .before),
+      segments-passed (b .before .before),
+      offsets-passed b,
+      eq-eqb _ _ (rw (c .before .before .offset-bits .ensures) at (c .if6 .left)),
+    )
+
+pub cut-verdict-spec : {M : Type 1} → statement M
+cut-verdict-spec =
+    tie.close
+    (tie.spec
+    outside-requires
+    returns
+    returns-2
+    outside-requires-2
+    returns-3
+    segment-bits-fail-requires
+    returns-4
+    offset-bits-fail-requires
+    returns-5
+    offset-bits-requires
+    sub-if6
+    cast-if6
+    returns-6
+    returns-7)

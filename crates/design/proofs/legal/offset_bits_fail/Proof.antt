@@ -1,0 +1,66 @@
+-- `design::legal::offset_bits_fail` meets its contract: after n turns `fails` says whether a table below n fails.
+use mathlib.Core.Path.{_≡_, refl, sym, _∙_}
+use mathlib.Core.Bool.{Bool}
+use mathlib.Core.Logic.{⊎-elim}
+use Prim.Native.Nat.{_-_, _≤_}
+use native.Mathlib.Omega.{arith}
+use Rattle.design.specs.Legal.{someBelow, offsetBitsFail}
+use Rattle.design.proofs.Sums.{some-here, some-not-here}
+use Rattle.design.proofs.legal.offset_bits_fail.Statement.{statement}
+use Rattle.design.proofs.legal.offset_bits_fail.Tie as tie
+
+abbrev Inv-loop : tie.InvT-loop
+Inv-loop d m fails₀ i₀ fails i =
+    (fails ≡ someBelow i (offsetBitsFail d)) × (i ≤ m)
+
+abbrev μ-loop : tie.MeasureT-loop
+μ-loop d m fails₀ i₀ fails i = m - i
+
+loop-holds : tie.Need-loop-holds Inv-loop μ-loop
+unfolding someBelow
+loop-holds c = (refl, omega arith)
+
+pair-at-requires : tie.Need-pair-at-requires Inv-loop μ-loop
+pair-at-requires c κs = (omega arith, omega arith)
+
+pair-fails-requires : tie.Need-pair-fails-requires Inv-loop μ-loop
+pair-fails-requires c κs = tt
+
+add-i : tie.Need-add-i Inv-loop μ-loop
+add-i c = omega arith
+
+loop-less : tie.Need-loop-less Inv-loop μ-loop
+loop-less c = omega arith
+
+-- what the test of this turn says of the table
+tested : (c : tie.Joined1 Inv-loop μ-loop) {answer : Bool} → c .before .pair-fails .result ≡ answer
+    → offsetBitsFail (c .before .before .before .before .before .args .d) (c .before .before .before .before .loop .i) ≡ answer
+unfolding offsetBitsFail
+tested c e = sym (rw (c .before .before .pair-at .ensures) at (c .before .pair-fails .ensures)) ∙ e
+
+loop-again : tie.Need-loop-again Inv-loop μ-loop
+loop-again c = (
+  ⊎-elim (λ w. w .1 ∙ sym (some-here _ _ (tested c (w .0 .taken))))
+      (λ w. w .1 ∙ c .before .before .before .before .loop .inv .0 ∙ sym (some-not-here _ _ (tested c (w .0 .left))))
+      (c .if1 .came),
+  omega arith,
+)
+
+returns : tie.Need-returns Inv-loop μ-loop
+returns c =
+    let e : c .before .loop .i ≡ c .before .before .args .d .m = omega arith in
+    rw e at (c .before .loop .inv .0)
+
+pub offset-bits-fail-spec : {M : Type 1} → statement M
+offset-bits-fail-spec =
+    tie.close
+    (tie.spec
+    Inv-loop
+    μ-loop
+    loop-holds
+    pair-at-requires
+    pair-fails-requires
+    add-i
+    loop-less
+    loop-again
+    returns)

@@ -1,0 +1,98 @@
+-- `design::measure::table_budget` meets its contract. The product of the two powers is D_i, below 2^14, and the slopes spread by at
+-- most 2^38.
+use mathlib.Core.Path.{_≡_, ap₂}
+use Prim.Native.Nat.{ℕ, _-_, _*_, _^_, _≤_, _<_}
+use native.Mathlib.Nat.{lt-trans, lt-of-le-of-lt}
+use native.Mathlib.Omega.{arith}
+use lib.Dec.{lit<}
+use lib.Pow.{pow-pos}
+use Rattle.values.specs.Slopes.{largestSpread}
+use Rattle.values.specs.Reach.{Slopewise}
+use Rattle.values.specs.declared.rows.Row.{Row}
+use Rattle.design.specs.declared.Pair.{Pair}
+use Rattle.design.specs.declared.Design.{Design}
+use Rattle.design.specs.Cut.{bOf, row, tableBits, pairAt, position}
+use Rattle.design.specs.Legal.{Legal}
+use Rattle.design.specs.Budget.{reach, tableBudget}
+use Rattle.design.proofs.LegalLaws.{Limits, limits, slopewise, bits-end}
+use Rattle.design.proofs.BudgetLaws.{reach-small, table-budget-small}
+use Rattle.design.proofs.measure.table_budget.Statement.{statement}
+use Rattle.design.proofs.measure.table_budget.Tie as tie
+
+-- the factors that the calls give, as the definition has them
+module _ (d : Design) (i at high low : ℕ) (pair : Pair) (place : at ≡ position d i) (pair-is : pair ≡ pairAt d i)
+    (high-is : high ≡ 2 ^ pair .b) (low-is : low ≡ 2 ^ at) where
+  reach-is : (high - 1) * low ≡ reach d i
+  unfolding reach
+  reach-is = rw (high-is, low-is, place, pair-is)
+
+  budget-is : (spread : ℕ) (r : Row) → r ≡ row d → spread ≡ largestSpread r (d .w) (tableBits d) (pair .a)
+      → (high - 1) * low * spread ≡ tableBudget d i
+  unfolding tableBudget
+  budget-is spread r row-is spread-is = rw (reach-is, spread-is, row-is, pair-is)
+
+pair-at-requires : tie.Need-pair-at-requires
+pair-at-requires c κs = (c .pre .1 .0, limits _ (c .pre .0) .m-high)
+
+row-of-requires : tie.Need-row-of-requires
+row-of-requires c κs = omega (arith, limits _ (c .before .pre .0) .widths)
+
+pow2-requires : tie.Need-pow2-requires
+pow2-requires c κs =
+    let e = c .before .before .pre in
+    rw (c .before .pair-at .ensures) (omega (arith, limits _ (e .0) .table _ (e .1 .0)))
+
+sub-result : tie.Need-sub-result
+sub-result c = rw (c .pow2 .ensures) (pow-pos _)
+
+pow2-requires-2 : tie.Need-pow2-requires-2
+pow2-requires-2 c κs =
+    let e = c .before .before .before .pre in
+    rw (e .1 .1) (omega (arith, bits-end _ (limits _ (e .0)) _ (e .1 .0), limits _ (e .0) .widths))
+
+mul-result : tie.Need-mul-result
+mul-result c =
+    let e = c .before .before .before .before .pre in
+    rw (reach-is _ _ _ _ _ _ (e .1 .1) (c .before .before .before .pair-at .ensures) (c .before .pow2 .ensures) (c .pow22 .ensures))
+    (record { fits = lt-trans (reach-small _ (limits _ (e .0)) _ (e .1 .0)) (lit< tt) })
+
+add-largest-spread : tie.Need-add-largest-spread
+add-largest-spread c = omega (arith, limits _ (c .before .before .before .before .before .pre .0) .widths)
+
+largest-spread-requires : tie.Need-largest-spread-requires
+largest-spread-requires c κs =
+    let e = c .before .before .before .before .before .pre in
+    rw (c .before .before .before .row-of .ensures, c .before .before .before .before .pair-at .ensures)
+    (slopewise _ (limits _ (e .0)) _ (e .1 .0))
+
+-- the product of this call
+product : (c : tie.After-largest-spread) →
+    (c .before .before .before .pow2 .result - 1) * c .before .before .pow22 .result * c .largest-spread .result
+    ≡ tableBudget (c .before .before .before .before .before .before .args .d) (c .before .before .before .before .before .before .args .i)
+product c =
+    let b = c .before .before .before in
+    budget-is _ _ _ _ _ _ (b .before .before .before .pre .1 .1) (b .before .before .pair-at .ensures) (b .pow2 .ensures)
+    (c .before .before .pow22 .ensures) _ _ (b .before .row-of .ensures) (c .largest-spread .ensures)
+
+mul-result-2 : tie.Need-mul-result-2
+mul-result-2 c =
+    let e = c .before .before .before .before .before .before .pre in
+    rw (product c) (record { fits = lt-of-le-of-lt (table-budget-small _ (limits _ (e .0)) _ (e .1 .0)) (lit< tt) })
+
+returns : tie.Need-returns
+returns c = product c
+
+pub table-budget-spec : {M : Type 1} → statement M
+table-budget-spec =
+    tie.close
+    (tie.spec
+    pair-at-requires
+    row-of-requires
+    pow2-requires
+    sub-result
+    pow2-requires-2
+    mul-result
+    add-largest-spread
+    largest-spread-requires
+    mul-result-2
+    returns)

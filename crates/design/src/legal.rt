@@ -1,0 +1,107 @@
+// Refusals 1 to 9 of a design, in document 01's order.
+ghost use mathlib.Core.Path.{_≡_};
+ghost use mathlib.Core.Bool.{_||_};
+ghost use Prim.Native.Nat.{_+_, _≤_, _<_};
+ghost use lib.Dec.{ltb};
+ghost use Rattle.refusal.specs.Checks.{verdict};
+ghost use Rattle.refusal.specs.Checks.{outside as Checks·outside};
+ghost use Rattle.design.specs.Cut.{pairAt, position};
+ghost use Rattle.design.specs.Legal.{someBelow, segmentBitsFail, offsetBitsFail, cutChecks, designVerdict};
+use crate::Design;
+use crate::Pair;
+use refusal::Cause;
+use refusal::Verdict;
+use refusal::outside;
+use values::widths::width_verdict;
+
+// inner: the pair of a table that is read.
+pub fn pair_at(d: Design, i: u32) -> Pair
+    requires { ⌜ (i < d .m) × (d .m ≤ 4) ⌝ }
+    ensures { λ r. ⌜ r ≡ pairAt d i ⌝ }
+{
+    let place = i as usize;
+    d.pairs[place]
+}
+
+// Whether some a_i is not 1..alpha.
+fn segment_bits_fail(d: Design) -> bool
+    requires { ⌜ d .m ≤ 4 ⌝ }
+    ensures { λ r. ⌜ r ≡ someBelow (d .m) (segmentBitsFail d) ⌝ }
+{
+    let m = d.m;
+    let mut fails = false;
+    for i in 0..m {
+        if outside(1, d.alpha, pair_at(d, i).a) {
+            fails = true;
+        }
+    }
+    fails
+}
+
+// Whether b is not 1..8, or a + b over 12.
+fn pair_fails(pair: Pair) -> bool
+    ensures { λ r. ⌜ r ≡ (Checks·outside 1 8 (pair .b) || ltb 12 (pair .a + pair .b)) ⌝ }
+{
+    outside(1, 8, pair.b) || 12 < pair.a as u64 + pair.b as u64
+}
+
+fn offset_bits_fail(d: Design) -> bool
+    requires { ⌜ d .m ≤ 4 ⌝ }
+    ensures { λ r. ⌜ r ≡ someBelow (d .m) (offsetBitsFail d) ⌝ }
+{
+    let m = d.m;
+    let mut fails = false;
+    for i in 0..m {
+        if pair_fails(pair_at(d, i)) {
+            fails = true;
+        }
+    }
+    fails
+}
+
+// The b_i in all.
+fn offset_bits(d: Design) -> u64
+    requires { ⌜ d .m ≤ 4 ⌝ }
+    ensures { λ r. ⌜ r ≡ position d (d .m) ⌝ }
+{
+    let m = d.m;
+    let mut bits = 0;
+    for i in 0..m {
+        bits += pair_at(d, i).b as u64;
+    }
+    bits
+}
+
+fn cut_verdict(d: Design) -> Verdict
+    ensures { λ r. ⌜ r ≡ verdict (cutChecks d) ⌝ }
+{
+    if outside(2, 13, d.alpha) {
+        return Verdict::Refused(Cause::InitialBits);
+    }
+    if d.w <= d.alpha {
+        return Verdict::Refused(Cause::InitialBits);
+    }
+    if outside(1, 4, d.m) {
+        return Verdict::Refused(Cause::TableCount);
+    }
+    if segment_bits_fail(d) {
+        return Verdict::Refused(Cause::SegmentBits);
+    }
+    if offset_bits_fail(d) {
+        return Verdict::Refused(Cause::OffsetBits);
+    }
+    if offset_bits(d) != (d.w - d.alpha) as u64 {
+        return Verdict::Refused(Cause::CutSum);
+    }
+    Verdict::Passed
+}
+
+// Whether the design is legal, or the first refusal.
+pub fn design_verdict(d: Design) -> Verdict
+    ensures { λ r. ⌜ r ≡ designVerdict d ⌝ }
+{
+    if let Verdict::Refused(cause) = width_verdict(d.kind, d.w, d.q, d.g) {
+        return Verdict::Refused(cause);
+    }
+    cut_verdict(d)
+}

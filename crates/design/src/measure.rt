@@ -1,0 +1,59 @@
+// Budget, limit and size of a legal design.
+ghost use mathlib.Core.Path.{_≡_};
+ghost use Prim.Native.Nat.{_<_};
+ghost use Rattle.design.specs.Cut as Cut;
+ghost use Rattle.design.specs.Legal.{Legal};
+ghost use Rattle.design.specs.Budget.{tableBudget, budget, limit, size};
+use crate::Design;
+use crate::legal::pair_at;
+use values::floor::pow2;
+use values::rows::row_of;
+use values::slopes::largest_spread;
+
+// D_i times the largest Hi - Lo, for table i of a legal design, whose b_i bits begin at p_i.
+fn table_budget(d: Design, i: u32, position: u32) -> u64
+    requires { ⌜ Legal d ⌝ }
+    requires { ⌜ (i < d .m) × (position ≡ Cut.position d i) ⌝ }
+    ensures { λ r. ⌜ r ≡ tableBudget d i ⌝ }
+{
+    let pair = pair_at(d, i);
+    let row = row_of(d.kind);
+    (pow2(pair.b) - 1) * pow2(position) * largest_spread(row, d.w, d.q + d.g, pair.a)
+}
+
+// inner: the budget of a legal design.
+pub fn budget_of(d: Design) -> u64
+    requires { ⌜ Legal d ⌝ }
+    ensures { λ r. ⌜ r ≡ budget d ⌝ }
+{
+    let m = d.m;
+    let mut sum = 0;
+    let mut position = 0;
+    for i in 0..m {
+        sum += table_budget(d, i, position);
+        position += pair_at(d, i).b;
+    }
+    sum + (m as u64 + 2) * (1 << 17)
+}
+
+// inner: 2^(g+17).
+pub fn limit_of(d: Design) -> u64
+    requires { ⌜ Legal d ⌝ }
+    ensures { λ r. ⌜ r ≡ limit d ⌝ }
+{
+    pow2(d.g + 17)
+}
+
+// inner: the size in bits of a legal design.
+pub fn size_of(d: Design) -> u64
+    requires { ⌜ Legal d ⌝ }
+    ensures { λ r. ⌜ r ≡ size d ⌝ }
+{
+    let m = d.m;
+    let mut entries = pow2(d.alpha);
+    for i in 0..m {
+        let pair = pair_at(d, i);
+        entries += pow2(pair.a + pair.b);
+    }
+    24 * entries
+}
