@@ -18,9 +18,12 @@ total (n ∷ ns) = n + total ns
 unfoldable pub sumFails : List ℕ → Bool
 sumFails bytes = not (eqb (total bytes % 256) 0)
 
+-- "empty, odd length, over 32 digits"
+unfoldable pub lengthFails : ℕ → Bool
+lengthFails digits = eqb digits 0 || eqb (digits % 2) 1 || ltb 32 digits
+
 unfoldable pub lineFails : List ℕ → Bool
-lineFails line =
-    eqb (length line) 0 || eqb (length line % 2) 1 || ltb 32 (length line) || not (allDigits line) || sumFails (bytesOf line)
+lineFails line = lengthFails (length line) || not (allDigits line) || sumFails (bytesOf line)
 
 unfoldable pub lineChecks : List ℕ → List Check
 lineChecks line = lineFails line ↝ Cause.Line ∷ []

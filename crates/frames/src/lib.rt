@@ -1,6 +1,14 @@
 // Lines of hexadecimal as frames of bytes, and the frame that holds a design.
 ghost use mathlib.Core.Path.{_≡_};
-ghost use Prim.Native.Nat.{ℕ, _+_, _*_, _<_, _≤_};
+ghost use mathlib.Core.List.{[]};
+ghost use Prim.Native.Nat.{_<_};
+ghost use Rattle.refusal.specs.Checks.{verdict};
+ghost use Rattle.frames.specs.Hex.{digitValue};
+ghost use Rattle.frames.specs.Line.{lengthFails, decoded};
+ghost use Rattle.frames.specs.DesignFrame.{frameChecks, framePair, frameDesign};
+use design::Design;
+use design::Pair;
+use refusal::Cause;
 use refusal::Verdict;
 
 // What a line holds: its bytes with zeros behind them, and how many there are.
@@ -8,4 +16,109 @@ pub struct Decoded {
     pub verdict: Verdict,
     pub bytes: [u8; 16],
     pub count: usize,
+}
+
+// The number that a hexadecimal digit stands for; 16 for any other character.
+fn digit(c: u8) -> u8
+    ensures { λ r. ⌜ r ≡ digitValue c ⌝ }
+{
+    if refusal::outside(48, 57, c as u32) {
+        if refusal::outside(65, 70, c as u32) {
+            return 16;
+        }
+        return c - 55;
+    }
+    c - 48
+}
+
+// Whether a line of n digits is refused for its length alone: empty, odd or longer than the longest frame.
+fn length_fails(n: usize) -> bool
+    ensures { λ r. ⌜ r ≡ lengthFails n ⌝ }
+{
+    n == 0 || n % 2 == 1 || 32 < n
+}
+
+// The answer to every line that is refused, the empty one among them.
+fn unsound() -> Decoded
+    ensures { λ r. ⌜ r ≡ decoded [] ⌝ }
+{
+    Decoded {
+        verdict: Verdict::Refused(Cause::Line),
+        bytes: [0; 16],
+        count: 0,
+    }
+}
+
+pub fn decode(line: &[u8]) -> Decoded
+    ensures { λ r. ⌜ r ≡ decoded (now (line .entry)) ⌝ }
+{
+    if length_fails(line.len()) {
+        return unsound();
+    }
+    let count = line.len() / 2;
+    let mut bytes = [0u8; 16];
+    let mut sum: u32 = 0;
+    let mut i = 0;
+    while i < count {
+        let high = digit(line[2 * i]);
+        let low = digit(line[2 * i + 1]);
+        if 16 <= high || 16 <= low {
+            return unsound();
+        }
+        let byte = 16 * high + low;
+        bytes[i] = byte;
+        sum += byte as u32;
+        i += 1;
+    }
+    if sum % 256 != 0 {
+        return unsound();
+    }
+    Decoded {
+        verdict: Verdict::Passed,
+        bytes,
+        count,
+    }
+}
+
+pub fn frame_verdict(bytes: [u8; 16], count: usize) -> Verdict
+    ensures { λ r. ⌜ r ≡ verdict (frameChecks bytes count) ⌝ }
+{
+    let m = bytes[6] as usize;
+    if bytes[0] != 1 || count != 8 + 2 * m {
+        return Verdict::Refused(Cause::Frame);
+    }
+    Verdict::Passed
+}
+
+// Pair i of a frame; zeros where the frame has no such pair.
+fn frame_pair(bytes: [u8; 16], i: usize) -> Pair
+    requires { ⌜ i < 4 ⌝ }
+    ensures { λ r. ⌜ r ≡ framePair bytes i ⌝ }
+{
+    let m = bytes[6] as usize;
+    if m <= i {
+        return Pair { a: 0, b: 0 };
+    }
+    Pair {
+        a: bytes[7 + 2 * i] as u32,
+        b: bytes[8 + 2 * i] as u32,
+    }
+}
+
+pub fn frame_design(bytes: [u8; 16]) -> Design
+    ensures { λ r. ⌜ r ≡ frameDesign bytes ⌝ }
+{
+    let p0 = frame_pair(bytes, 0);
+    let p1 = frame_pair(bytes, 1);
+    let p2 = frame_pair(bytes, 2);
+    let p3 = frame_pair(bytes, 3);
+    Design {
+        kind: bytes[1] as u32,
+        w: bytes[2] as u32,
+        q: bytes[3] as u32,
+        g: bytes[4] as u32,
+        alpha: bytes[5] as u32,
+        m: bytes[6] as u32,
+        pairs: [p0, p1, p2, p3],
+    }
 }

@@ -1,0 +1,141 @@
+-- `frames::decode` meets its contract. The loop's invariant is `Reading`, and each way out cites a law of lines: the length, a digit
+-- or the sum refuses the line, or all of it was read.
+use mathlib.Core.Path.{_≡_, sym, ap, _∙_}
+use mathlib.Core.Bool.{true, false}
+use mathlib.Core.Logic.{⊎-elim, inl, inr}
+use Prim.Native.Nat.{_-_, _*_}
+use native.Mathlib.Omega.{arith}
+use lib.ListN.{length}
+use borrow.Author.Needs.{needs}
+use borrow.Author.Tests.{leb-true, leb-false}
+use Rattle.frames.specs.Line.{lengthFails, sumFails}
+use Rattle.frames.proofs.HexLaws.{Digits}
+use Rattle.frames.proofs.LineLaws.{sound-length, length-refused, digits-refused, sum-refused}
+use Rattle.frames.proofs.Reading.{Reading, start, step, broken, sum-wrong, finished}
+use Rattle.frames.proofs.decode.Statement.{statement}
+use Rattle.frames.proofs.decode.Tie as tie
+use Rattle.frames.proofs.decode.Reads as reads
+use Rattle.frames.proofs.decode.Lts as lts
+use Rattle.frames.proofs.digit.Reads as digit-reads
+use Rattle.frames.proofs.length_fails.Reads as length-fails-reads
+use Rattle.frames.proofs.unsound.Reads as unsound-reads
+
+abbrev Inv-loop : tie.InvT-loop
+Inv-loop line count bytes₀ sum₀ i₀ bytes sum i = Reading line bytes sum i
+
+abbrev μ-loop : tie.MeasureT-loop
+μ-loop line count bytes₀ sum₀ i₀ bytes sum i = count - i
+
+length-fails-requires : tie.Need-length-fails-requires Inv-loop μ-loop
+length-fails-requires c κs = search needs
+
+unsound-requires : tie.Need-unsound-requires Inv-loop μ-loop
+unsound-requires c κs = search needs
+
+returns : tie.Need-returns Inv-loop μ-loop
+returns c = c .unsound .ensures ∙ length-refused _ (sym (c .before .before .length-fails .ensures) ∙ c .before .if1 .taken)
+
+length-passed : (c : tie.Else1 Inv-loop μ-loop) → lengthFails (length (c .before .before .before .args .line .now)) ≡ false
+length-passed c = sym (c .before .length-fails .ensures) ∙ c .if1 .left
+
+loop-holds : tie.Need-loop-holds Inv-loop μ-loop
+loop-holds c = start _ (sound-length _ (length-passed c))
+
+mul-digit : tie.Need-mul-digit Inv-loop μ-loop
+mul-digit c = omega arith
+
+shared-slice-read-digit : tie.Need-shared-slice-read-digit Inv-loop μ-loop
+shared-slice-read-digit c = omega arith
+
+digit-requires : tie.Need-digit-requires Inv-loop μ-loop
+digit-requires c κs = search needs
+
+mul-digit-2 : tie.Need-mul-digit-2 Inv-loop μ-loop
+mul-digit-2 c = omega arith
+
+add-digit : tie.Need-add-digit Inv-loop μ-loop
+add-digit c = omega arith
+
+shared-slice-read-digit-2 : tie.Need-shared-slice-read-digit-2 Inv-loop μ-loop
+shared-slice-read-digit-2 c = omega arith
+
+digit-requires-2 : tie.Need-digit-requires-2 Inv-loop μ-loop
+digit-requires-2 c κs = search needs
+
+unsound-requires-2 : tie.Need-unsound-requires-2 Inv-loop μ-loop
+unsound-requires-2 c κs = search needs
+
+two-digits : (c : tie.After-digit2 Inv-loop μ-loop)
+    → Digits (c .before .before .before .before .before .before .before .before .before .args .line .now)
+    (c .before .before .before .before .before .loop .i) (c .before .before .digit .result) (c .digit2 .result)
+two-digits c = record { more = omega arith; first = c .before .before .digit .ensures; second = c .digit2 .ensures }
+
+returns-2 : tie.Need-returns-2 Inv-loop μ-loop
+returns-2 c = c .unsound2 .ensures ∙ digits-refused _ (broken (c .before .before .before .before .before .before .before .loop .inv) (two-digits (c .before .before))
+    (⊎-elim (λ w. inl (w .taken)) (λ w. inr (leb-true _ _ (w .1 .taken))) (c .before .if2 .came)))
+
+mul-byte : tie.Need-mul-byte Inv-loop μ-loop
+mul-byte c = omega arith
+
+add-byte : tie.Need-add-byte Inv-loop μ-loop
+add-byte c = omega (arith, leb-false)
+
+array-write-bytes : tie.Need-array-write-bytes Inv-loop μ-loop
+array-write-bytes c = omega arith
+
+cast-sum : tie.Need-cast-sum Inv-loop μ-loop
+cast-sum c = omega (arith, leb-false)
+
+add-sum : tie.Need-add-sum Inv-loop μ-loop
+add-sum c = omega (arith, leb-false)
+
+add-i : tie.Need-add-i Inv-loop μ-loop
+add-i c = omega arith
+
+loop-less : tie.Need-loop-less Inv-loop μ-loop
+loop-less c = omega arith
+
+loop-again : tie.Need-loop-again Inv-loop μ-loop
+loop-again c =
+    step (c .before .before .before .before .before .before .before .loop .inv) (two-digits (c .before .before))
+    (c .before .if2 .left) (leb-false _ _ (c .if3 .left))
+
+unsound-requires-3 : tie.Need-unsound-requires-3 Inv-loop μ-loop
+unsound-requires-3 c κs = search needs
+
+returns-3 : tie.Need-returns-3 Inv-loop μ-loop
+returns-3 c = c .unsound3 .ensures ∙ sum-refused _ (sum-wrong (c .before .before .before .loop .inv) (c .before .before .loop-test .left) (c .before .if4 .taken))
+
+returns-4 : tie.Need-returns-4 Inv-loop μ-loop
+returns-4 c = finished (c .before .before .loop .inv) (c .before .loop-test .left) (length-passed (c .before .before .before)) (c .if4 .left)
+
+pub decode-spec : {M : Type 1} → statement M
+decode-spec =
+    tie.close
+    (tie.spec
+    Inv-loop
+    μ-loop
+    length-fails-requires
+    unsound-requires
+    returns
+    loop-holds
+    mul-digit
+    shared-slice-read-digit
+    digit-requires
+    mul-digit-2
+    add-digit
+    shared-slice-read-digit-2
+    digit-requires-2
+    unsound-requires-2
+    returns-2
+    mul-byte
+    add-byte
+    array-write-bytes
+    cast-sum
+    add-sum
+    add-i
+    loop-less
+    loop-again
+    unsound-requires-3
+    returns-3
+    returns-4)

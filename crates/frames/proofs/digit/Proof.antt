@@ -1,0 +1,49 @@
+-- `frames::digit` meets its contract: the tests that lead to an answer are those that lead to its case of `digitValue`.
+use mathlib.Core.Path.{sym, _∙_}
+use native.Mathlib.Omega.{arith}
+use borrow.Author.Needs.{needs}
+use Rattle.frames.specs.Hex.{digitValue}
+use Rattle.frames.proofs.BoolLaws.{inside}
+use Rattle.frames.proofs.digit.Statement.{statement}
+use Rattle.frames.proofs.digit.Tie as tie
+use Rattle.frames.proofs.digit.Reads as reads
+use Rattle.frames.proofs.digit.Lts as lts
+use Rattle.refusal.proofs.outside.Reads as outside-reads
+
+outside-requires : tie.Need-outside-requires
+outside-requires c κs = search needs
+
+outside-requires-2 : tie.Need-outside-requires-2
+outside-requires-2 c κs = search needs
+
+returns : tie.Need-returns
+unfolding digitValue
+returns c =
+    rw (← c .before .before .before .outside .ensures, c .before .before .if1 .taken, ← c .before .outside2 .ensures, c .if2 .taken)
+
+sub-result : tie.Need-sub-result
+sub-result c = omega (arith, inside 65 70 (c .before .before .before .before .args .c) (sym (c .before .outside2 .ensures) ∙ c .if2 .left))
+
+returns-2 : tie.Need-returns-2
+unfolding digitValue
+returns-2 c =
+    rw (← c .before .before .before .outside .ensures, c .before .before .if1 .taken, ← c .before .outside2 .ensures, c .if2 .left)
+
+sub-result-2 : tie.Need-sub-result-2
+sub-result-2 c = inside 48 57 (c .before .before .args .c) (sym (c .before .outside .ensures) ∙ c .if1 .left) .0
+
+returns-3 : tie.Need-returns-3
+unfolding digitValue
+returns-3 c = rw (← c .before .outside .ensures, c .if1 .left)
+
+pub digit-spec : {M : Type 1} → statement M
+digit-spec =
+    tie.close
+    (tie.spec
+    outside-requires
+    outside-requires-2
+    returns
+    sub-result
+    returns-2
+    sub-result-2
+    returns-3)
