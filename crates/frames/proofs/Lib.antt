@@ -3,3 +3,4 @@ pub mod BoolLaws
 pub mod HexLaws
 pub mod Reading
 pub mod LineLaws
+pub mod FrameLaws

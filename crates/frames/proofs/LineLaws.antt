@@ -1,6 +1,6 @@
 -- Which tests of a line refuse it, and what it decodes to then and otherwise.
-use mathlib.Core.Path.{_≡_, refl, sym, ap, _∙_}
-use mathlib.Core.Bool.{Bool, true, false, or-true}
+use mathlib.Core.Path.{_≡_}
+use mathlib.Core.Bool.{true, false, or-true}
 use mathlib.Core.List.{List, []}
 use Prim.Native.Nat.{ℕ, _*_, _/_, _%_, _≤_}
 use native.Mathlib.Omega.{arith}
@@ -8,7 +8,6 @@ use lib.Dec.{ltb, eqb}
 use lib.ListN.{length}
 use borrow.Author.Tests.{ltb-false, eqb-false}
 use Rattle.refusal.specs.declared.Verdict.{Verdict}
-use Rattle.frames.specs.declared.Decoded.{Decoded}
 use Rattle.frames.specs.Hex.{allDigits, bytesOf}
 use Rattle.frames.specs.Line.{sumFails, lengthFails, lineFails, padded, decoded}
 use Rattle.frames.proofs.BoolLaws.{neither}

@@ -6,11 +6,11 @@ use mathlib.Core.List.{List, [], _∷_, _++_, append-nil}
 use Prim.Native.Nat.{ℕ, suc, _+_, _-_, _*_, _/_, _%_, _≤_, _<_}
 use native.Mathlib.Omega.{arith}
 use native.Mathlib.Numerals.{add-one}
-use lib.ListN.{length, take, drop, getD, set, replicate, length-set, take-append-drop, drop-of-length-le}
+use lib.ListN.{length, take, drop, set, replicate, length-set, take-append-drop, drop-of-length-le}
 use lib.Seq.{take-suc-set, drop-set-lt, drop-drop, append-snoc, length-take-le}
 use borrow.Author.Tests.{eq-eqb, ne-eqb}
 use Rattle.refusal.specs.declared.Verdict.{Verdict}
-use Rattle.frames.specs.Hex.{digitValue, allDigits, bytesOf}
+use Rattle.frames.specs.Hex.{allDigits, bytesOf}
 use Rattle.frames.specs.Line.{total, sumFails, lengthFails, padded, decoded}
 use Rattle.frames.proofs.HexLaws.{Digits, next-byte, next-sound, high-unsound, low-unsound}
 use Rattle.frames.proofs.LineLaws.{SoundLength, accepted}

@@ -3,7 +3,7 @@ use mathlib.Core.Bool.{Bool, cond, not, _||_}
 use mathlib.Core.List.{List, [], _∷_}
 use Prim.Native.Nat.{ℕ, _+_, _*_}
 use lib.Dec.{ltb, eqb}
-use lib.ListN.{getD, length}
+use lib.ListN.{getD}
 use Rattle.refusal.specs.declared.Cause.{Cause}
 use Rattle.refusal.specs.Checks.{Check, _↝_}
 use Rattle.design.specs.declared.Pair.{Pair}

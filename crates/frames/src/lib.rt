@@ -18,7 +18,7 @@ pub struct Decoded {
     pub count: usize,
 }
 
-// The number that a hexadecimal digit stands for; 16 for any other character.
+// The number that a digit stands for. 16, which no digit does, for any other character, so that callers need one test.
 fn digit(c: u8) -> u8
     ensures { λ r. ⌜ r ≡ digitValue c ⌝ }
 {
@@ -31,14 +31,14 @@ fn digit(c: u8) -> u8
     c - 48
 }
 
-// Whether a line of n digits is refused for its length alone: empty, odd or longer than the longest frame.
-fn length_fails(n: usize) -> bool
-    ensures { λ r. ⌜ r ≡ lengthFails n ⌝ }
+// Whether a line is refused for its number of digits alone. 32 of them fill the 16 bytes of an answer.
+fn length_fails(digits: usize) -> bool
+    ensures { λ r. ⌜ r ≡ lengthFails digits ⌝ }
 {
-    n == 0 || n % 2 == 1 || 32 < n
+    digits == 0 || digits % 2 == 1 || 32 < digits
 }
 
-// The answer to every line that is refused, the empty one among them.
+// The one answer to every line that is refused, the empty line among them.
 fn unsound() -> Decoded
     ensures { λ r. ⌜ r ≡ decoded [] ⌝ }
 {
@@ -49,6 +49,7 @@ fn unsound() -> Decoded
     }
 }
 
+// The bytes of a line, or the refusal 15. The sum of 16 bytes is far below 2^32, so it is reduced only once, at the end.
 pub fn decode(line: &[u8]) -> Decoded
     ensures { λ r. ⌜ r ≡ decoded (now (line .entry)) ⌝ }
 {
@@ -80,17 +81,18 @@ pub fn decode(line: &[u8]) -> Decoded
     }
 }
 
+// The refusal 16 of a line that has to hold a design. A frame too short for its m fails too: fewer than 8 bytes are never due.
 pub fn frame_verdict(bytes: [u8; 16], count: usize) -> Verdict
     ensures { λ r. ⌜ r ≡ verdict (frameChecks bytes count) ⌝ }
 {
-    let m = bytes[6] as usize;
-    if bytes[0] != 1 || count != 8 + 2 * m {
+    let due = 8 + 2 * (bytes[6] as usize);
+    if bytes[0] != 1 || count != due {
         return Verdict::Refused(Cause::Frame);
     }
     Verdict::Passed
 }
 
-// Pair i of a frame; zeros where the frame has no such pair.
+// Pair i of a frame; zeros at m and beyond, where the sum byte and the padding lie.
 fn frame_pair(bytes: [u8; 16], i: usize) -> Pair
     requires { ⌜ i < 4 ⌝ }
     ensures { λ r. ⌜ r ≡ framePair bytes i ⌝ }
@@ -105,6 +107,7 @@ fn frame_pair(bytes: [u8; 16], i: usize) -> Pair
     }
 }
 
+// The design that a frame holds, unchecked: whether it is legal is for the caller to ask.
 pub fn frame_design(bytes: [u8; 16]) -> Design
     ensures { λ r. ⌜ r ≡ frameDesign bytes ⌝ }
 {

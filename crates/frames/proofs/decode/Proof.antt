@@ -1,24 +1,18 @@
--- `frames::decode` meets its contract. The loop's invariant is `Reading`, and each way out cites a law of lines: the length, a digit
--- or the sum refuses the line, or all of it was read.
-use mathlib.Core.Path.{_≡_, sym, ap, _∙_}
-use mathlib.Core.Bool.{true, false}
+-- `frames::decode` meets its contract: the loop keeps `Reading`, and each way out cites the law that refuses or accepts the line.
+use mathlib.Core.Path.{_≡_, sym, _∙_}
+use mathlib.Core.Bool.{false}
 use mathlib.Core.Logic.{⊎-elim, inl, inr}
-use Prim.Native.Nat.{_-_, _*_}
+use Prim.Native.Nat.{_-_}
 use native.Mathlib.Omega.{arith}
 use lib.ListN.{length}
 use borrow.Author.Needs.{needs}
 use borrow.Author.Tests.{leb-true, leb-false}
-use Rattle.frames.specs.Line.{lengthFails, sumFails}
+use Rattle.frames.specs.Line.{lengthFails}
 use Rattle.frames.proofs.HexLaws.{Digits}
 use Rattle.frames.proofs.LineLaws.{sound-length, length-refused, digits-refused, sum-refused}
 use Rattle.frames.proofs.Reading.{Reading, start, step, broken, sum-wrong, finished}
 use Rattle.frames.proofs.decode.Statement.{statement}
 use Rattle.frames.proofs.decode.Tie as tie
-use Rattle.frames.proofs.decode.Reads as reads
-use Rattle.frames.proofs.decode.Lts as lts
-use Rattle.frames.proofs.digit.Reads as digit-reads
-use Rattle.frames.proofs.length_fails.Reads as length-fails-reads
-use Rattle.frames.proofs.unsound.Reads as unsound-reads
 
 abbrev Inv-loop : tie.InvT-loop
 Inv-loop line count bytes₀ sum₀ i₀ bytes sum i = Reading line bytes sum i
@@ -71,8 +65,9 @@ two-digits : (c : tie.After-digit2 Inv-loop μ-loop)
 two-digits c = record { more = omega arith; first = c .before .before .digit .ensures; second = c .digit2 .ensures }
 
 returns-2 : tie.Need-returns-2 Inv-loop μ-loop
-returns-2 c = c .unsound2 .ensures ∙ digits-refused _ (broken (c .before .before .before .before .before .before .before .loop .inv) (two-digits (c .before .before))
-    (⊎-elim (λ w. inl (w .taken)) (λ w. inr (leb-true _ _ (w .1 .taken))) (c .before .if2 .came)))
+returns-2 c =
+    let bad = ⊎-elim (λ w. inl (w .taken)) (λ w. inr (leb-true _ _ (w .1 .taken))) (c .before .if2 .came) in
+    c .unsound2 .ensures ∙ digits-refused _ (broken (c .before .before .before .before .before .before .before .loop .inv) (two-digits (c .before .before)) bad)
 
 mul-byte : tie.Need-mul-byte Inv-loop μ-loop
 mul-byte c = omega arith
@@ -104,10 +99,13 @@ unsound-requires-3 : tie.Need-unsound-requires-3 Inv-loop μ-loop
 unsound-requires-3 c κs = search needs
 
 returns-3 : tie.Need-returns-3 Inv-loop μ-loop
-returns-3 c = c .unsound3 .ensures ∙ sum-refused _ (sum-wrong (c .before .before .before .loop .inv) (c .before .before .loop-test .left) (c .before .if4 .taken))
+returns-3 c =
+    let wrong = sum-wrong (c .before .before .before .loop .inv) (c .before .before .loop-test .left) (c .before .if4 .taken) in
+    c .unsound3 .ensures ∙ sum-refused _ wrong
 
 returns-4 : tie.Need-returns-4 Inv-loop μ-loop
-returns-4 c = finished (c .before .before .loop .inv) (c .before .loop-test .left) (length-passed (c .before .before .before)) (c .if4 .left)
+returns-4 c =
+    finished (c .before .before .loop .inv) (c .before .loop-test .left) (length-passed (c .before .before .before)) (c .if4 .left)
 
 pub decode-spec : {M : Type 1} → statement M
 decode-spec =

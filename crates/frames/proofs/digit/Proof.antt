@@ -6,9 +6,6 @@ use Rattle.frames.specs.Hex.{digitValue}
 use Rattle.frames.proofs.BoolLaws.{inside}
 use Rattle.frames.proofs.digit.Statement.{statement}
 use Rattle.frames.proofs.digit.Tie as tie
-use Rattle.frames.proofs.digit.Reads as reads
-use Rattle.frames.proofs.digit.Lts as lts
-use Rattle.refusal.proofs.outside.Reads as outside-reads
 
 outside-requires : tie.Need-outside-requires
 outside-requires c κs = search needs

@@ -1,5 +1,5 @@
 -- `frames::length_fails` meets its contract: where the first two tests meet, their flag is the disjunction of both.
-use mathlib.Core.Path.{_≡_, sym, _∙_}
+use mathlib.Core.Path.{_≡_, _∙_}
 use mathlib.Core.Bool.{_||_}
 use mathlib.Core.Logic.{⊎-elim}
 use Prim.Native.Nat.{_%_}
@@ -9,7 +9,7 @@ use Rattle.frames.specs.Line.{lengthFails}
 use Rattle.frames.proofs.length_fails.Statement.{statement}
 use Rattle.frames.proofs.length_fails.Tie as tie
 
-first-two : (c : tie.Joined1) → c .if1 .if2 ≡ (eqb (c .before .args .n) 0 || eqb (c .before .args .n % 2) 1)
+first-two : (c : tie.Joined1) → c .if1 .if2 ≡ (eqb (c .before .args .digits) 0 || eqb (c .before .args .digits % 2) 1)
 first-two c =
     ⊎-elim
     (λ w. w .1 ∙ rw (eq-eqb _ _ (w .0 .taken)))
