@@ -1,6 +1,6 @@
 -- Which tests of a line refuse it, and what it decodes to then and otherwise.
-use mathlib.Core.Path.{_≡_}
-use mathlib.Core.Bool.{true, false, or-true}
+use mathlib.Core.Path.{_≡_, refl, ap}
+use mathlib.Core.Bool.{Bool, true, false, or-true}
 use mathlib.Core.List.{List, []}
 use Prim.Native.Nat.{ℕ, _*_, _/_, _%_, _≤_}
 use native.Mathlib.Omega.{arith}
@@ -8,8 +8,10 @@ use lib.Dec.{ltb, eqb}
 use lib.ListN.{length}
 use borrow.Author.Tests.{ltb-false, eqb-false}
 use Rattle.refusal.specs.declared.Verdict.{Verdict}
+use Rattle.refusal.specs.Checks.{verdict}
+use Rattle.frames.specs.declared.Decoded.{Decoded}
 use Rattle.frames.specs.Hex.{allDigits, bytesOf}
-use Rattle.frames.specs.Line.{sumFails, lengthFails, lineFails, padded, decoded}
+use Rattle.frames.specs.Line.{sumFails, lengthFails, lineFails, lineChecks, padded, decoded}
 use Rattle.frames.proofs.BoolLaws.{neither}
 
 pub record SoundLength (digits : ℕ) : Type 0 where
@@ -17,16 +19,22 @@ pub record SoundLength (digits : ℕ) : Type 0 where
   pub short : digits ≤ 32
 
 pub sound-length : (digits : ℕ) → lengthFails digits ≡ false → SoundLength digits
-unfolding lengthFails
 sound-length digits e =
     let parts = neither _ (ltb 32 digits) e in
     let odd = eqb-false (digits % 2) 1 (neither (eqb digits 0) (eqb (digits % 2) 1) (parts .0) .1) in
     record { even = omega arith; short = ltb-false _ _ (parts .1) }
 
 module _ (line : List ℕ) where
+  abbrev pub whole : Decoded
+  whole = record { verdict = Verdict.Passed; bytes = padded (bytesOf line); count = length (bytesOf line) }
+
   refused : lineFails line ≡ true → decoded [] ≡ decoded line
-  unfolding decoded lineFails lengthFails
+  unfolding decoded lineFails
   refused e = rw e
+
+  sound : lineFails line ≡ false → decoded line ≡ whole
+  unfolding decoded
+  sound e = rw e
 
   -- A line that is refused, for whichever reason, decodes to the same as the empty one.
   pub length-refused : lengthFails (length line) ≡ true → decoded [] ≡ decoded line
@@ -41,7 +49,25 @@ module _ (line : List ℕ) where
   unfolding lineFails
   sum-refused e = refused (rw (e, or-true))
 
-  pub accepted : lengthFails (length line) ≡ false → allDigits line ≡ true → sumFails (bytesOf line) ≡ false
-      → decoded line ≡ record { verdict = Verdict.Passed; bytes = padded (bytesOf line); count = length (bytesOf line) }
+  pub accepted : lengthFails (length line) ≡ false → allDigits line ≡ true → sumFails (bytesOf line) ≡ false → decoded line ≡ whole
+  unfolding lineFails
+  accepted l d s = sound (rw (l, d, s))
+
+  -- For callers: the verdict is that of the line's checks, and where it passes, nothing of the line is lost.
+  pub decoded-verdict : decoded line .verdict ≡ verdict (lineChecks line)
+  unfolding decoded lineChecks
+  decoded-verdict = go (lineFails line) refl
+    where
+      go : (t : Bool) → lineFails line ≡ t → decoded line .verdict ≡ verdict (lineChecks line)
+      go true e = rw e
+      go false e = rw e
+
+  pub decoded-passed : decoded line .verdict ≡ Verdict.Passed → decoded line ≡ whole
   unfolding decoded lineFails
-  accepted l d s = rw (l, d, s)
+  decoded-passed passed = go (lineFails line) refl
+    where
+      go : (t : Bool) → lineFails line ≡ t → decoded line ≡ whole
+      go true e =
+          let clash : _≡_ {A = ℕ} 0 1 = cc (ap (λ (d : Decoded). d .verdict) (refused e)) in
+          absurd (omega arith)
+      go false e = sound e

@@ -19,7 +19,7 @@ unfoldable pub sumFails : List ℕ → Bool
 sumFails bytes = not (eqb (total bytes % 256) 0)
 
 -- "empty, odd length, over 32 digits"
-unfoldable pub lengthFails : ℕ → Bool
+abbrev pub lengthFails : ℕ → Bool
 lengthFails digits = eqb digits 0 || eqb (digits % 2) 1 || ltb 32 digits
 
 unfoldable pub lineFails : List ℕ → Bool

@@ -66,11 +66,12 @@ two-digits c = record { more = omega arith; first = c .before .before .digit .en
 
 returns-2 : tie.Need-returns-2 Inv-loop μ-loop
 returns-2 c =
+    let so-far = c .before .before .before .before .before .before .before .loop .inv in
     let bad = ⊎-elim (λ w. inl (w .taken)) (λ w. inr (leb-true _ _ (w .1 .taken))) (c .before .if2 .came) in
-    c .unsound2 .ensures ∙ digits-refused _ (broken (c .before .before .before .before .before .before .before .loop .inv) (two-digits (c .before .before)) bad)
+    c .unsound2 .ensures ∙ digits-refused _ (broken so-far (two-digits (c .before .before)) bad)
 
 mul-byte : tie.Need-mul-byte Inv-loop μ-loop
-mul-byte c = omega arith
+mul-byte c = omega (arith, leb-false)
 
 add-byte : tie.Need-add-byte Inv-loop μ-loop
 add-byte c = omega (arith, leb-false)
@@ -92,8 +93,8 @@ loop-less c = omega arith
 
 loop-again : tie.Need-loop-again Inv-loop μ-loop
 loop-again c =
-    step (c .before .before .before .before .before .before .before .loop .inv) (two-digits (c .before .before))
-    (c .before .if2 .left) (leb-false _ _ (c .if3 .left))
+    let so-far = c .before .before .before .before .before .before .before .loop .inv in
+    step so-far (two-digits (c .before .before)) (c .before .if2 .left) (leb-false _ _ (c .if3 .left))
 
 unsound-requires-3 : tie.Need-unsound-requires-3 Inv-loop μ-loop
 unsound-requires-3 c κs = search needs

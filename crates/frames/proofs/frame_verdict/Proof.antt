@@ -1,8 +1,8 @@
 -- `frames::frame_verdict` meets its contract: a test that fails makes `frameFails` true, and where both pass it is false.
 use mathlib.Core.Logic.{⊎-elim}
+use Prim.Native.Nat.{ℕ, _+_, _*_, _≤_}
 use native.Mathlib.Omega.{arith}
-use lib.ListN.{getD}
-use mir.Syntax.{w8}
+use mir.Syntax.{w8, w64}
 use mir.Val.{Fits}
 use borrow.Author.Needs.{needs}
 use borrow.Author.Tests.{eq-eqb, ne-eqb}
@@ -10,8 +10,11 @@ use Rattle.frames.specs.DesignFrame.{frameFails, frameChecks}
 use Rattle.frames.proofs.frame_verdict.Statement.{statement}
 use Rattle.frames.proofs.frame_verdict.Tie as tie
 
-m-fits : (c : tie.Start) → Fits w8 (getD (c .args .t1) 6 0)
-m-fits c = search needs
+twice-fits : (m : ℕ) → Fits w8 m → Fits w64 (2 * m)
+twice-fits m fits = omega arith
+
+due-fits : (k m : ℕ) → k ≤ 8 → Fits w8 m → Fits w64 (k + 2 * m)
+due-fits k m h fits = omega arith
 
 array-read-due : tie.Need-array-read-due
 array-read-due c = search needs
@@ -20,10 +23,10 @@ cast-due : tie.Need-cast-due
 cast-due c = search needs
 
 mul-due : tie.Need-mul-due
-mul-due c = omega (arith, m-fits c)
+mul-due c = twice-fits _ (search needs)
 
 add-due : tie.Need-add-due
-add-due c = omega (arith, m-fits c)
+add-due c = due-fits _ _ (omega arith) (search needs)
 
 array-read-if1 : tie.Need-array-read-if1
 array-read-if1 c = search needs

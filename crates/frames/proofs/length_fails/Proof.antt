@@ -5,7 +5,6 @@ use mathlib.Core.Logic.{⊎-elim}
 use Prim.Native.Nat.{_%_}
 use borrow.Author.Tests.{eq-eqb, ne-eqb}
 use lib.Dec.{eqb}
-use Rattle.frames.specs.Line.{lengthFails}
 use Rattle.frames.proofs.length_fails.Statement.{statement}
 use Rattle.frames.proofs.length_fails.Tie as tie
 
@@ -17,11 +16,9 @@ first-two c =
     (c .if1 .came)
 
 returns : tie.Need-returns
-unfolding lengthFails
 returns c = rw (← first-two (c .before), c .if2 .taken)
 
 returns-2 : tie.Need-returns-2
-unfolding lengthFails
 returns-2 c = rw (← first-two (c .before), c .if2 .left)
 
 pub length-fails-spec : {M : Type 1} → statement M
