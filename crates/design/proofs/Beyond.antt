@@ -21,19 +21,10 @@ use Rattle.design.specs.Cut.{
   offsetTotal,
   offsetPlace,
 }
+use Rattle.design.specs.Same.{Same}
 use Rattle.design.specs.Legal.{segmentBitsFail, offsetBitsFail, cutChecks, designChecks, designVerdict}
 use Rattle.design.specs.Budget.{reach, tableBudget, budget, limit, admitted, size}
 use Rattle.design.specs.Answers.{budgetAnswer, sizeAnswer}
-
--- Two designs of which the same is read
-pub record Same (d e : Design) : Type 0 where
-  pub kind : d .kind ≡ e .kind
-  pub w : d .w ≡ e .w
-  pub q : d .q ≡ e .q
-  pub g : d .g ≡ e .g
-  pub alpha : d .alpha ≡ e .alpha
-  pub m : d .m ≡ e .m
-  pub tables : tables d ≡ tables e
 
 -- Same is reflexive,
 pub same-refl : (d : Design) → Same d d

@@ -4,7 +4,7 @@ use mathlib.Core.Bool.{Bool, true, false}
 use Prim.Native.Nat.{ℕ, zero, suc, _+_, _-_, _*_, _^_, _≤_, _<_}
 use native.Mathlib.Omega.{arith}
 use borrow.Author.Tests.{ltb-false, leb-false, eqb-true, not-false}
-use Rattle.refusal.proofs.Checks.{passed-append, none-fails, or-false, inside}
+use Rattle.refusal.proofs.Checks.{passed-append, none-fails, neither, inside}
 use Rattle.values.specs.Rows.{Lawful}
 use Rattle.values.specs.Reach.{Slopewise}
 use Rattle.values.specs.Widths.{widthChecks}
@@ -37,7 +37,7 @@ module _ (d : Design) where
   unfolding segmentBitsFail offsetBitsFail
   within i segment offset =
       let a = inside 1 (d .alpha) (aOf d i) segment in
-      let parts = or-false offset in
+      let parts = neither _ _ offset in
       let b = inside 1 8 (bOf d i) (parts .0) in
       record {
         a-low = a .0;
@@ -52,7 +52,7 @@ module _ (d : Design) where
   limits legal =
       let lists = passed-append (widthChecks (d .kind) (d .w) (d .q) (d .g)) (cutChecks d) legal in
       let p = none-fails (cutChecks d) (lists .1) in
-      let alpha = or-false (p .0) in
+      let alpha = neither _ _ (p .0) in
       record {
         widths = widths-of (d .kind) (d .w) (d .q) (d .g) (lists .0);
         alpha-low = inside 2 13 (d .alpha) (alpha .0) .0;

@@ -7,7 +7,7 @@ use Prim.Native.Nat.{ℕ, zero, suc, _+_, _*_, _≤_, _<_}
 use native.Mathlib.Nat.{eq-or-lt-of-le, le-of-suc-le-suc, not-suc-le-zero, le-trans, le-step, le-refl, le-add-right}
 use native.Mathlib.Numerals.{add-one}
 use native.Mathlib.Omega.{arith}
-use Rattle.refusal.proofs.Checks.{or-false}
+use Rattle.refusal.proofs.Checks.{neither}
 use Rattle.design.specs.Cut.{sumBelow}
 use Rattle.design.specs.Legal.{someBelow}
 
@@ -19,7 +19,7 @@ pub none-below : (n : ℕ) (test : ℕ → Bool) → someBelow n test ≡ false 
 unfolding someBelow
 none-below zero test e i h = absurd (not-suc-le-zero h)
 none-below (suc n) test e i h =
-    let parts = or-false e in
+    let parts = neither _ _ e in
     below-suc h (λ at. rw at (parts .1)) (λ below. none-below n test (parts .0) i below)
 
 pub some-congruence : (n : ℕ) (f g : ℕ → Bool) → ((i : ℕ) → i < n → f i ≡ g i) → someBelow n f ≡ someBelow n g

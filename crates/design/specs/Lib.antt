@@ -1,5 +1,6 @@
 -- What a reader has to believe of designs.
 pub mod Cut
+pub mod Same
 pub mod Legal
 pub mod Budget
 pub mod Answers

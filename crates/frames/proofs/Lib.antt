@@ -1,5 +1,4 @@
 -- Laws of lines and frames, one file a subject.
-pub mod BoolLaws
 pub mod HexLaws
 pub mod Reading
 pub mod LineLaws

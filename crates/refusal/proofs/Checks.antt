@@ -5,6 +5,7 @@ use mathlib.Core.List.{List, [], _∷_, _++_}
 use Prim.Native.Nat.{ℕ, _≤_}
 use native.Mathlib.Omega.{arith}
 use borrow.Author.Tests.{ltb-false}
+use lib.Dec.{ltb}
 use Rattle.refusal.specs.declared.Cause.{Cause}
 use Rattle.refusal.specs.declared.Verdict.{Verdict}
 use Rattle.refusal.specs.Checks.{Check, verdict, refuses, outside}
@@ -25,9 +26,9 @@ verdict-append (check ∷ checks) second =
     ∙ after-refuses (check .fails) (check .cause) (verdict checks) (verdict second)
 
 -- What a list that passes tells.
-pub or-false : {a b : Bool} → a || b ≡ false → (a ≡ false) × (b ≡ false)
-or-false {a = true} e = absurd (true≢false e)
-or-false {a = false} e = (refl, e)
+pub neither : (a b : Bool) → a || b ≡ false → (a ≡ false) × (b ≡ false)
+neither true b e = absurd (true≢false e)
+neither false b e = (refl, e)
 
 passed : (fails : Bool) (cause : Cause) (later : Verdict) → refuses fails cause later ≡ Verdict.Passed
     → (fails ≡ false) × (later ≡ Verdict.Passed)
@@ -56,7 +57,7 @@ passed-append first second e = both-passed (verdict first) (verdict second) (sym
 
 -- A number that is not outside lies between the two ends.
 pub inside : (low high n : ℕ) → outside low high n ≡ false → (low ≤ n) × (n ≤ high)
-inside low high n e = let b = or-false e in (ltb-false n low (b .0), ltb-false high n (b .1))
+inside low high n e = let b = neither (ltb n low) (ltb high n) e in (ltb-false n low (b .0), ltb-false high n (b .1))
 
 -- What a branch on a call's answer tells of the test that the call promises.
 pub tested : {test result answer : Bool} → result ≡ test → result ≡ answer → test ≡ answer

@@ -10,7 +10,7 @@ use lib.Dec.{T, leb, leb→le}
 use lib.ListN.{length, getD}
 use Rattle.refusal.specs.declared.Verdict.{Verdict}
 use Rattle.refusal.specs.Checks.{verdict}
-use Rattle.refusal.proofs.Checks.{none-fails, or-false, inside}
+use Rattle.refusal.proofs.Checks.{none-fails, neither, inside}
 use Rattle.values.specs.declared.rows.Row.{Row}
 use Rattle.values.specs.Rows.{rows, rowOf, Lawful}
 use Rattle.values.specs.Widths.{widthChecks}
@@ -75,7 +75,7 @@ pub widths-of : (kind w q g : ℕ) → verdict (widthChecks kind w q g) ≡ Verd
 unfolding widthChecks
 widths-of kind w q g e =
     let p = none-fails (widthChecks kind w q g) e in
-    let g-and-P = or-false (p .1 .1 .1 .0) in
+    let g-and-P = neither _ _ (p .1 .1 .1 .0) in
     record {
       kind-high = inside 0 4 kind (p .0) .1;
       w-low = inside 6 16 w (p .1 .0) .0;
