@@ -4,8 +4,16 @@ ghost use mathlib.Core.List.{List, [], _++_};
 ghost use Prim.Native.Nat.{ℕ, _+_, _≤_};
 ghost use lib.ListN.{length};
 ghost use Rattle.report_text.specs.Words.{decimal, textOf};
-ghost use Rattle.report_text.specs.Report.{lineText, refusedText};
+ghost use Rattle.report_text.specs.Report.{lineText, refusedText, reportOf};
+use design::legal::design_verdict;
+use design::measure::budget_of;
+use design::measure::limit_of;
+use design::measure::size_of;
+use frames::decode;
+use frames::frame_design;
+use frames::frame_verdict;
 use refusal::Cause;
+use refusal::Verdict;
 
 // Text of at most 96 bytes: the bytes with zeros behind them, and how many there are.
 pub struct Text {
@@ -85,4 +93,26 @@ fn measured(budget: u64, limit: u64, bits: u64, admitted: bool) -> Text
     } else {
         text.word(b" NOT ADMITTED\n")
     }
+}
+
+// The report on a design's line: the checks in order, each passed before the next is tried, then the numbers.
+pub fn report(line: &[u8]) -> Text
+    ensures { λ r. ⌜ r ≡ reportOf (now (line .entry)) ⌝ }
+{
+    let held = decode(line);
+    let sound = held.verdict;
+    if let Verdict::Refused(cause) = sound {
+        return refused(cause);
+    }
+    let bytes = held.bytes;
+    if let Verdict::Refused(cause) = frame_verdict(bytes, held.count) {
+        return refused(cause);
+    }
+    let d = frame_design(bytes);
+    if let Verdict::Refused(cause) = design_verdict(d) {
+        return refused(cause);
+    }
+    let budget = budget_of(d);
+    let limit = limit_of(d);
+    measured(budget, limit, size_of(d), budget < limit)
 }
