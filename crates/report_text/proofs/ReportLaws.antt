@@ -1,8 +1,9 @@
 -- The report by the verdicts of its checks: the first that refuses gives the line, and after all have passed the design does.
 use mathlib.Core.Path.{_≡_, sym, ap, _∙_}
 use mathlib.Core.List.{List}
-use Prim.Native.Nat.{ℕ}
-use lib.ListN.{length}
+use Prim.Native.Nat.{ℕ, _≤_}
+use native.Mathlib.Nat.{le-add-right}
+use lib.ListN.{length, length-append}
 use Rattle.refusal.specs.declared.Cause.{Cause}
 use Rattle.refusal.specs.declared.Verdict.{Verdict}
 use Rattle.refusal.specs.Checks.{verdict}
@@ -55,3 +56,8 @@ module _ (line : List ℕ) (held : Decoded) (held-is : held ≡ decoded line) wh
 
     pub design-told : (d : Design) → d ≡ frameDesign (held .bytes) → d ≡ frameDesign (bytesOf line)
     design-told d promise = rw (held-whole, frameDesign-padded) at promise
+
+-- The report's count lies within its bytes.
+pub report-counts : (line : List ℕ) → reportOf line .count ≤ length (reportOf line .bytes)
+unfolding reportOf textOf
+report-counts line = simp length-append (le-add-right _ _)
