@@ -4,3 +4,4 @@ pub mod LegalLaws
 pub mod CutLaws
 pub mod BudgetLaws
 pub mod Beyond
+pub mod Opened

@@ -1,14 +1,7 @@
 -- The report on document 01's example and on lines that are turned down, computed from the definitions.
 use mathlib.Core.Path.{_≡_, refl}
 use Prim.Native.String.{String}
-use Rattle.values.specs.Rows.{rows, rowOf}
-use Rattle.values.specs.Exact.{num, den, valueSide}
-use Rattle.values.specs.Floor.{rootFrom, scaled, floorValue}
-use Rattle.values.specs.Slopes.{segmentStart, segmentEnd, hi, lo, spread, largest, largestSpread}
-use Rattle.values.specs.Widths.{widthChecks}
-use Rattle.design.specs.Cut.{tables, pairAt, sumBelow, position, initialCount, offsetCount, tableStart, offsetTotal}
-use Rattle.design.specs.Legal.{someBelow, segmentBitsFail, offsetBitsFail, cutChecks, designChecks}
-use Rattle.design.specs.Budget.{reach, tableBudget, budget, limit, admitted, size}
+use Rattle.design.proofs.Opened.{design-opened}
 use Rattle.frames.specs.Hex.{digitValue, allDigits, bytesOf}
 use Rattle.frames.specs.Line.{total, sumFails, lineFails, lineChecks}
 use Rattle.frames.specs.DesignFrame.{frameFails, frameChecks, framePair, frameDesign}
@@ -32,10 +25,8 @@ record Examples : Type 0 where
 
 examples : Examples
 unfolding
-    rows rowOf num den valueSide rootFrom scaled floorValue segmentStart segmentEnd hi lo spread largest largestSpread widthChecks
-    tables pairAt sumBelow position initialCount offsetCount tableStart offsetTotal someBelow segmentBitsFail offsetBitsFail
-    cutChecks designChecks reach tableBudget budget limit admitted size digitValue allDigits bytesOf total sumFails lineFails
-    lineChecks frameFails frameChecks framePair frameDesign decimalWithin decimal lineText designText refusedText reportVerdict reportOf
+    design-opened digitValue allDigits bytesOf total sumFails lineFails lineChecks frameFails frameChecks framePair frameDesign
+    decimalWithin decimal lineText designText refusedText reportVerdict reportOf
 examples =
     record {
       admitted-design = refl;

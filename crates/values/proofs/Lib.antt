@@ -6,3 +6,4 @@ pub mod SlopeLaws
 pub mod Bounds
 pub mod WidthLaws
 pub mod Document
+pub mod Opened

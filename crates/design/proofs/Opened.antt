@@ -1,0 +1,26 @@
+-- To unfold `design-opened` is to unfold every definition of this crate and of the values.
+use Rattle.values.proofs.Opened.{values-opened}
+use Rattle.design.specs.Cut.{
+  tables,
+  pairAt,
+  sumBelow,
+  position,
+  initialWord,
+  segmentWord,
+  offsetWord,
+  initialCount,
+  offsetCount,
+  tableStart,
+  offsetTotal,
+  offsetPlace,
+}
+use Rattle.design.specs.Legal.{someBelow, segmentBitsFail, offsetBitsFail, cutChecks, designChecks, designVerdict}
+use Rattle.design.specs.Budget.{reach, tableBudget, budget, limit, admitted, size}
+use Rattle.design.specs.Answers.{budgetAnswer, sizeAnswer}
+
+unfoldable pub design-opened : Unit {0}
+unfolding
+    values-opened tables pairAt sumBelow position initialWord segmentWord offsetWord initialCount offsetCount tableStart offsetTotal
+    offsetPlace someBelow segmentBitsFail offsetBitsFail cutChecks designChecks designVerdict reach tableBudget budget limit admitted
+    size budgetAnswer sizeAnswer
+design-opened = tt

@@ -1,0 +1,1 @@
+// No code: proofs/Starred.antt has document 01's starred examples, proved about the definitions.

@@ -1,0 +1,13 @@
+-- To unfold `values-opened` is to unfold every definition of this crate, so that the checker computes with them on numbers.
+use Rattle.values.specs.Rows.{rows, rowOf}
+use Rattle.values.specs.Exact.{num, den, numberSide, valueSide}
+use Rattle.values.specs.Floor.{rootFrom, scaled, floorValue}
+use Rattle.values.specs.Slopes.{segmentStart, segmentEnd, hi, lo, spread, largest, largestSpread}
+use Rattle.values.specs.Widths.{widthChecks}
+use Rattle.values.specs.Value.{wordCheck, valueOf}
+
+unfoldable pub values-opened : Unit {0}
+unfolding
+    rows rowOf num den numberSide valueSide rootFrom scaled floorValue segmentStart segmentEnd hi lo spread largest largestSpread
+    widthChecks wordCheck valueOf
+values-opened = tt
