@@ -7,6 +7,7 @@ use lib.ListN.{length, getD, take, length-take}
 use lib.Seq.{ext-getD, getD-take}
 use Rattle.design.specs.declared.Pair.{Pair}
 use Rattle.design.specs.declared.Design.{Design}
+use Rattle.design.specs.declared.legal.TableRule.{TableRule}
 use Rattle.design.specs.Cut.{
   tables,
   pairAt,
@@ -22,7 +23,7 @@ use Rattle.design.specs.Cut.{
   offsetPlace,
 }
 use Rattle.design.specs.Same.{Same}
-use Rattle.design.specs.Legal.{segmentBitsFail, offsetBitsFail, cutChecks, designChecks, designVerdict}
+use Rattle.design.specs.Legal.{tableBreaks, cutChecks, designChecks, designVerdict}
 use Rattle.design.specs.Budget.{reach, tableBudget, budget, limit, admitted, size}
 use Rattle.design.specs.Answers.{budgetAnswer, sizeAnswer}
 
@@ -68,13 +69,9 @@ module _ (d e : Design) (s : Same d e) where
   unfolding offsetCount
   count-same = fun-ext (λ i. cc (pair-same i))
 
-  segment-bits-same : segmentBitsFail d ≡ segmentBitsFail e
-  unfolding segmentBitsFail
-  segment-bits-same = fun-ext (λ i. cc (pair-same i))
-
-  offset-bits-same : offsetBitsFail d ≡ offsetBitsFail e
-  unfolding offsetBitsFail
-  offset-bits-same = fun-ext (λ i. cc (pair-same i))
+  breaks-same : (rule : TableRule) → tableBreaks rule d ≡ tableBreaks rule e
+  unfolding tableBreaks
+  breaks-same rule = fun-ext (λ i. cc (pair-same i))
 
   -- the positions,
   pub position-same : (i : ℕ) → position d i ≡ position e i
@@ -124,7 +121,7 @@ module _ (d e : Design) (s : Same d e) where
   -- what turns a design down,
   pub verdict-same : designVerdict d ≡ designVerdict e
   unfolding designVerdict designChecks cutChecks
-  verdict-same = cc (segment-bits-same, offset-bits-same, position-same (d .m))
+  verdict-same = cc (breaks-same TableRule.SegmentBits, breaks-same TableRule.OffsetBits, position-same (d .m))
 
   -- the budget
   pub budget-same : budget d ≡ budget e

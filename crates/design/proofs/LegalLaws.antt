@@ -10,8 +10,9 @@ use Rattle.values.specs.Reach.{Slopewise}
 use Rattle.values.specs.Widths.{widthChecks}
 use Rattle.values.proofs.WidthLaws.{Widths, widths-of, row-lawful}
 use Rattle.design.specs.declared.Design.{Design}
+use Rattle.design.specs.declared.legal.TableRule.{TableRule}
 use Rattle.design.specs.Cut.{aOf, bOf, row, tableBits, position}
-use Rattle.design.specs.Legal.{someBelow, segmentBitsFail, offsetBitsFail, cutChecks, designChecks, designVerdict, Legal}
+use Rattle.design.specs.Legal.{someBelow, breaks, tableBreaks, cutChecks, designChecks, designVerdict, Legal}
 use Rattle.design.proofs.Sums.{none-below, sum-step}
 
 -- A table that lies within document 01's limits
@@ -33,8 +34,8 @@ pub record Limits (d : Design) : Type 0 where
   pub cut : position d (d .m) ≡ d .w - d .alpha
 
 module _ (d : Design) where
-  within : (i : ℕ) → segmentBitsFail d i ≡ false → offsetBitsFail d i ≡ false → Within d i
-  unfolding segmentBitsFail offsetBitsFail
+  within : (i : ℕ) → tableBreaks TableRule.SegmentBits d i ≡ false → tableBreaks TableRule.OffsetBits d i ≡ false → Within d i
+  unfolding tableBreaks breaks
   within i segment offset =
       let a = inside 1 (d .alpha) (aOf d i) segment in
       let parts = neither _ _ offset in
@@ -60,8 +61,8 @@ module _ (d : Design) where
         alpha-below = leb-false (d .w) (d .alpha) (alpha .1);
         m-low = inside 1 4 (d .m) (p .1 .0) .0;
         m-high = inside 1 4 (d .m) (p .1 .0) .1;
-        table = λ i h. within i (none-below (d .m) (segmentBitsFail d) (p .1 .1 .0) i h)
-            (none-below (d .m) (offsetBitsFail d) (p .1 .1 .1 .0) i h);
+        table = λ i h. within i (none-below (d .m) (tableBreaks TableRule.SegmentBits d) (p .1 .1 .0) i h)
+            (none-below (d .m) (tableBreaks TableRule.OffsetBits d) (p .1 .1 .1 .0) i h);
         cut = eqb-true _ _ (not-false _ (p .1 .1 .1 .1 .0));
       }
 

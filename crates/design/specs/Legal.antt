@@ -8,26 +8,31 @@ use Rattle.refusal.specs.declared.Cause.{Cause}
 use Rattle.refusal.specs.declared.Verdict.{Verdict}
 use Rattle.refusal.specs.Checks.{Check, _↝_, outside, verdict}
 use Rattle.values.specs.Widths.{widthChecks}
+use Rattle.design.specs.declared.Pair.{Pair}
 use Rattle.design.specs.declared.Design.{Design}
-use Rattle.design.specs.Cut.{aOf, bOf, position}
+use Rattle.design.specs.declared.legal.TableRule.{TableRule}
+use Rattle.design.specs.Cut.{pairAt, position}
 
 -- Whether the test holds for some number below n.
 unfoldable pub someBelow : ℕ → (ℕ → Bool) → Bool
 someBelow zero test = false
 someBelow (suc n) test = someBelow n test || test n
 
-unfoldable pub segmentBitsFail : Design → ℕ → Bool
-segmentBitsFail d i = outside 1 (d .alpha) (aOf d i)
+-- 7, "a_i not 1..alpha"; 8, "b_i not 1..8, or a_i+b_i over 12"
+unfoldable pub breaks : TableRule → ℕ → Pair → Bool
+breaks TableRule.SegmentBits alpha pair = outside 1 alpha (pair .a)
+breaks TableRule.OffsetBits alpha pair = outside 1 8 (pair .b) || ltb 12 (pair .a + pair .b)
 
-unfoldable pub offsetBitsFail : Design → ℕ → Bool
-offsetBitsFail d i = outside 1 8 (bOf d i) || ltb 12 (aOf d i + bOf d i)
+unfoldable pub tableBreaks : TableRule → Design → ℕ → Bool
+tableBreaks rule d i = breaks rule (d .alpha) (pairAt d i)
 
+-- "7 is tried on all tables before 8."
 unfoldable pub cutChecks : Design → List Check
 cutChecks d =
     (outside 2 13 (d .alpha) || leb (d .w) (d .alpha)) ↝ Cause.InitialBits ∷
     outside 1 4 (d .m) ↝ Cause.TableCount ∷
-    someBelow (d .m) (segmentBitsFail d) ↝ Cause.SegmentBits ∷
-    someBelow (d .m) (offsetBitsFail d) ↝ Cause.OffsetBits ∷
+    someBelow (d .m) (tableBreaks TableRule.SegmentBits d) ↝ Cause.SegmentBits ∷
+    someBelow (d .m) (tableBreaks TableRule.OffsetBits d) ↝ Cause.OffsetBits ∷
     not (eqb (position d (d .m)) (d .w - d .alpha)) ↝ Cause.CutSum ∷ []
 
 unfoldable pub designChecks : Design → List Check

@@ -1,12 +1,10 @@
 // Refusals 1 to 9 of a design, in document 01's order.
 ghost use mathlib.Core.Path.{_≡_};
-ghost use mathlib.Core.Bool.{_||_};
-ghost use Prim.Native.Nat.{_+_, _≤_, _<_};
-ghost use lib.Dec.{ltb};
+ghost use Prim.Native.Nat.{_≤_, _<_};
 ghost use Rattle.refusal.specs.Checks.{verdict};
-ghost use Rattle.refusal.specs.Checks.{outside as Checks·outside};
 ghost use Rattle.design.specs.Cut.{pairAt, position};
-ghost use Rattle.design.specs.Legal.{someBelow, segmentBitsFail, offsetBitsFail, cutChecks, designVerdict};
+ghost use Rattle.design.specs.Legal.{someBelow, tableBreaks, cutChecks, designVerdict};
+ghost use Rattle.design.specs.Legal as Legal;
 use crate::Design;
 use crate::Pair;
 use refusal::Cause;
@@ -23,40 +21,34 @@ pub fn pair_at(d: Design, i: u32) -> Pair
     d.pairs[place]
 }
 
-// Whether some a_i is not 1..alpha.
-fn segment_bits_fail(d: Design) -> bool
-    requires { ⌜ d .m ≤ 4 ⌝ }
-    ensures { λ r. ⌜ r ≡ someBelow (d .m) (segmentBitsFail d) ⌝ }
-{
-    let m = d.m;
-    let mut fails = false;
-    for i in 0..m {
-        if outside(1, d.alpha, pair_at(d, i).a) {
-            fails = true;
-        }
-    }
-    fails
+// What is asked of each table: 7 is tried on all tables before 8 is tried on any.
+pub enum TableRule {
+    SegmentBits,
+    OffsetBits,
 }
 
-// Whether b is not 1..8, or a + b over 12.
-fn pair_fails(pair: Pair) -> bool
-    ensures { λ r. ⌜ r ≡ (Checks·outside 1 8 (pair .b) || ltb 12 (pair .a + pair .b)) ⌝ }
+// Whether a table breaks the rule: a not 1..alpha; b not 1..8, or a + b over 12.
+fn breaks(rule: TableRule, alpha: u32, pair: Pair) -> bool
+    ensures { λ r. ⌜ r ≡ Legal.breaks rule alpha pair ⌝ }
 {
-    outside(1, 8, pair.b) || 12 < pair.a as u64 + pair.b as u64
+    match rule {
+        TableRule::SegmentBits => outside(1, alpha, pair.a),
+        TableRule::OffsetBits => outside(1, 8, pair.b) || 12 < pair.a as u64 + pair.b as u64,
+    }
 }
 
-fn offset_bits_fail(d: Design) -> bool
+fn some_table_breaks(rule: TableRule, d: Design) -> bool
     requires { ⌜ d .m ≤ 4 ⌝ }
-    ensures { λ r. ⌜ r ≡ someBelow (d .m) (offsetBitsFail d) ⌝ }
+    ensures { λ r. ⌜ r ≡ someBelow (d .m) (tableBreaks rule d) ⌝ }
 {
     let m = d.m;
-    let mut fails = false;
+    let mut broken = false;
     for i in 0..m {
-        if pair_fails(pair_at(d, i)) {
-            fails = true;
+        if breaks(rule, d.alpha, pair_at(d, i)) {
+            broken = true;
         }
     }
-    fails
+    broken
 }
 
 // The b_i in all.
@@ -84,10 +76,10 @@ fn cut_verdict(d: Design) -> Verdict
     if outside(1, 4, d.m) {
         return Verdict::Refused(Cause::TableCount);
     }
-    if segment_bits_fail(d) {
+    if some_table_breaks(TableRule::SegmentBits, d) {
         return Verdict::Refused(Cause::SegmentBits);
     }
-    if offset_bits_fail(d) {
+    if some_table_breaks(TableRule::OffsetBits, d) {
         return Verdict::Refused(Cause::OffsetBits);
     }
     if offset_bits(d) != (d.w - d.alpha) as u64 {

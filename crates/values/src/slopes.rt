@@ -54,7 +54,9 @@ fn spread(row: Row, w: u32, p: u32, a: u32, segment: u64) -> u64
     requires { ⌜ segment < 2 ^ a ⌝ }
     ensures { λ r. ⌜ r ≡ Slopes.spread row w p a segment ⌝ }
 {
-    hi(row, w, p, segment_start(w, a, segment)) - lo(row, w, p, segment_end(w, a, segment))
+    let start = segment_start(w, a, segment);
+    let end = segment_end(w, a, segment);
+    hi(row, w, p, start) - lo(row, w, p, end)
 }
 
 // inner: the largest Hi - Lo over the segments of a bits; two floor values a segment.

@@ -7,7 +7,8 @@ use borrow.Author.Tests.{le-leb, lt-leb, eq-eqb, ne-eqb}
 use lib.Dec.{leb}
 use Rattle.refusal.specs.Checks.{outside}
 use Rattle.refusal.proofs.Checks.{inside, tested}
-use Rattle.design.specs.Legal.{someBelow, segmentBitsFail, offsetBitsFail, cutChecks}
+use Rattle.design.specs.declared.legal.TableRule.{TableRule}
+use Rattle.design.specs.Legal.{someBelow, tableBreaks, cutChecks}
 use Rattle.design.proofs.legal.cut_verdict.Statement.{statement}
 use Rattle.design.proofs.legal.cut_verdict.Tie as tie
 
@@ -22,13 +23,13 @@ m-passed : (c : tie.Else3) → outside 1 4 (c .before .before .before .before .b
 m-passed c = tested (c .before .outside2 .ensures) (c .if3 .left)
 
 segments-passed : (c : tie.Else4)
-    → let d = c .before .before .before .before .before .before .before .before .args .d in someBelow (d .m) (segmentBitsFail d) ≡ false
-segments-passed c = tested (c .before .segment-bits-fail .ensures) (c .if4 .left)
+    → let d = c .before .before .before .before .before .before .before .before .args .d in someBelow (d .m) (tableBreaks TableRule.SegmentBits d) ≡ false
+segments-passed c = tested (c .before .some-table-breaks .ensures) (c .if4 .left)
 
 offsets-passed : (c : tie.Else5)
     → let d = c .before .before .before .before .before .before .before .before .before .before .args .d in
-    someBelow (d .m) (offsetBitsFail d) ≡ false
-offsets-passed c = tested (c .before .offset-bits-fail .ensures) (c .if5 .left)
+    someBelow (d .m) (tableBreaks TableRule.OffsetBits d) ≡ false
+offsets-passed c = tested (c .before .some-table-breaks2 .ensures) (c .if5 .left)
 
 outside-requires : tie.Need-outside-requires
 outside-requires c κs = search needs
@@ -48,17 +49,17 @@ returns-3 : tie.Need-returns-3
 unfolding cutChecks
 returns-3 c = rw (alpha-passed (c .before .before .before .before), w-passed (c .before .before), tested (c .before .outside2 .ensures) (c .if3 .taken))
 
-segment-bits-fail-requires : tie.Need-segment-bits-fail-requires
-segment-bits-fail-requires c κs = inside 1 4 _ (m-passed c) .1
+some-table-breaks-requires : tie.Need-some-table-breaks-requires
+some-table-breaks-requires c κs = inside 1 4 _ (m-passed c) .1
 
 returns-4 : tie.Need-returns-4
 unfolding cutChecks
 returns-4 c =
     let b = c .before .before in
-    rw (alpha-passed (b .before .before .before .before), w-passed (b .before .before), m-passed b, tested (c .before .segment-bits-fail .ensures) (c .if4 .taken))
+    rw (alpha-passed (b .before .before .before .before), w-passed (b .before .before), m-passed b, tested (c .before .some-table-breaks .ensures) (c .if4 .taken))
 
-offset-bits-fail-requires : tie.Need-offset-bits-fail-requires
-offset-bits-fail-requires c κs = inside 1 4 _ (m-passed (c .before .before)) .1
+some-table-breaks-requires-2 : tie.Need-some-table-breaks-requires-2
+some-table-breaks-requires-2 c κs = inside 1 4 _ (m-passed (c .before .before)) .1
 
 returns-5 : tie.Need-returns-5
 unfolding cutChecks
@@ -69,7 +70,7 @@ returns-5 c =
       w-passed (b .before .before .before .before),
       m-passed (b .before .before),
       segments-passed b,
-      tested (c .before .offset-bits-fail .ensures) (c .if5 .taken),
+      tested (c .before .some-table-breaks2 .ensures) (c .if5 .taken),
     )
 
 offset-bits-requires : tie.Need-offset-bits-requires
@@ -116,9 +117,9 @@ cut-verdict-spec =
     returns-2
     outside-requires-2
     returns-3
-    segment-bits-fail-requires
+    some-table-breaks-requires
     returns-4
-    offset-bits-fail-requires
+    some-table-breaks-requires-2
     returns-5
     offset-bits-requires
     sub-if6

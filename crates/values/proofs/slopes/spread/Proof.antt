@@ -8,34 +8,39 @@ use Rattle.values.proofs.slopes.spread.Tie as tie
 segment-start-requires : tie.Need-segment-start-requires
 segment-start-requires c κs = search needs
 
-hi-requires : tie.Need-hi-requires
-hi-requires c κs = rw (c .segment-start .ensures) (start-reach _ _ _ _ _ (c .before .pre .0) (c .before .pre .1))
-
 segment-end-requires : tie.Need-segment-end-requires
 segment-end-requires c κs = search needs
 
+hi-requires : tie.Need-hi-requires
+hi-requires c κs =
+    let e = c .before .before .pre in
+    rw (c .before .segment-start .ensures) (start-reach _ _ _ _ _ (e .0) (e .1))
+
 lo-requires : tie.Need-lo-requires
 lo-requires c κs =
-    rw (c .segment-end .ensures) (end-reach _ _ _ _ _ (c .before .before .before .pre .0) (c .before .before .before .pre .1))
+    let e = c .before .before .before .pre in
+    rw (c .before .segment-end .ensures) (end-reach _ _ _ _ _ (e .0) (e .1))
 
 sub-result : tie.Need-sub-result
 sub-result c =
-    let e = c .before .before .before .before .pre in
-    rw (c .lo .ensures, c .before .before .hi .ensures, c .before .segment-end .ensures, c .before .before .before .segment-start .ensures)
+    let b = c .before .before in
+    let e = b .before .before .pre in
+    rw (c .lo .ensures, c .before .hi .ensures, b .segment-end .ensures, b .before .segment-start .ensures)
     (lo-below-hi _ _ _ _ _ (e .0) (e .1))
 
 returns : tie.Need-returns
 unfolding Slopes.spread
 returns c =
-    rw (c .lo .ensures, c .before .before .hi .ensures, c .before .segment-end .ensures, c .before .before .before .segment-start .ensures)
+    let b = c .before .before in
+    rw (c .lo .ensures, c .before .hi .ensures, b .segment-end .ensures, b .before .segment-start .ensures)
 
 pub spread-spec : {M : Type 1} → statement M
 spread-spec =
     tie.close
     (tie.spec
     segment-start-requires
-    hi-requires
     segment-end-requires
+    hi-requires
     lo-requires
     sub-result
     returns)

@@ -1,20 +1,21 @@
--- `design::legal::segment_bits_fail` meets its contract: after n turns `fails` says whether a table below n fails.
+-- `design::legal::some_table_breaks` meets its contract: after n turns `broken` says whether a table below n breaks the rule.
 use mathlib.Core.Path.{_≡_, refl, sym, _∙_}
 use mathlib.Core.Bool.{Bool}
 use mathlib.Core.Logic.{⊎-elim}
 use Prim.Native.Nat.{_-_, _≤_}
 use native.Mathlib.Omega.{arith}
-use Rattle.design.specs.Legal.{someBelow, segmentBitsFail}
+use borrow.Author.Needs.{needs}
+use Rattle.design.specs.Legal.{someBelow, tableBreaks}
 use Rattle.design.proofs.Sums.{some-here, some-not-here}
-use Rattle.design.proofs.legal.segment_bits_fail.Statement.{statement}
-use Rattle.design.proofs.legal.segment_bits_fail.Tie as tie
+use Rattle.design.proofs.legal.some_table_breaks.Statement.{statement}
+use Rattle.design.proofs.legal.some_table_breaks.Tie as tie
 
 abbrev Inv-loop : tie.InvT-loop
-Inv-loop d m fails₀ i₀ fails i =
-    (fails ≡ someBelow i (segmentBitsFail d)) × (i ≤ m)
+Inv-loop rule d m broken₀ i₀ broken i =
+    (broken ≡ someBelow i (tableBreaks rule d)) × (i ≤ m)
 
 abbrev μ-loop : tie.MeasureT-loop
-μ-loop d m fails₀ i₀ fails i = m - i
+μ-loop rule d m broken₀ i₀ broken i = m - i
 
 loop-holds : tie.Need-loop-holds Inv-loop μ-loop
 unfolding someBelow
@@ -23,8 +24,8 @@ loop-holds c = (refl, omega arith)
 pair-at-requires : tie.Need-pair-at-requires Inv-loop μ-loop
 pair-at-requires c κs = (omega arith, omega arith)
 
-outside-requires : tie.Need-outside-requires Inv-loop μ-loop
-outside-requires c κs = tt
+breaks-requires : tie.Need-breaks-requires Inv-loop μ-loop
+breaks-requires c κs = tt
 
 add-i : tie.Need-add-i Inv-loop μ-loop
 add-i c = omega arith
@@ -33,10 +34,11 @@ loop-less : tie.Need-loop-less Inv-loop μ-loop
 loop-less c = omega arith
 
 -- what the test of this turn says of the table
-tested : (c : tie.Joined1 Inv-loop μ-loop) {answer : Bool} → c .before .outside .result ≡ answer
-    → segmentBitsFail (c .before .before .before .before .before .args .d) (c .before .before .before .before .loop .i) ≡ answer
-unfolding segmentBitsFail
-tested c e = sym (rw (c .before .before .pair-at .ensures) at (c .before .outside .ensures)) ∙ e
+tested : (c : tie.Joined1 Inv-loop μ-loop) {answer : Bool} → c .before .breaks .result ≡ answer
+    → let a = c .before .before .before .before .before .args in
+    tableBreaks (a .rule) (a .d) (c .before .before .before .before .loop .i) ≡ answer
+unfolding tableBreaks
+tested c e = sym (rw (c .before .before .pair-at .ensures) at (c .before .breaks .ensures)) ∙ e
 
 loop-again : tie.Need-loop-again Inv-loop μ-loop
 loop-again c = (
@@ -51,15 +53,15 @@ returns c =
     let e : c .before .loop .i ≡ c .before .before .args .d .m = omega arith in
     rw e at (c .before .loop .inv .0)
 
-pub segment-bits-fail-spec : {M : Type 1} → statement M
-segment-bits-fail-spec =
+pub some-table-breaks-spec : {M : Type 1} → statement M
+some-table-breaks-spec =
     tie.close
     (tie.spec
     Inv-loop
     μ-loop
     loop-holds
     pair-at-requires
-    outside-requires
+    breaks-requires
     add-i
     loop-less
     loop-again

@@ -1,0 +1,57 @@
+-- `design::legal::breaks` meets its contract: by the rule, and for 8 the first test settles the answer where it holds.
+use Rattle.refusal.proofs.Checks.{tested}
+use Rattle.design.specs.Legal as Legal
+use borrow.Author.Needs.{needs}
+use Rattle.design.proofs.legal.breaks.Statement.{statement}
+use Rattle.design.proofs.legal.breaks.Tie as tie
+
+enum-told : tie.Need-enum-told
+enum-told c = search needs
+
+outside-requires : tie.Need-outside-requires
+outside-requires c κs = search needs
+
+enum-told-2 : tie.Need-enum-told-2
+enum-told-2 c = search needs
+
+outside-requires-2 : tie.Need-outside-requires-2
+outside-requires-2 c κs = search needs
+
+cast-result : tie.Need-cast-result
+cast-result c = search needs
+
+cast-result-2 : tie.Need-cast-result-2
+cast-result-2 c = search needs
+
+add-result : tie.Need-add-result
+add-result c = search needs
+
+returns : tie.Need-returns
+unfolding Legal.breaks
+returns c = rw (c .before .enum-told .given .1) (c .outside .ensures)
+
+returns-2 : tie.Need-returns-2
+unfolding Legal.breaks
+returns-2 c =
+    rw (c .before .before .enum-told2 .given .1, c .if1 .taken, tested (c .before .outside2 .ensures) (c .if1 .taken))
+
+returns-3 : tie.Need-returns-3
+unfolding Legal.breaks
+returns-3 c =
+    let b = c .before .before in
+    rw (b .before .before .enum-told2 .given .1, tested (b .before .outside2 .ensures) (b .if1 .left))
+
+pub breaks-spec : {M : Type 1} → statement M
+breaks-spec =
+    tie.close
+    (tie.spec
+    enum-told
+    outside-requires
+    enum-told-2
+    outside-requires-2
+    cast-result
+    cast-result-2
+    add-result
+    returns
+    returns-2
+    returns-3)
