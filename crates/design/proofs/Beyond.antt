@@ -24,7 +24,7 @@ use Rattle.design.specs.Cut.{
 }
 use Rattle.design.specs.Same.{Same}
 use Rattle.design.specs.Legal.{tableBreaks, cutChecks, designChecks, designVerdict}
-use Rattle.design.specs.Budget.{reach, tableBudget, budget, limit, admitted, size}
+use Rattle.design.specs.Budget.{reach, tableBudget, budget, limit, withinLimit, Admitted, size}
 use Rattle.design.specs.Answers.{budgetAnswer, sizeAnswer}
 
 -- Same is reflexive,
@@ -133,10 +133,14 @@ module _ (d e : Design) (s : Same d e) where
   unfolding limit
   limit-same = cc
 
-  -- so whether a design is admitted,
-  pub admitted-same : admitted d ≡ admitted e
-  unfolding admitted
-  admitted-same = cc (budget-same, limit-same)
+  -- so whether it does,
+  pub within-same : withinLimit d ≡ withinLimit e
+  unfolding withinLimit
+  within-same = cc (budget-same, limit-same)
+
+  -- and whether the design is admitted,
+  pub admitted-same : Admitted d → Admitted e
+  admitted-same a = record { legal = sym verdict-same ∙ a .legal; within = rw (← budget-same, ← limit-same) (a .within) }
 
   -- the size in bits,
   pub size-same : size d ≡ size e

@@ -4,11 +4,11 @@ use native.Mathlib.Nat.{le-max-left, le-max-right, le-of-lt, le-refl, le-step, l
 use native.Mathlib.Omega.{arith}
 use lib.Pow.{ones-lt, pow-mono, shl-lt}
 use Rattle.values.specs.declared.rows.Row.{Row}
-use Rattle.values.specs.Reach.{Slopewise}
+use Rattle.values.specs.Inputs.{SlopeInput}
 use Rattle.values.specs.Slopes.{spread, largest, largestSpread}
 use Rattle.values.proofs.Bounds.{spread-small}
 use Rattle.design.specs.declared.Design.{Design}
-use Rattle.design.specs.Cut.{aOf, bOf, row, tableBits, position}
+use Rattle.design.specs.Cut.{aOf, bOf, row, fractionBits, position}
 use Rattle.design.specs.Budget.{reach, tableBudget}
 use Rattle.design.proofs.Sums.{below-suc}
 use Rattle.design.proofs.LegalLaws.{Limits, slopewise, bits-end}
@@ -32,7 +32,7 @@ unfolding largestSpread
 spread-le-largest row w P a A = largest-above (2 ^ a) (spread row w P a) A
 
 -- and at most 2^38.
-pub largest-spread-small : (row : Row) (w P a : ℕ) → Slopewise row w P a → largestSpread row w P a ≤ 2 ^ 38
+pub largest-spread-small : (row : Row) (w P a : ℕ) → SlopeInput row w P a → largestSpread row w P a ≤ 2 ^ 38
 unfolding largestSpread
 largest-spread-small row w P a fit = largest-bounded (2 ^ a) (2 ^ 38) (spread row w P a) (λ A h. spread-small row w P a A fit h)
 
@@ -47,4 +47,4 @@ module _ (d : Design) (l : Limits d) (i : ℕ) (h : i < d .m) where
   -- so what it adds to the budget is at most 2^52.
   pub table-budget-small : tableBudget d i ≤ 2 ^ 52
   unfolding tableBudget
-  table-budget-small = mul-le-mul (le-of-lt reach-small) (largest-spread-small (row d) (d .w) (tableBits d) (aOf d i) (slopewise d l i h))
+  table-budget-small = mul-le-mul (le-of-lt reach-small) (largest-spread-small (row d) (d .w) (fractionBits d) (aOf d i) (slopewise d l i h))

@@ -1,11 +1,13 @@
 -- Where words and offsets lie.
 use mathlib.Core.Path.{_≡_, sym, _∙_}
 use Prim.Native.Nat.{ℕ, zero, suc, _+_, _-_, _*_, _/_, _%_, _^_, _≤_, _<_}
-use native.Mathlib.Nat.{add-comm, add-sub-of-le, le-of-lt, le-refl, le-step, le-trans, mod-lt, mod-one, not-suc-le-zero}
+use native.Mathlib.Nat.{add-comm, add-sub-of-le, le-of-lt, le-refl, le-step, le-trans, mod-lt, mod-one, mul-le-mul-right, not-suc-le-zero}
 use native.Mathlib.Decide.{decLt}
 use native.Mathlib.Omega.{arith}
 use lib.Arith.{digits-lt}
-use lib.Pow.{high, low, mod-pow-add, pow-add, pow-mono, pow-pos, shr-lt, split}
+use lib.Pow.{high, low, mod-pow-add, pow-add, pow-mono, pow-pos, shr-lt, shr-shr, split}
+use Rattle.values.specs.Slopes.{segmentStart, segmentEnd}
+use Rattle.values.proofs.SlopeLaws.{OnSegment}
 use Rattle.design.specs.declared.Design.{Design}
 use Rattle.design.specs.Cut.{
   aOf,
@@ -141,3 +143,33 @@ module _ (d : Design) (l : Limits d) where
   pub initial-count-small : initialCount d ≤ 8192
   unfolding initialCount
   initial-count-small = pow-mono {j = 13} (l .alpha-high)
+
+-- X lies on the segment of the top a bits of its word,
+pub word-on-segment : (w a x : ℕ) → OnSegment w a (x / 2 ^ (w - a)) (2 ^ w + x)
+unfolding segmentStart segmentEnd
+word-on-segment w a x =
+    record {
+      from = omega (arith, split x (w - a));
+      to = omega (arith, split x (w - a), mod-lt x (pow-pos (w - a)));
+    }
+
+-- and a segment of t + r low bits contains each of its segments of t.
+coarser : (t r x : ℕ) → let y = x / 2 ^ t in let z = x / 2 ^ (t + r) in
+    (z * 2 ^ (t + r) ≤ y * 2 ^ t) × (y * 2 ^ t + 2 ^ t ≤ z * 2 ^ (t + r) + 2 ^ (t + r))
+coarser t r x =
+    rw (← shr-shr x t r, pow-add 2 t r)
+    (let y = x / 2 ^ t in
+    let parts = split y r in
+    let rest = mod-lt y (pow-pos r) in
+    let below : y / 2 ^ r * 2 ^ r ≤ y = omega arith in
+    let above : y + 1 ≤ y / 2 ^ r * 2 ^ r + 2 ^ r = omega arith in
+    (omega (arith, mul-le-mul-right (2 ^ t) below), omega (arith, mul-le-mul-right (2 ^ t) above)))
+
+-- So the interval of A lies within the segment of each A_i.
+pub segment-within : (w alpha a x X : ℕ) → a ≤ alpha → alpha ≤ w → OnSegment w alpha (x / 2 ^ (w - alpha)) X
+    → OnSegment w a (x / 2 ^ (w - a)) X
+unfolding segmentStart segmentEnd
+segment-within w alpha a x X fewer within on =
+    let e : w - alpha + (alpha - a) ≡ w - a = omega arith in
+    let c = rw e at (coarser (w - alpha) (alpha - a) x) in
+    record { from = omega (arith, on .from, c .0); to = omega (arith, on .to, c .1, pow-pos (w - alpha)) }

@@ -6,12 +6,12 @@ use native.Mathlib.Omega.{arith}
 use borrow.Author.Tests.{ltb-false, leb-false, eqb-true, not-false}
 use Rattle.refusal.proofs.Checks.{passed-append, none-fails, neither, inside}
 use Rattle.values.specs.Rows.{Lawful}
-use Rattle.values.specs.Reach.{Slopewise}
+use Rattle.values.specs.Inputs.{SlopeInput}
 use Rattle.values.specs.Widths.{widthChecks}
 use Rattle.values.proofs.WidthLaws.{Widths, widths-of, row-lawful}
 use Rattle.design.specs.declared.Design.{Design}
 use Rattle.design.specs.declared.legal.TableRule.{TableRule}
-use Rattle.design.specs.Cut.{aOf, bOf, row, tableBits, position}
+use Rattle.design.specs.Cut.{aOf, bOf, row, fractionBits, position}
 use Rattle.design.specs.Legal.{someBelow, breaks, tableBreaks, cutChecks, designChecks, designVerdict, Legal}
 use Rattle.design.proofs.Sums.{none-below, sum-step}
 
@@ -71,7 +71,7 @@ module _ (d : Design) (l : Limits d) where
   pub lawful : Lawful (row d)
   lawful = row-lawful (d .kind) (l .widths .kind-high)
 
-  pub slopewise : (i : ℕ) → i < d .m → Slopewise (row d) (d .w) (tableBits d) (aOf d i)
+  pub slopewise : (i : ℕ) → i < d .m → SlopeInput (row d) (d .w) (fractionBits d) (aOf d i)
   slopewise i h =
       record {
         lawful = lawful;

@@ -15,12 +15,12 @@ use Rattle.design.specs.Cut.{
   offsetPlace,
 }
 use Rattle.design.specs.Legal.{someBelow, breaks, tableBreaks, cutChecks, designChecks, designVerdict}
-use Rattle.design.specs.Budget.{reach, tableBudget, budget, limit, admitted, size}
+use Rattle.design.specs.Budget.{reach, tableBudget, budget, limit, withinLimit, size}
 use Rattle.design.specs.Answers.{budgetAnswer, sizeAnswer}
 
 unfoldable pub design-opened : Unit {0}
 unfolding
     values-opened tables pairAt sumBelow position initialWord segmentWord offsetWord initialCount offsetCount tableStart offsetTotal
-    offsetPlace someBelow breaks tableBreaks cutChecks designChecks designVerdict reach tableBudget budget limit admitted
+    offsetPlace someBelow breaks tableBreaks cutChecks designChecks designVerdict reach tableBudget budget limit withinLimit
     size budgetAnswer sizeAnswer
 design-opened = tt

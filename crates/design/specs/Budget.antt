@@ -1,10 +1,11 @@
 -- Document 01, "Slopes and budget" and "Bits, lines and the report": budget, admitted, size in bits.
 use mathlib.Core.Bool.{Bool}
-use Prim.Native.Nat.{ℕ, _+_, _-_, _*_, _^_}
+use Prim.Native.Nat.{ℕ, _+_, _-_, _*_, _^_, _<_}
 use lib.Dec.{ltb}
 use Rattle.values.specs.Slopes.{largestSpread}
 use Rattle.design.specs.declared.Design.{Design}
-use Rattle.design.specs.Cut.{aOf, bOf, row, tableBits, sumBelow, position, initialCount, offsetTotal}
+use Rattle.design.specs.Legal.{Legal}
+use Rattle.design.specs.Cut.{aOf, bOf, row, fractionBits, sumBelow, position, initialCount, offsetTotal}
 
 -- "D_i = (2^(b_i) - 1)·2^(p_i)"
 unfoldable pub reach : Design → ℕ → ℕ
@@ -12,7 +13,7 @@ reach d i = (2 ^ bOf d i - 1) * 2 ^ position d i
 
 -- "D_i times the largest Hi - Lo over all A_i"
 unfoldable pub tableBudget : Design → ℕ → ℕ
-tableBudget d i = reach d i * largestSpread (row d) (d .w) (tableBits d) (aOf d i)
+tableBudget d i = reach d i * largestSpread (row d) (d .w) (fractionBits d) (aOf d i)
 
 -- "the sum over i of .., plus (m+2)·2^17"
 unfoldable pub budget : Design → ℕ
@@ -21,9 +22,13 @@ budget d = sumBelow (d .m) (tableBudget d) + (d .m + 2) * 2 ^ 17
 unfoldable pub limit : Design → ℕ
 limit d = 2 ^ (d .g + 17)
 
--- "admitted when the budget is less than 2^(g+17)"
-unfoldable pub admitted : Design → Bool
-admitted d = ltb (budget d) (limit d)
+unfoldable pub withinLimit : Design → Bool
+withinLimit d = ltb (budget d) (limit d)
+
+-- "A legal design is **admitted** when the budget is less than 2^(g+17)."
+pub record Admitted (d : Design) : Type 0 where
+  pub legal : Legal d
+  pub within : budget d < limit d
 
 -- "The size in bits is 24 times the number of entries."
 unfoldable pub size : Design → ℕ

@@ -24,8 +24,8 @@ abbrev pub row : Design → Row
 row d = rowOf (d .kind)
 
 -- "a table entry P = q + g"
-abbrev pub tableBits : Design → ℕ
-tableBits d = d .q + d .g
+abbrev pub fractionBits : Design → ℕ
+fractionBits d = d .q + d .g
 
 -- The sum of f over the numbers below n.
 unfoldable pub sumBelow : ℕ → (ℕ → ℕ) → ℕ

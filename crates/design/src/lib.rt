@@ -1,7 +1,9 @@
 // A design: how the input word is cut up, how many entries that takes, and whether the error stays within its budget.
 
 ghost use mathlib.Core.Path.{_≡_};
-ghost use Rattle.design.specs.Answers.{budgetAnswer, sizeAnswer};
+ghost use Rattle.refusal.specs.Numbers.{verdictNumber};
+ghost use Rattle.design.specs.Legal.{designVerdict};
+ghost use Rattle.design.specs.Answers.{budgetAnswer, sizeAnswer, refusalOf};
 
 pub mod legal;
 pub mod measure;
@@ -36,7 +38,8 @@ pub enum Measured {
 }
 
 pub fn budget(d: Design) -> Measured
-    ensures { λ r. ⌜ r ≡ budgetAnswer d ⌝ }
+    ensures answer { λ r. ⌜ r ≡ budgetAnswer d ⌝ }
+    ensures number { λ r. ⌜ refusalOf r ≡ verdictNumber (designVerdict d) ⌝ }
 {
     if let Verdict::Refused(cause) = design_verdict(d) {
         return Measured::Refused(cause);
@@ -45,7 +48,8 @@ pub fn budget(d: Design) -> Measured
 }
 
 pub fn size(d: Design) -> Measured
-    ensures { λ r. ⌜ r ≡ sizeAnswer d ⌝ }
+    ensures answer { λ r. ⌜ r ≡ sizeAnswer d ⌝ }
+    ensures number { λ r. ⌜ refusalOf r ≡ verdictNumber (designVerdict d) ⌝ }
 {
     if let Verdict::Refused(cause) = design_verdict(d) {
         return Measured::Refused(cause);

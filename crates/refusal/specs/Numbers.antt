@@ -1,6 +1,7 @@
--- Document 01, "What is turned down, by place": the number of each cause. No other place gives a cause its number.
+-- Document 01, "What is turned down, by place": the number of each cause. No other definition gives a cause its number.
 use Prim.Native.Nat.{ℕ}
 use Rattle.refusal.specs.declared.Cause.{Cause}
+use Rattle.refusal.specs.declared.Verdict.{Verdict}
 
 abbrev pub numberOf : Cause → ℕ
 numberOf Cause.Kind = 1
@@ -22,3 +23,8 @@ numberOf Cause.Frame = 16
 numberOf Cause.State = 17
 numberOf Cause.EntryWidth = 18
 numberOf Cause.LineNumber = 19
+
+-- The number of a verdict; 0 where nothing is turned down.
+abbrev pub verdictNumber : Verdict → ℕ
+verdictNumber Verdict.Passed = 0
+verdictNumber (Verdict.Refused cause) = numberOf cause

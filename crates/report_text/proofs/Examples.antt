@@ -19,9 +19,11 @@ record Examples : Type 0 where
   odd : Reports "010008080405010303D" "REFUSED 15\n"
   lower-case : Reports "010008080405010303df" "REFUSED 15\n"
   wrong-sum : Reports "010008080405010303DE" "REFUSED 15\n"
-  too-short-for-m : Reports "01FF" "REFUSED 16\n"
+  too-many-digits : Reports "0000000000000000000000000000000000" "REFUSED 15\n"
+  too-short-for-m : Reports "010008080405020303DE" "REFUSED 16\n"
   no-table : Reports "01000808040500E6" "REFUSED 6\n"
   kind-first : Reports "010505080405010303DD" "REFUSED 1\n"
+  seven-before-eight : Reports "0100080804050203090601D1" "REFUSED 7\n"
 
 examples : Examples
 unfolding
@@ -35,7 +37,9 @@ examples =
       odd = refl;
       lower-case = refl;
       wrong-sum = refl;
+      too-many-digits = refl;
       too-short-for-m = refl;
       no-table = refl;
       kind-first = refl;
+      seven-before-eight = refl;
     }

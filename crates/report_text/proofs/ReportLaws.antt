@@ -1,9 +1,14 @@
 -- The report by the verdicts of its checks: the first that refuses gives the line, and after all have passed the design does.
 use mathlib.Core.Path.{_≡_, sym, ap, _∙_}
+use mathlib.Core.Bool.{or-true}
 use mathlib.Core.List.{List}
-use Prim.Native.Nat.{ℕ, _≤_}
+use Prim.Native.Nat.{ℕ, _≤_, _<_}
 use native.Mathlib.Nat.{le-add-right}
-use lib.ListN.{length, length-append}
+use native.Mathlib.Decide.{decLe}
+use native.Mathlib.Omega.{arith}
+use borrow.Author.Tests.{lt-ltb}
+use lib.ListN.{length, take, length-append}
+use lib.Seq.{take-all, length-take-le}
 use Rattle.refusal.specs.declared.Cause.{Cause}
 use Rattle.refusal.specs.declared.Verdict.{Verdict}
 use Rattle.refusal.specs.Checks.{verdict}
@@ -12,7 +17,7 @@ use Rattle.design.specs.declared.Design.{Design}
 use Rattle.design.specs.Legal.{designVerdict}
 use Rattle.frames.specs.Hex.{bytesOf}
 use Rattle.frames.specs.declared.Decoded.{Decoded}
-use Rattle.frames.specs.Line.{lineChecks, decoded}
+use Rattle.frames.specs.Line.{lineFails, lineChecks, decoded}
 use Rattle.frames.specs.DesignFrame.{frameChecks, frameDesign}
 use Rattle.frames.proofs.LineLaws.{whole, decoded-verdict, decoded-passed}
 use Rattle.frames.proofs.FrameLaws.{frameChecks-padded, frameDesign-padded}
@@ -61,3 +66,18 @@ module _ (line : List ℕ) (held : Decoded) (held-is : held ≡ decoded line) wh
 pub report-counts : (line : List ℕ) → reportOf line .count ≤ length (reportOf line .bytes)
 unfolding reportOf textOf
 report-counts line = simp length-append (le-add-right _ _)
+
+-- A line of more than 32 digits is refused, whatever stands in it.
+long-refused : (line : List ℕ) → 32 < length line → textOf (refusedText Cause.Line) ≡ reportOf line
+unfolding lineChecks lineFails
+long-refused line h = line-refused line Cause.Line (rw (lt-ltb _ _ h, or-true))
+
+-- So the report needs no more than the first 33 bytes of a line.
+pub report-cut : (line : List ℕ) → reportOf (take 33 line) ≡ reportOf line
+report-cut line =
+    elim (decLe (length line) 33) [
+      | yes short ↦ rw (take-all 33 line short)
+      | no long ↦
+          let more : 33 ≤ length line = omega arith in
+          sym (long-refused (take 33 line) (rw (length-take-le 33 line more) (omega arith))) ∙ long-refused line (omega arith)
+    ]

@@ -9,22 +9,22 @@ use Rattle.refusal.specs.Numbers.{numberOf}
 use Rattle.refusal.specs.Checks.{verdict}
 use Rattle.design.specs.declared.Design.{Design}
 use Rattle.design.specs.Legal.{designChecks}
-use Rattle.design.specs.Budget.{budget, limit, admitted, size}
+use Rattle.design.specs.Budget.{budget, limit, withinLimit, size}
 use Rattle.frames.specs.Hex.{bytesOf}
 use Rattle.frames.specs.Line.{lineChecks}
 use Rattle.frames.specs.DesignFrame.{frameChecks, frameDesign}
 use Rattle.report_text.specs.declared.Text.{Text}
 use Rattle.report_text.specs.Words.{ascii, decimal, textOf}
 
--- The line on a design, of three numbers and the verdict.
+-- The line on a legal design: budget, limit, size in bits, and whether the budget is within the limit.
 unfoldable pub lineText : ℕ → ℕ → ℕ → Bool → List ℕ
-lineText budget limit bits admitted =
-    ascii "BUDGET " ++ decimal budget ++ ascii " LIMIT " ++ decimal limit ++ ascii " BITS " ++ decimal bits
-    ++ cond admitted (ascii " ADMITTED\n") (ascii " NOT ADMITTED\n")
+lineText b l n within =
+    ascii "BUDGET " ++ decimal b ++ ascii " LIMIT " ++ decimal l ++ ascii " BITS " ++ decimal n
+    ++ cond within (ascii " ADMITTED\n") (ascii " NOT ADMITTED\n")
 
 -- "budget, 2^(g+17), size, verdict (`ADMITTED` or `NOT ADMITTED`), all decimal"
 unfoldable pub designText : Design → List ℕ
-designText d = lineText (budget d) (limit d) (size d) (admitted d)
+designText d = lineText (budget d) (limit d) (size d) (withinLimit d)
 
 -- "`REFUSED`, a space, its number and a newline"
 unfoldable pub refusedText : Cause → List ℕ

@@ -23,7 +23,7 @@ pub struct Text {
 
 impl Text {
     // No text yet.
-    pub fn new() -> Text
+    fn new() -> Text
         ensures { λ r. ⌜ r ≡ textOf [] ⌝ }
     {
         Text {

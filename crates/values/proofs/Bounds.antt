@@ -5,13 +5,13 @@ use native.Mathlib.Nat.{mul-le-mul, le-trans, lt-of-lt-of-le, one-le-mul, div-le
 use native.Mathlib.Omega.{arith}
 use lib.Pow.{pow-mono, pow-pos}
 use Rattle.values.specs.declared.rows.Row.{Row}
-use Rattle.values.specs.Reach.{InRange, Reach, Segment, Slopewise}
+use Rattle.values.specs.Inputs.{InRange, FloorInput, SegmentInput, SlopeInput}
 use Rattle.values.specs.Floor.{floorValue}
 use Rattle.values.specs.Slopes.{segmentStart, segmentEnd, hi, lo, spread}
 use Rattle.values.proofs.FloorLaws.{floor-high}
 use Rattle.values.proofs.SlopeLaws.{OnSegment, on-range, start-on, end-on, segment-room, lo-le-hi}
 
-module _ (row : Row) (w P X : ℕ) (fit : Reach row w P X) where
+module _ (row : Row) (w P X : ℕ) (fit : FloorInput row w P X) where
   pub one-small : 2 ^ w ≤ 2 ^ 16
   one-small = pow-mono (fit .w-small)
 
@@ -31,20 +31,24 @@ module _ (row : Row) (w P X : ℕ) (fit : Reach row w P X) where
   floor-small =
       lt-of-lt-of-le (floor-high row (fit .lawful) w P X (fit .range)) (pow-mono {i = P + 1} {j = 21} (omega (arith, fit .P-small)))
 
+-- A quotient and a little more fits where its dividend and that do.
+pub quotient-fits : (n d more : ℕ) → n + more < 2 ^ 64 → n / d + more < 2 ^ 64
+quotient-fits n d more h = omega (arith, div-le-self n d)
+
 -- Hi of a value of 21 binary digits
-pub hi-small : (n d : ℕ) → n < 2 ^ 21 → (n + 1) * 65536 / d + 1 ≤ 2 ^ 38
+hi-small : (n d : ℕ) → n < 2 ^ 21 → (n + 1) * 65536 / d + 1 ≤ 2 ^ 38
 hi-small n d h = omega (arith, div-le-self ((n + 1) * 65536) d)
 
-module _ (w a A : ℕ) (fit : Segment w a A) where
+module _ (w a A : ℕ) (fit : SegmentInput w a A) where
   pub segment-small : suc A * 2 ^ (w - a) ≤ 2 ^ 16
   segment-small = le-trans (segment-room w a A (fit .a-small) (fit .A-small)) (pow-mono (fit .w-small))
 
   pub width-small : 2 ^ w ≤ 2 ^ 16
   width-small = pow-mono (fit .w-small)
 
-module _ (row : Row) (w P a A : ℕ) (fit : Slopewise row w P a) (A-lt : A < 2 ^ a) where
-  on-reach : (X : ℕ) → OnSegment w a A X → Reach row w P X
-  on-reach X on =
+module _ (row : Row) (w P a A : ℕ) (fit : SlopeInput row w P a) (A-lt : A < 2 ^ a) where
+  on-input : (X : ℕ) → OnSegment w a A X → FloorInput row w P X
+  on-input X on =
       record {
         lawful = fit .lawful;
         w-small = fit .w-small;
@@ -52,15 +56,15 @@ module _ (row : Row) (w P a A : ℕ) (fit : Slopewise row w P a) (A-lt : A < 2 ^
         range = on-range w a A (fit .a-small) A-lt X on;
       }
 
-  pub start-reach : Reach row w P (segmentStart w a A)
-  start-reach = on-reach (segmentStart w a A) (start-on w a A (fit .a-small) A-lt)
+  pub start-input : FloorInput row w P (segmentStart w a A)
+  start-input = on-input (segmentStart w a A) (start-on w a A (fit .a-small) A-lt)
 
-  pub end-reach : Reach row w P (segmentEnd w a A)
-  end-reach = on-reach (segmentEnd w a A) (end-on w a A (fit .a-small) A-lt)
+  pub end-input : FloorInput row w P (segmentEnd w a A)
+  end-input = on-input (segmentEnd w a A) (end-on w a A (fit .a-small) A-lt)
 
   pub lo-below-hi : lo row w P (segmentEnd w a A) ≤ hi row w P (segmentStart w a A)
   lo-below-hi = lo-le-hi w a A (fit .a-small) A-lt row (fit .lawful) P (segmentStart w a A) (start-on w a A (fit .a-small) A-lt)
 
   pub spread-small : spread row w P a A ≤ 2 ^ 38
   unfolding spread hi
-  spread-small = omega (arith, hi-small (floorValue row w P (segmentStart w a A)) (row .k * segmentStart w a A) (floor-small row w P _ start-reach))
+  spread-small = omega (arith, hi-small (floorValue row w P (segmentStart w a A)) (row .k * segmentStart w a A) (floor-small row w P _ start-input))

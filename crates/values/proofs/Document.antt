@@ -8,7 +8,7 @@ use lib.Pow.{pow-add}
 use Rattle.values.specs.Rows.{rows, rowOf}
 use Rattle.values.specs.Exact.{num, den, numberSide, valueSide, AtMost, Greatest}
 use Rattle.values.specs.Floor.{floorValue}
-use Rattle.values.specs.Reach.{InRange}
+use Rattle.values.specs.Inputs.{InRange}
 use Rattle.values.proofs.FloorLaws.{floor-greatest}
 use Rattle.values.proofs.WidthLaws.{row-lawful}
 

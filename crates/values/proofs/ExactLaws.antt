@@ -27,7 +27,7 @@ use native.Mathlib.Numerals.{add-one}
 use lib.Pow.{pow-add, pow-pos}
 use Rattle.values.specs.declared.rows.Row.{Row}
 use Rattle.values.specs.Rows.{Lawful}
-use Rattle.values.specs.Reach.{InRange}
+use Rattle.values.specs.Inputs.{InRange}
 use Rattle.values.specs.Exact.{num, den, numberSide, valueSide, AtMost, LessThan, AtLeast, MoreThan}
 use Rattle.values.proofs.Powers.{pow-mul, pow-swap, pow-cancel}
 
@@ -91,7 +91,7 @@ module _ (row : Row) (lawful : Lawful row) (w X : ℕ) (range : InRange w X) whe
   ratios : (num row w X < 2 ^ row .k * den row w X) × (den row w X < 2 ^ row .k * num row w X)
   unfolding num den
   ratios =
-      ratio (row .rising) (row .c) (2 ^ row .k) (2 ^ w) X (lawful .c-pos) (lawful .reach) (pow-pos w) (range .low) (range .high)
+      ratio (row .rising) (row .c) (2 ^ row .k) (2 ^ w) X (lawful .c-pos) (lawful .domain) (pow-pos w) (range .low) (range .high)
 
   pub den-pos : 0 < den row w X
   den-pos = go (den row w X) refl

@@ -25,7 +25,7 @@ use lib.Dec.{leb}
 use borrow.Author.Tests.{leb-true, leb-false, le-leb, lt-leb}
 use Rattle.values.specs.declared.rows.Row.{Row}
 use Rattle.values.specs.Rows.{Lawful}
-use Rattle.values.specs.Reach.{InRange}
+use Rattle.values.specs.Inputs.{InRange}
 use Rattle.values.specs.Exact.{num, den, numberSide, valueSide, AtMost, LessThan, AtLeast, MoreThan, Greatest}
 use Rattle.values.specs.Floor.{rootFrom, scaled, floorValue}
 use Rattle.values.proofs.Powers.{pow-cancel}

@@ -24,7 +24,7 @@ use native.Mathlib.Omega.{arith}
 use lib.Pow.{pow-add, pow-pos}
 use Rattle.values.specs.declared.rows.Row.{Row}
 use Rattle.values.specs.Rows.{Lawful}
-use Rattle.values.specs.Reach.{InRange}
+use Rattle.values.specs.Inputs.{InRange}
 use Rattle.values.specs.Exact.{num, den, numberSide, valueSide, AtMost, LessThan, AtLeast, MoreThan, Greatest}
 use Rattle.values.specs.Floor.{floorValue}
 use Rattle.values.specs.Slopes.{segmentStart, segmentEnd, hi, lo, spread}

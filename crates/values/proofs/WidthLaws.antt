@@ -42,7 +42,7 @@ lawful-of row t =
     record {
       c-pos = leb→le _ _ (p .0);
       k-pos = leb→le _ _ (p .1 .0);
-      reach = leb→le _ _ (p .1 .1 .0);
+      domain = leb→le _ _ (p .1 .1 .0);
       c-small = leb→le _ _ (p .1 .1 .1 .0);
       k-small = leb→le _ _ (p .1 .1 .1 .1 .0);
     }

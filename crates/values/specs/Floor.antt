@@ -13,10 +13,10 @@ rootFrom k limit zero root = root
 rootFrom k limit (suc b) root =
     rootFrom k limit b (cond (leb ((root + 2 ^ b) ^ k) limit) (root + 2 ^ b) root)
 
--- floor(E(X)^k), the greatest k-th power that a number at most E(X) can have or miss
+-- floor(E(X)^k): n is at most E(X) exactly when n^k is at most this.
 unfoldable pub scaled : Row → ℕ → ℕ → ℕ → ℕ
 scaled row w P X = valueSide row w P X / den row w X
 
--- L(X). It has P + 1 binary digits, since E(X) is below 2^(P+1).
+-- L(X). P + 1 binary digits are enough, since E(X) is below 2^(P+1).
 unfoldable pub floorValue : Row → ℕ → ℕ → ℕ → ℕ
 floorValue row w P X = rootFrom (row .k) (scaled row w P X) (P + 1) 0

@@ -1,7 +1,7 @@
 -- What a reader has to believe of values and slopes.
 pub mod Rows
 pub mod Exact
-pub mod Reach
+pub mod Inputs
 pub mod Floor
 pub mod Slopes
 pub mod Widths

@@ -19,10 +19,10 @@ unfoldable pub rowOf : ℕ → Row
 unfolding rows
 rowOf kind = getD rows kind (record { c = 0; k = 0; rising = false })
 
--- What everything above uses of a row: the argument lies in [1, 2^k), and the numbers are small enough for 64 bits.
+-- What everything above uses of a row: the argument c·X / 2^w lies in [1, 2^k), and the numbers are small enough for 64 bits.
 pub record Lawful (row : Row) : Type 0 where
   pub c-pos : 1 ≤ row .c
   pub k-pos : 1 ≤ row .k
-  pub reach : 2 * row .c ≤ 2 ^ row .k
+  pub domain : 2 * row .c ≤ 2 ^ row .k
   pub c-small : row .c ≤ 2
   pub k-small : row .k ≤ 2

@@ -1,4 +1,4 @@
--- Document 01, "What is turned down, by place", 1 to 4: the limits of kind and widths, for every call.
+-- Document 01, "What is turned down, by place", 1 to 4: the limits of kind and widths, for every call that takes them.
 use mathlib.Core.Bool.{_||_}
 use mathlib.Core.List.{List, [], _∷_}
 use Prim.Native.Nat.{ℕ, _+_}

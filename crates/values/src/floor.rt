@@ -4,7 +4,7 @@ ghost use Prim.Native.Nat.{ℕ, _+_, _*_, _^_, _<_, _≤_};
 ghost use lib.IntN.{pos};
 ghost use Rattle.values.specs.Floor.{rootFrom, floorValue};
 ghost use Rattle.values.specs.Floor as Floor;
-ghost use Rattle.values.specs.Reach.{Reach};
+ghost use Rattle.values.specs.Inputs.{FloorInput};
 use crate::TableUnits;
 use crate::rows::Row;
 
@@ -46,7 +46,7 @@ fn floor_root(k: u32, digits: u32, limit: u64) -> u64
 
 // floor(E(X)^k): the argument c·X / 2^w, or its reciprocal, in units of (2^k)^-P.
 fn scaled(row: Row, w: u32, p: u32, x: u64) -> u64
-    requires { ⌜ Reach row w p x ⌝ }
+    requires { ⌜ FloorInput row w p x ⌝ }
     ensures { λ r. ⌜ r ≡ Floor.scaled row w p x ⌝ }
 {
     let argument = row.c * x;
@@ -61,7 +61,7 @@ fn scaled(row: Row, w: u32, p: u32, x: u64) -> u64
 
 // inner: L(X) in table units, P = p.
 pub fn floor_value(row: Row, w: u32, p: u32, x: u64) -> TableUnits
-    requires { ⌜ Reach row w p x ⌝ }
+    requires { ⌜ FloorInput row w p x ⌝ }
     ensures { λ r. ⌜ r ≡ record { 0 = pos (floorValue row w p x) } ⌝ }
 {
     let root = floor_root(row.k, p + 1, scaled(row, w, p, x));

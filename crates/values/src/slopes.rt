@@ -4,14 +4,14 @@ ghost use Prim.Native.Nat.{ℕ, _+_, _*_, _^_, _<_, _≤_};
 ghost use Rattle.values.specs.Floor.{floorValue};
 ghost use Rattle.values.specs.Slopes.{segmentStart, segmentEnd, spread, largestSpread};
 ghost use Rattle.values.specs.Slopes as Slopes;
-ghost use Rattle.values.specs.Reach.{Reach, Segment, Slopewise};
+ghost use Rattle.values.specs.Inputs.{FloorInput, SegmentInput, SlopeInput};
 use crate::floor::floor_value;
 use crate::floor::pow2;
 use crate::rows::Row;
 
-// inner: the first X whose top a bits are the segment's.
+// inner: the first X of the segment that a value of the top a bits of x names.
 pub fn segment_start(w: u32, a: u32, segment: u64) -> u64
-    requires { ⌜ Segment w a segment ⌝ }
+    requires { ⌜ SegmentInput w a segment ⌝ }
     ensures { λ r. ⌜ r ≡ segmentStart w a segment ⌝ }
 {
     pow2(w) + segment * pow2(w - a)
@@ -19,7 +19,7 @@ pub fn segment_start(w: u32, a: u32, segment: u64) -> u64
 
 // inner: the last one.
 pub fn segment_end(w: u32, a: u32, segment: u64) -> u64
-    requires { ⌜ Segment w a segment ⌝ }
+    requires { ⌜ SegmentInput w a segment ⌝ }
     ensures { λ r. ⌜ r ≡ segmentEnd w a segment ⌝ }
 {
     segment_start(w, a, segment) + pow2(w - a) - 1
@@ -27,7 +27,7 @@ pub fn segment_end(w: u32, a: u32, segment: u64) -> u64
 
 // L(X) as a plain number.
 fn floor_count(row: Row, w: u32, p: u32, x: u64) -> u64
-    requires { ⌜ Reach row w p x ⌝ }
+    requires { ⌜ FloorInput row w p x ⌝ }
     ensures { λ r. ⌜ (r ≡ floorValue row w p x) × (r < 2 ^ 21) ⌝ }
 {
     floor_value(row, w, p, x).count()
@@ -35,7 +35,7 @@ fn floor_count(row: Row, w: u32, p: u32, x: u64) -> u64
 
 // inner: Hi, at the segment's start.
 pub fn hi(row: Row, w: u32, p: u32, start: u64) -> u64
-    requires { ⌜ Reach row w p start ⌝ }
+    requires { ⌜ FloorInput row w p start ⌝ }
     ensures { λ r. ⌜ r ≡ Slopes.hi row w p start ⌝ }
 {
     (floor_count(row, w, p, start) + 1) * 65536 / (row.k as u64 * start) + 1
@@ -43,14 +43,14 @@ pub fn hi(row: Row, w: u32, p: u32, start: u64) -> u64
 
 // inner: Lo, at the segment's end.
 pub fn lo(row: Row, w: u32, p: u32, end: u64) -> u64
-    requires { ⌜ Reach row w p end ⌝ }
+    requires { ⌜ FloorInput row w p end ⌝ }
     ensures { λ r. ⌜ r ≡ Slopes.lo row w p end ⌝ }
 {
     floor_count(row, w, p, end) * 65536 / (row.k as u64 * end)
 }
 
 fn spread(row: Row, w: u32, p: u32, a: u32, segment: u64) -> u64
-    requires { ⌜ Slopewise row w p a ⌝ }
+    requires { ⌜ SlopeInput row w p a ⌝ }
     requires { ⌜ segment < 2 ^ a ⌝ }
     ensures { λ r. ⌜ r ≡ Slopes.spread row w p a segment ⌝ }
 {
@@ -61,7 +61,7 @@ fn spread(row: Row, w: u32, p: u32, a: u32, segment: u64) -> u64
 
 // inner: the largest Hi - Lo over the segments of a bits; two floor values a segment.
 pub fn largest_spread(row: Row, w: u32, p: u32, a: u32) -> u64
-    requires { ⌜ Slopewise row w p a ⌝ }
+    requires { ⌜ SlopeInput row w p a ⌝ }
     ensures { λ r. ⌜ r ≡ largestSpread row w p a ⌝ }
 {
     let mut largest = 0;

@@ -1,4 +1,4 @@
-// Refusals 1 to 4, the limits of kind and widths, for every call.
+// Refusals 1 to 4, the limits of kind and widths, for every call that takes them.
 ghost use mathlib.Core.Path.{_≡_};
 ghost use Rattle.refusal.specs.Checks.{verdict};
 ghost use Rattle.values.specs.Widths.{widthChecks};

@@ -17,7 +17,9 @@ enum-known-cause c = search needs
 
 returns : tie.Need-returns
 unfolding budgetAnswer
-returns c = rw (sym (c .before .before .before .design-verdict .ensures) ∙ c .before .cause .given .1)
+returns c =
+    let e = sym (c .before .before .before .design-verdict .ensures) ∙ c .before .cause .given .1 in
+    (rw e, rw e)
 
 enum-told : tie.Need-enum-told
 enum-told c = search needs
@@ -31,7 +33,7 @@ budget-of-requires c κs = legal c
 
 returns-2 : tie.Need-returns-2
 unfolding budgetAnswer
-returns-2 c = rw (legal (c .before)) (ap Measured.Is (c .budget-of .ensures))
+returns-2 c = (rw (legal (c .before)) (ap Measured.Is (c .budget-of .ensures)), rw (legal (c .before)))
 
 pub budget-spec : {M : Type 1} → statement M
 budget-spec = tie.close (tie.spec design-verdict-requires enum-known-cause returns enum-told budget-of-requires returns-2)

@@ -9,7 +9,7 @@ use Rattle.design.specs.declared.Design.{Design}
 use Rattle.design.specs.Legal.{Legal, designVerdict}
 use lib.Dec.{ltb}
 use lib.ListN.{length}
-use Rattle.design.specs.Budget.{budget, limit, admitted, size}
+use Rattle.design.specs.Budget.{budget, limit, withinLimit, size}
 use Rattle.frames.specs.Hex.{bytesOf}
 use Rattle.frames.specs.Line.{lineChecks}
 use Rattle.frames.specs.DesignFrame.{frameChecks, frameDesign}
@@ -43,7 +43,7 @@ legal c = sym (c .before .before .design-verdict .ensures) ∙ c .enum-told3 .gi
 -- The numbers that the calls give make the design's text.
 text-is : (d e : Design) (b l n : ℕ) → b ≡ budget d → l ≡ limit d → n ≡ size d → d ≡ e
     → textOf (lineText b l n (ltb b l)) ≡ textOf (designText e)
-unfolding designText admitted
+unfolding designText withinLimit
 text-is d e b l n b-is l-is n-is same = rw (b-is, l-is, n-is, same)
 
 decode-requires : tie.Need-decode-requires

@@ -1,5 +1,5 @@
 -- `values::value` meets its contract: the verdict of the widths, then the test of the word, then the floor value.
-use mathlib.Core.Path.{_≡_, sym, ap, _∙_}
+use mathlib.Core.Path.{_≡_, sym, _∙_}
 use Prim.Native.Nat.{ℕ, _+_, _^_, _≤_, _<_}
 use native.Mathlib.Omega.{arith}
 use borrow.Author.Needs.{needs}
@@ -8,34 +8,41 @@ use lib.IntN.{pos}
 use lib.Pow.{pow-mono}
 use Rattle.refusal.specs.declared.Cause.{Cause}
 use Rattle.refusal.specs.declared.Verdict.{Verdict}
+use Rattle.refusal.specs.Numbers.{verdictNumber}
 use Rattle.refusal.specs.Checks.{verdict}
 use Rattle.refusal.proofs.Checks.{verdict-append}
+use Rattle.values.specs.declared.TableUnits.{TableUnits}
 use Rattle.values.specs.declared.Valued.{Valued}
 use Rattle.values.specs.Rows.{rowOf}
 use Rattle.values.specs.Floor.{floorValue}
-use Rattle.values.specs.Reach.{Reach}
+use Rattle.values.specs.Inputs.{FloorInput}
 use Rattle.values.specs.Widths.{widthChecks}
-use Rattle.values.specs.Value.{valueOf, wordCheck}
+use Rattle.values.specs.Value.{valueVerdict, valueOf, wordCheck, refusalOf}
 use Rattle.values.proofs.WidthLaws.{Widths, widths-of, row-lawful}
 use Rattle.values.proofs.value.Statement.{statement}
 use Rattle.values.proofs.value.Tie as tie
 
 -- The answer by the verdict of the widths and the test of the word.
 module _ (kind w q g x : ℕ) where
-  refused : (cause : Cause) → verdict (widthChecks kind w q g) ≡ Verdict.Refused cause → Valued.Refused cause ≡ valueOf kind w q g x
-  unfolding valueOf wordCheck
-  refused cause e = rw (verdict-append, e)
+  -- what is promised of an answer
+  abbrev Promised : Valued → Type 0
+  Promised r = (r ≡ valueOf kind w q g x) × (refusalOf r ≡ verdictNumber (valueVerdict kind w q g x))
+
+  refused : (cause : Cause) → verdict (widthChecks kind w q g) ≡ Verdict.Refused cause → Promised (Valued.Refused cause)
+  unfolding valueOf valueVerdict wordCheck
+  refused cause e = (rw (verdict-append, e), rw (verdict-append, e))
 
   module _ (passed : verdict (widthChecks kind w q g) ≡ Verdict.Passed) where
-    past : 2 ^ w ≤ x → Valued.Refused Cause.WordRange ≡ valueOf kind w q g x
-    unfolding valueOf wordCheck
-    past h = rw (verdict-append, passed, le-leb _ _ h)
+    past : 2 ^ w ≤ x → Promised (Valued.Refused Cause.WordRange)
+    unfolding valueOf valueVerdict wordCheck
+    past h = (rw (verdict-append, passed, le-leb _ _ h), rw (verdict-append, passed, le-leb _ _ h))
 
-    within : x < 2 ^ w → Valued.Value (record { 0 = pos (floorValue (rowOf kind) w (q + g) (2 ^ w + x)) }) ≡ valueOf kind w q g x
-    unfolding valueOf wordCheck
-    within h = rw (verdict-append, passed, lt-leb _ _ h)
+    within : x < 2 ^ w → (units : TableUnits) → units ≡ record { 0 = pos (floorValue (rowOf kind) w (q + g) (2 ^ w + x)) }
+        → Promised (Valued.Value units)
+    unfolding valueOf valueVerdict wordCheck
+    within h units e = (rw (verdict-append, passed, lt-leb _ _ h, e), rw (verdict-append, passed, lt-leb _ _ h))
 
-    fits : x < 2 ^ w → Reach (rowOf kind) w (q + g) (2 ^ w + x)
+    fits : x < 2 ^ w → FloorInput (rowOf kind) w (q + g) (2 ^ w + x)
     fits h =
         let widths = widths-of kind w q g passed in
         record {
@@ -87,9 +94,9 @@ floor-value-requires c κs =
 
 returns-3 : tie.Need-returns-3
 returns-3 c =
-    ap Valued.Value (rw (c .before .row-of .ensures, c .before .before .before .pow2 .ensures) at (c .floor-value .ensures))
-    ∙ within _ _ _ _ _ (passed (c .before .before .before .before))
-    (rw (c .before .before .before .pow2 .ensures) at (c .before .before .if1 .left))
+    within _ _ _ _ _ (passed (c .before .before .before .before))
+    (rw (c .before .before .before .pow2 .ensures) at (c .before .before .if1 .left)) _
+    (rw (c .before .row-of .ensures, c .before .before .before .pow2 .ensures) at (c .floor-value .ensures))
 
 pub value-spec : {M : Type 1} → statement M
 value-spec =

@@ -1,13 +1,17 @@
 -- `design::legal::cut_verdict` meets its contract: each answer rewrites with the tests that led there.
 use mathlib.Core.Path.{_≡_}
-use mathlib.Core.Bool.{false}
+use mathlib.Core.Bool.{false, not}
+use Prim.Native.Nat.{_-_}
 use native.Mathlib.Omega.{arith}
 use borrow.Author.Needs.{needs}
 use borrow.Author.Tests.{le-leb, lt-leb, eq-eqb, ne-eqb}
-use lib.Dec.{leb}
-use Rattle.refusal.specs.Checks.{outside}
+use lib.Dec.{leb, eqb}
+use Rattle.refusal.specs.declared.Cause.{Cause}
+use Rattle.refusal.specs.declared.Verdict.{Verdict}
+use Rattle.refusal.specs.Checks.{outside, refuses, verdict}
 use Rattle.refusal.proofs.Checks.{inside, tested}
 use Rattle.design.specs.declared.legal.TableRule.{TableRule}
+use Rattle.design.specs.Cut.{position}
 use Rattle.design.specs.Legal.{someBelow, tableBreaks, cutChecks}
 use Rattle.design.proofs.legal.cut_verdict.Statement.{statement}
 use Rattle.design.proofs.legal.cut_verdict.Tie as tie
@@ -82,31 +86,27 @@ sub-if6 c = search needs
 cast-if6 : tie.Need-cast-if6
 cast-if6 c = search needs
 
-returns-6 : tie.Need-returns-6
+-- only the sum is left to be tested
+sum-left : (c : tie.Else5)
+    → let d = c .before .before .before .before .before .before .before .before .before .before .args .d in
+    verdict (cutChecks d) ≡ refuses (not (eqb (position d (d .m)) (d .w - d .alpha))) Cause.CutSum Verdict.Passed
 unfolding cutChecks
-returns-6 c =
-    let b = c .before .before .before in
+sum-left c =
     rw (
-      alpha-passed (b .before .before .before .before .before .before .before .before),
-      w-passed (b .before .before .before .before .before .before),
-      m-passed (b .before .before .before .before),
-      segments-passed (b .before .before),
-      offsets-passed b,
-      ne-eqb _ _ (rw (c .before .before .offset-bits .ensures) at (c .if6 .taken)),
+      alpha-passed (c .before .before .before .before .before .before .before .before),
+      w-passed (c .before .before .before .before .before .before),
+      m-passed (c .before .before .before .before),
+      segments-passed (c .before .before),
+      offsets-passed c,
     )
 
+returns-6 : tie.Need-returns-6
+returns-6 c =
+    rw (sum-left (c .before .before .before), ne-eqb _ _ (rw (c .before .before .offset-bits .ensures) at (c .if6 .taken)))
+
 returns-7 : tie.Need-returns-7
-unfolding cutChecks
 returns-7 c =
-    let b = c .before .before .before in
-    rw (
-      alpha-passed (b .before .before .before .before .before .before .before .before),
-      w-passed (b .before .before .before .before .before .before),
-      m-passed (b .before .before .before .before),
-      segments-passed (b .before .before),
-      offsets-passed b,
-      eq-eqb _ _ (rw (c .before .before .offset-bits .ensures) at (c .if6 .left)),
-    )
+    rw (sum-left (c .before .before .before), eq-eqb _ _ (rw (c .before .before .offset-bits .ensures) at (c .if6 .left)))
 
 pub cut-verdict-spec : {M : Type 1} → statement M
 cut-verdict-spec =

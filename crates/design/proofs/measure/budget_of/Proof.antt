@@ -49,8 +49,9 @@ pair-at-requires c κs = (c .before .loop-test .taken, limits _ (c .before .befo
 add-position : tie.Need-add-position Inv-loop μ-loop
 add-position c =
     let b = c .before .before .before in
+    let l = limits _ (b .before .before .pre) in
     rw (c .before .pair-at .ensures, b .before .loop .inv .place)
-    (omega (arith, bits-end _ (limits _ (b .before .before .pre)) _ (b .loop-test .taken), limits _ (b .before .before .pre) .widths))
+    (omega (arith, bits-end _ l _ (b .loop-test .taken), l .table _ (b .loop-test .taken), l .alpha-high, l .widths .w-high))
 
 add-i : tie.Need-add-i Inv-loop μ-loop
 add-i c = omega (arith, limits _ (c .before .before .before .before .before .pre) .m-high)

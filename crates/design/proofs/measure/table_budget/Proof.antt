@@ -7,11 +7,11 @@ use native.Mathlib.Omega.{arith}
 use lib.Dec.{lit<}
 use lib.Pow.{pow-pos}
 use Rattle.values.specs.Slopes.{largestSpread}
-use Rattle.values.specs.Reach.{Slopewise}
+use Rattle.values.specs.Inputs.{SlopeInput}
 use Rattle.values.specs.declared.rows.Row.{Row}
 use Rattle.design.specs.declared.Pair.{Pair}
 use Rattle.design.specs.declared.Design.{Design}
-use Rattle.design.specs.Cut.{bOf, row, tableBits, pairAt, position}
+use Rattle.design.specs.Cut.{bOf, row, fractionBits, pairAt, position}
 use Rattle.design.specs.Legal.{Legal}
 use Rattle.design.specs.Budget.{reach, tableBudget}
 use Rattle.design.proofs.LegalLaws.{Limits, limits, slopewise, bits-end}
@@ -26,7 +26,7 @@ module _ (d : Design) (i at high low : ℕ) (pair : Pair) (place : at ≡ positi
   unfolding reach
   reach-is = rw (high-is, low-is, place, pair-is)
 
-  budget-is : (spread : ℕ) (r : Row) → r ≡ row d → spread ≡ largestSpread r (d .w) (tableBits d) (pair .a)
+  budget-is : (spread : ℕ) (r : Row) → r ≡ row d → spread ≡ largestSpread r (d .w) (fractionBits d) (pair .a)
       → (high - 1) * low * spread ≡ tableBudget d i
   unfolding tableBudget
   budget-is spread r row-is spread-is = rw (reach-is, spread-is, row-is, pair-is)
@@ -48,7 +48,7 @@ sub-result c = rw (c .pow2 .ensures) (pow-pos _)
 pow2-requires-2 : tie.Need-pow2-requires-2
 pow2-requires-2 c κs =
     let e = c .before .before .before .pre in
-    rw (e .1 .1) (omega (arith, bits-end _ (limits _ (e .0)) _ (e .1 .0), limits _ (e .0) .widths))
+    omega (arith, e .1 .1, bits-end _ (limits _ (e .0)) _ (e .1 .0), limits _ (e .0) .widths)
 
 mul-result : tie.Need-mul-result
 mul-result c =

@@ -16,8 +16,8 @@ use Rattle.values.proofs.floor.floor_value.Tie as tie
 units : ℤ → TableUnits
 units z = record { 0 = z }
 
-few : {p r : ℕ} → p ≤ 20 → r < 2 ^ (p + 1) → r < 2 ^ 21
-few {p} h b = lt-of-lt-of-le b (pow-mono {i = p + 1} {j = 21} (omega arith))
+few : {n r : ℕ} → n ≤ 21 → r < 2 ^ n → r < 2 ^ 21
+few small b = lt-of-lt-of-le b (pow-mono small)
 
 add-floor-root : tie.Need-add-floor-root
 add-floor-root c = search needs
@@ -29,13 +29,13 @@ floor-root-requires : tie.Need-floor-root-requires
 floor-root-requires c κs = search needs
 
 cast-t8 : tie.Need-cast-t8
-cast-t8 c = record { sfits = omega (arith, few (c .before .before .pre .P-small) (c .floor-root .ensures .1)) }
+cast-t8 c = record { sfits = omega (arith, few (omega arith) (c .floor-root .ensures .1)) }
 
 returns : tie.Need-returns
 unfolding floorValue units
 returns c =
     ap units
-    (toZ-pos w64 _ (omega (arith, few (c .before .before .pre .P-small) (c .floor-root .ensures .1)))
+    (toZ-pos w64 _ (omega (arith, few (omega arith) (c .floor-root .ensures .1)))
     ∙ ap pos (rw (c .before .scaled .ensures) at (c .floor-root .ensures .0)))
 
 pub floor-value-spec : {M : Type 1} → statement M

@@ -8,14 +8,14 @@ use native.Mathlib.Omega.{arith}
 use borrow.Author.Needs.{needs}
 use lib.Pow.{pow-mono, pow-pos}
 use Rattle.values.specs.declared.rows.Row.{Row}
-use Rattle.values.specs.Reach.{Reach}
+use Rattle.values.specs.Inputs.{FloorInput}
 use Rattle.values.specs.Exact.{num, den, valueSide}
 use Rattle.values.specs.Floor as Floor
 use Rattle.values.proofs.Powers.{pow-pow}
 use Rattle.values.proofs.floor.scaled.Statement.{statement}
 use Rattle.values.proofs.floor.scaled.Tie as tie
 
-module _ (row : Row) (w P X : ℕ) (fit : Reach row w P X) where
+module _ (row : Row) (w P X : ℕ) (fit : FloorInput row w P X) where
   one-small : 2 ^ w ≤ 2 ^ 16
   one-small = pow-mono (fit .w-small)
 

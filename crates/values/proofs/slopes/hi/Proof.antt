@@ -1,10 +1,8 @@
 -- `values::slopes::hi` meets its contract: a floor value has at most 21 binary digits, so nothing wraps.
-use native.Mathlib.Nat.{lt-of-le-of-lt}
 use native.Mathlib.Omega.{arith}
 use borrow.Author.Needs.{needs}
-use lib.Dec.{lit<}
 use Rattle.values.specs.Slopes as Slopes
-use Rattle.values.proofs.Bounds.{step-small, step-pos, hi-small}
+use Rattle.values.proofs.Bounds.{step-small, step-pos, quotient-fits}
 use Rattle.values.proofs.slopes.hi.Statement.{statement}
 use Rattle.values.proofs.slopes.hi.Tie as tie
 
@@ -27,7 +25,7 @@ div-result : tie.Need-div-result
 div-result c = step-pos _ _ _ _ (c .before .before .pre)
 
 add-result-2 : tie.Need-add-result-2
-add-result-2 c = record { fits = lt-of-le-of-lt (hi-small _ _ (c .before .floor-count .ensures .1)) (lit< tt) }
+add-result-2 c = record { fits = quotient-fits _ _ _ (omega arith) }
 
 returns : tie.Need-returns
 unfolding Slopes.hi

@@ -1,7 +1,8 @@
 -- `values::slopes::spread` meets its contract: both ends lie on the segment, where Lo is at most Hi.
 use borrow.Author.Needs.{needs}
+use Rattle.values.specs.Inputs.{FloorInput}
 use Rattle.values.specs.Slopes as Slopes
-use Rattle.values.proofs.Bounds.{start-reach, end-reach, lo-below-hi}
+use Rattle.values.proofs.Bounds.{start-input, end-input, lo-below-hi}
 use Rattle.values.proofs.slopes.spread.Statement.{statement}
 use Rattle.values.proofs.slopes.spread.Tie as tie
 
@@ -11,15 +12,19 @@ segment-start-requires c κs = search needs
 segment-end-requires : tie.Need-segment-end-requires
 segment-end-requires c κs = search needs
 
-hi-requires : tie.Need-hi-requires
-hi-requires c κs =
+-- both ends can be asked for
+ends : (c : tie.After-segment-end) → let a = c .before .before .args in
+    FloorInput (a .row) (a .w) (a .p) (c .before .segment-start .result) × FloorInput (a .row) (a .w) (a .p) (c .segment-end .result)
+ends c =
     let e = c .before .before .pre in
-    rw (c .before .segment-start .ensures) (start-reach _ _ _ _ _ (e .0) (e .1))
+    rw (c .segment-end .ensures, c .before .segment-start .ensures)
+    (start-input _ _ _ _ _ (e .0) (e .1), end-input _ _ _ _ _ (e .0) (e .1))
+
+hi-requires : tie.Need-hi-requires
+hi-requires c κs = search (ends c)
 
 lo-requires : tie.Need-lo-requires
-lo-requires c κs =
-    let e = c .before .before .before .pre in
-    rw (c .before .segment-end .ensures) (end-reach _ _ _ _ _ (e .0) (e .1))
+lo-requires c κs = search (ends (c .before))
 
 sub-result : tie.Need-sub-result
 sub-result c =

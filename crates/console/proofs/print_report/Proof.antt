@@ -1,13 +1,10 @@
--- `cases::print_report` is safe: the text lies within its array.
+-- `console::print_report` is safe: the text lies within its array.
 use mathlib.Core.Path.{sym}
 use lib.Seq.{length-take-le}
 use Rattle.report_text.proofs.ReportLaws.{report-counts}
 use borrow.Author.Needs.{needs}
-use Rattle.cases.proofs.print_report.Statement.{statement}
-use Rattle.cases.proofs.print_report.Tie as tie
-
-write-all-requires : tie.Need-write-all-requires
-write-all-requires c κs = search needs
+use Rattle.console.proofs.print_report.Statement.{statement}
+use Rattle.console.proofs.print_report.Tie as tie
 
 report-requires : tie.Need-report-requires
 report-requires c κs = search needs
@@ -18,8 +15,8 @@ array-share-prefix-words c = rw (c .before .report .ensures) (report-counts _)
 slice-aggregate-write-all : tie.Need-slice-aggregate-write-all
 slice-aggregate-write-all c = sym (length-take-le _ _ (array-share-prefix-words (c .before)))
 
-write-all-requires-2 : tie.Need-write-all-requires-2
-write-all-requires-2 c κs = search needs
+write-all-requires : tie.Need-write-all-requires
+write-all-requires c κs = search needs
 
 returns : tie.Need-returns
 returns c = search needs
@@ -28,9 +25,8 @@ pub print-report-spec : {M : Type 1} → statement M
 print-report-spec =
     tie.close
     (tie.spec
-    write-all-requires
     report-requires
     array-share-prefix-words
     slice-aggregate-write-all
-    write-all-requires-2
+    write-all-requires
     returns)

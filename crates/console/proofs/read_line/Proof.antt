@@ -1,11 +1,12 @@
--- `report::read_line` meets its contract: the count stays within the array.
+-- `console::read_line` meets its contract: the count stays within the array.
 use Prim.Native.Nat.{_-_, _≤_}
 use mathlib.Core.Path.{_≡_}
 use native.Mathlib.Omega.{arith}
 use borrow.Author.Needs.{needs}
-use lib.ListN.{length, length-set}
-use Rattle.report.proofs.read_line.Statement.{statement}
-use Rattle.report.proofs.read_line.Tie as tie
+use lib.ListN.{length}
+use Rattle.io.proofs.Counting.{counts}
+use Rattle.console.proofs.read_line.Statement.{statement}
+use Rattle.console.proofs.read_line.Tie as tie
 
 abbrev Inv-loop : tie.InvT-loop
 Inv-loop bytes₀ count₀ bytes count = (count ≤ 33) × (length bytes ≡ 33)
@@ -23,13 +24,13 @@ read-full-requires : tie.Need-read-full-requires Inv-loop μ-loop
 read-full-requires c κs = search needs
 
 returns : tie.Need-returns Inv-loop μ-loop
-returns c = search needs
+returns c = counts _ _ (omega arith)
 
 array-read-b : tie.Need-array-read-b Inv-loop μ-loop
 array-read-b c = search needs
 
 returns-2 : tie.Need-returns-2 Inv-loop μ-loop
-returns-2 c = search needs
+returns-2 c = counts _ _ (omega arith)
 
 array-write-bytes : tie.Need-array-write-bytes Inv-loop μ-loop
 array-write-bytes c = search needs
@@ -44,7 +45,7 @@ loop-again : tie.Need-loop-again Inv-loop μ-loop
 loop-again c = search needs
 
 returns-3 : tie.Need-returns-3 Inv-loop μ-loop
-returns-3 c = search needs
+returns-3 c = counts _ _ (omega arith)
 
 pub read-line-spec : {M : Type 1} → statement M
 read-line-spec =

@@ -1,4 +1,4 @@
--- What an inner call may count on: a row of the table, widths within document 01's limits, and X for some input word.
+-- What inner calls may count on. Their callers are proved to see to it.
 use Prim.Native.Nat.{ℕ, _+_, _*_, _^_, _≤_, _<_}
 use Rattle.values.specs.declared.rows.Row.{Row}
 use Rattle.values.specs.Rows.{Lawful}
@@ -8,20 +8,21 @@ pub record InRange (w X : ℕ) : Type 0 where
   pub low : 2 ^ w ≤ X
   pub high : X < 2 ^ w * 2
 
-pub record Reach (row : Row) (w P X : ℕ) : Type 0 where
+-- A floor value is asked for: of a row of the table, at widths within document 01's limits, for some input word.
+pub record FloorInput (row : Row) (w P X : ℕ) : Type 0 where
   pub lawful : Lawful row
   pub w-small : w ≤ 16
   pub P-small : P ≤ 20
   pub range : InRange w X
 
--- The segment of a value of the top a bits of an input word
-pub record Segment (w a A : ℕ) : Type 0 where
+-- A segment is asked for: of a value A of the top a bits of an input word.
+pub record SegmentInput (w a A : ℕ) : Type 0 where
   pub w-small : w ≤ 16
   pub a-small : a ≤ w
   pub A-small : A < 2 ^ a
 
--- A row and widths at which slopes over segments of a bits are asked for
-pub record Slopewise (row : Row) (w P a : ℕ) : Type 0 where
+-- Slopes over the segments of the top a bits are asked for.
+pub record SlopeInput (row : Row) (w P a : ℕ) : Type 0 where
   pub lawful : Lawful row
   pub w-small : w ≤ 16
   pub P-small : P ≤ 20
