@@ -11,7 +11,7 @@ use Rattle.design.specs.declared.Design.{Design}
 
 -- Of a frame, given as its bytes and their number: "01: kind, w, q, g, alpha, m, then a_i, b_i (a byte each); 8 + 2m bytes by
 -- its own m". Byte 0 is the frame kind, byte 6 is m, the last is the sum byte. A frame too short to hold its m fails, whatever is
--- read for byte 6: it has fewer than 8 bytes.
+-- read for byte 6: it has fewer than 8 bytes. (A count that no line can have may pass here; `decode` gives none above 16.)
 unfoldable pub frameFails : List ℕ → ℕ → Bool
 frameFails bytes count = not (eqb (getD bytes 0 0) 1) || not (eqb count (8 + 2 * getD bytes 6 0))
 

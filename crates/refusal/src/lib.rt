@@ -25,7 +25,7 @@ pub enum Cause {
     LineNumber,
 }
 
-// What a row of checks comes to: nothing turned the input down, or the first check that did.
+// What a list of checks comes to: nothing turned the input down, or the first check that did.
 pub enum Verdict {
     Passed,
     Refused(Cause),

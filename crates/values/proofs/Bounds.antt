@@ -62,8 +62,12 @@ module _ (row : Row) (w P a A : ℕ) (fit : SlopeInput row w P a) (A-lt : A < 2 
   pub end-input : FloorInput row w P (segmentEnd w a A)
   end-input = on-input (segmentEnd w a A) (end-on w a A (fit .a-small) A-lt)
 
-  pub lo-below-hi : lo row w P (segmentEnd w a A) ≤ hi row w P (segmentStart w a A)
-  lo-below-hi = lo-le-hi w a A (fit .a-small) A-lt row (fit .lawful) P (segmentStart w a A) (start-on w a A (fit .a-small) A-lt)
+  pub ordered : (lo row w P (segmentStart w a A) ≤ hi row w P (segmentStart w a A))
+      × (lo row w P (segmentEnd w a A) ≤ hi row w P (segmentStart w a A))
+  ordered = (
+    lo-le-hi w a A (fit .a-small) A-lt row (fit .lawful) P _ (start-on w a A (fit .a-small) A-lt),
+    lo-le-hi w a A (fit .a-small) A-lt row (fit .lawful) P _ (end-on w a A (fit .a-small) A-lt),
+  )
 
   pub spread-small : spread row w P a A ≤ 2 ^ 38
   unfolding spread hi

@@ -143,12 +143,14 @@ module _ (w a A : ℕ) (a-le : a ≤ w) (A-lt : A < 2 ^ a) where
         flatter-earlier row lawful w P _ X _ (on .to) (range-pos (on-range X on))
         (lo-at-end row lawful w P _ (on-range (segmentEnd w a A) end-on))
 
-    pub lo-le-hi : lo row w P (segmentEnd w a A) ≤ hi row w P (segmentStart w a A)
+    -- Lo at any X of the segment, its end among them, is at most Hi.
+    pub lo-le-hi : lo row w P X ≤ hi row w P (segmentStart w a A)
     lo-le-hi =
         let range = on-range X on in
         omega (
           arith,
           le-of-mul-le-mul-left
-              (le-of-mul-le-mul-right (number-cancel row lawful w X range (le-trans lo-flatter hi-steeper)) (range-pos range))
+              (le-of-mul-le-mul-right
+              (number-cancel row lawful w X range (le-trans (lo-at-end row lawful w P X range) hi-steeper)) (range-pos range))
               (lawful .k-pos),
         )

@@ -2,7 +2,7 @@
 use borrow.Author.Needs.{needs}
 use Rattle.values.specs.Inputs.{FloorInput}
 use Rattle.values.specs.Slopes as Slopes
-use Rattle.values.proofs.Bounds.{start-input, end-input, lo-below-hi}
+use Rattle.values.proofs.Bounds.{start-input, end-input, ordered}
 use Rattle.values.proofs.slopes.spread.Statement.{statement}
 use Rattle.values.proofs.slopes.spread.Tie as tie
 
@@ -30,8 +30,8 @@ sub-result : tie.Need-sub-result
 sub-result c =
     let b = c .before .before in
     let e = b .before .before .pre in
-    rw (c .lo .ensures, c .before .hi .ensures, b .segment-end .ensures, b .before .segment-start .ensures)
-    (lo-below-hi _ _ _ _ _ (e .0) (e .1))
+    rw (c .lo .ensures, c .before .hi .ensures)
+    (search (rw (← b .segment-end .ensures, ← b .before .segment-start .ensures) at (ordered _ _ _ _ _ (e .0) (e .1))))
 
 returns : tie.Need-returns
 unfolding Slopes.spread
