@@ -1,7 +1,7 @@
 -- What legality tells of a design.
-use mathlib.Core.Path.{_≡_, refl, sym, _∙_}
-use mathlib.Core.Bool.{Bool, true, false}
-use Prim.Native.Nat.{ℕ, zero, suc, _+_, _-_, _*_, _^_, _≤_, _<_}
+use mathlib.Core.Path.{_≡_}
+use mathlib.Core.Bool.{false}
+use Prim.Native.Nat.{ℕ, _+_, _-_, _≤_, _<_}
 use native.Mathlib.Omega.{arith}
 use borrow.Author.Tests.{ltb-false, leb-false, eqb-true, not-false}
 use Rattle.refusal.proofs.Checks.{passed-append, none-fails, neither, inside}
@@ -12,7 +12,7 @@ use Rattle.values.proofs.WidthLaws.{Widths, widths-of, row-lawful}
 use Rattle.design.specs.declared.Design.{Design}
 use Rattle.design.specs.declared.legal.TableRule.{TableRule}
 use Rattle.design.specs.Cut.{aOf, bOf, row, fractionBits, position}
-use Rattle.design.specs.Legal.{someBelow, breaks, tableBreaks, cutChecks, designChecks, designVerdict, Legal}
+use Rattle.design.specs.Legal.{breaks, tableBreaks, cutChecks, designChecks, designVerdict, Legal}
 use Rattle.design.proofs.Sums.{none-below, sum-step}
 
 -- A table that lies within document 01's limits

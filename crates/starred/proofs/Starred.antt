@@ -5,10 +5,8 @@ use mathlib.Core.List.{[], _∷_}
 use Prim.Native.Nat.{ℕ}
 use lib.Dec.{lit<}
 use lib.IntN.{pos}
-use Rattle.refusal.specs.declared.Verdict.{Verdict}
 use Rattle.values.specs.declared.Valued.{Valued}
 use Rattle.values.specs.Value.{valueOf}
-use Rattle.values.proofs.Opened.{values-opened}
 use Rattle.design.specs.declared.Pair.{Pair}
 use Rattle.design.specs.declared.Design.{Design}
 use Rattle.design.specs.Legal.{Legal}

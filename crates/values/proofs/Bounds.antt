@@ -1,11 +1,10 @@
 -- How large the numbers of an inner call can get, so that nothing wraps.
-use mathlib.Core.Path.{_≡_}
 use Prim.Native.Nat.{ℕ, suc, _+_, _-_, _*_, _/_, _^_, _≤_, _<_}
 use native.Mathlib.Nat.{mul-le-mul, le-trans, lt-of-lt-of-le, one-le-mul, div-le-self}
 use native.Mathlib.Omega.{arith}
 use lib.Pow.{pow-mono, pow-pos}
 use Rattle.values.specs.declared.rows.Row.{Row}
-use Rattle.values.specs.Inputs.{InRange, FloorInput, SegmentInput, SlopeInput}
+use Rattle.values.specs.Inputs.{FloorInput, SegmentInput, SlopeInput}
 use Rattle.values.specs.Floor.{floorValue}
 use Rattle.values.specs.Slopes.{segmentStart, segmentEnd, hi, lo, spread}
 use Rattle.values.proofs.FloorLaws.{floor-high}

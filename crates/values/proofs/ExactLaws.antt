@@ -1,34 +1,15 @@
 -- Laws of the one inequality: it is monotone, it can be rescaled, and the exact value lies between two powers of two.
-use mathlib.Core.Path.{_≡_, refl, sym, ap, _∙_}
+use mathlib.Core.Path.{_≡_, refl, ap, _∙_}
 use mathlib.Core.Bool.{Bool, true, false, cond}
 use Prim.Native.Nat.{ℕ, zero, suc, _+_, _*_, _^_, _≤_, _<_}
-use native.Mathlib.Nat.{
-  pow-suc,
-  mul-comm,
-  mul-assoc,
-  mul-right-comm,
-  mul-le-mul,
-  mul-le-mul-left,
-  mul-le-mul-right,
-  mul-lt-mul-of-pos-left,
-  pow-le-pow-left,
-  mul-zero,
-  le-of-mul-le-mul-right,
-  not-le-of-lt,
-  lt-of-not-le,
-  le-of-lt,
-  le-trans,
-  le-refl,
-  lt-of-lt-of-le,
-  one-le-pow,
-}
+use native.Mathlib.Nat.{pow-suc, mul-comm, mul-assoc, mul-le-mul-left, mul-le-mul-right, mul-lt-mul-of-pos-left, pow-le-pow-left, mul-zero, le-of-mul-le-mul-right, not-le-of-lt, lt-of-not-le, le-of-lt, le-trans, one-le-pow}
 use native.Mathlib.Omega.{arith}
 use native.Mathlib.Numerals.{add-one}
 use lib.Pow.{pow-add, pow-pos}
 use Rattle.values.specs.declared.rows.Row.{Row}
 use Rattle.values.specs.Rows.{Lawful}
 use Rattle.values.specs.Inputs.{InRange}
-use Rattle.values.specs.Exact.{num, den, numberSide, valueSide, AtMost, LessThan, AtLeast, MoreThan}
+use Rattle.values.specs.Exact.{num, den, numberSide, valueSide, AtMost, MoreThan}
 use Rattle.values.proofs.Powers.{pow-mul, pow-swap, pow-cancel}
 
 -- "k ≥ 1" as a successor

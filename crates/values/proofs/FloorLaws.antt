@@ -1,34 +1,17 @@
 -- The floor value is the greatest number that is at most the exact value, for every row, width and P.
-use mathlib.Core.Path.{_≡_, refl, sym, ap, _∙_}
+use mathlib.Core.Path.{_≡_, refl}
 use mathlib.Core.Bool.{Bool, true, false, cond}
-use Prim.Native.Nat.{ℕ, zero, suc, _+_, _*_, _/_, _^_, _≤_, _<_}
-use native.Mathlib.Nat.{
-  le-trans,
-  le-refl,
-  lt-of-le-of-lt,
-  lt-of-lt-of-le,
-  pow-le-pow-left,
-  not-le-of-lt,
-  lt-of-not-le,
-  le-div-iff-mul-le,
-  div-lt-iff-lt-mul,
-  two-pow-succ,
-  add-assoc,
-  pow-suc,
-  mul-zero,
-  zero-add,
-}
+use Prim.Native.Nat.{ℕ, zero, suc, _+_, _^_, _≤_, _<_}
+use native.Mathlib.Nat.{le-trans, pow-le-pow-left, not-le-of-lt, lt-of-not-le, le-div-iff-mul-le, div-lt-iff-lt-mul, two-pow-succ, add-assoc, pow-suc, mul-zero, zero-add}
 use native.Mathlib.Decide.{decLe}
-use native.Mathlib.Numerals.{add-one}
 use native.Mathlib.Omega.{arith}
 use lib.Dec.{leb}
 use borrow.Author.Tests.{leb-true, leb-false, le-leb, lt-leb}
 use Rattle.values.specs.declared.rows.Row.{Row}
 use Rattle.values.specs.Rows.{Lawful}
 use Rattle.values.specs.Inputs.{InRange}
-use Rattle.values.specs.Exact.{num, den, numberSide, valueSide, AtMost, LessThan, AtLeast, MoreThan, Greatest}
+use Rattle.values.specs.Exact.{numberSide, AtMost, MoreThan, Greatest}
 use Rattle.values.specs.Floor.{rootFrom, scaled, floorValue}
-use Rattle.values.proofs.Powers.{pow-cancel}
 use Rattle.values.proofs.ExactLaws.{degree, den-pos, value-high, below}
 
 -- r is the k-th root of the limit, rounded down

@@ -1,7 +1,6 @@
 -- Inequalities of powers, for every degree. A degree k ≥ 1 is written suc j, so that a^(k-1) is a^j.
 use mathlib.Core.Path.{_≡_, refl, sym, ap, _∙_}
-use mathlib.Core.Logic.{_≢_}
-use Prim.Native.Nat.{ℕ, zero, suc, _+_, _*_, _^_, _≤_, _<_}
+use Prim.Native.Nat.{ℕ, zero, suc, _+_, _*_, _^_, _≤_}
 use native.Mathlib.Nat.{
   pow-zero,
   pow-suc,

@@ -1,35 +1,19 @@
 -- Hi and Lo bound the slope of the exact value on a segment. The slope at X is E(X) / (k·X), and it falls as X grows, for both
 -- signs. In units of 2^-18 table units a step, h is at least the slope at X when k·h·X is at least 2^18·E(X), and 4·Hi is such an h.
-use mathlib.Core.Path.{_≡_, refl, sym, ap, _∙_}
+use mathlib.Core.Path.{sym, ap, _∙_}
 use mathlib.Core.Bool.{Bool, true, false, cond}
-use Prim.Native.Nat.{ℕ, zero, suc, _+_, _-_, _*_, _/_, _^_, _≤_, _<_}
-use native.Mathlib.Nat.{
-  le-trans,
-  le-refl,
-  le-of-lt,
-  lt-of-lt-of-le,
-  mul-le-mul,
-  mul-le-mul-left,
-  mul-le-mul-right,
-  le-of-mul-le-mul-right,
-  pow-le-pow-left,
-  lt-mul-div-succ,
-  mul-div-le,
-  one-le-mul,
-  le-of-eq,
-  add-sub-of-le,
-  le-of-mul-le-mul-left,
-}
+use Prim.Native.Nat.{ℕ, suc, _+_, _-_, _*_, _^_, _≤_, _<_}
+use native.Mathlib.Nat.{le-trans, le-refl, le-of-lt, mul-le-mul, mul-le-mul-left, mul-le-mul-right, le-of-mul-le-mul-right, pow-le-pow-left, lt-mul-div-succ, mul-div-le, one-le-mul, le-of-eq, add-sub-of-le, le-of-mul-le-mul-left}
 use native.Mathlib.Omega.{arith}
 use lib.Pow.{pow-add, pow-pos}
 use Rattle.values.specs.declared.rows.Row.{Row}
 use Rattle.values.specs.Rows.{Lawful}
 use Rattle.values.specs.Inputs.{InRange}
-use Rattle.values.specs.Exact.{num, den, numberSide, valueSide, AtMost, LessThan, AtLeast, MoreThan, Greatest}
+use Rattle.values.specs.Exact.{num, den, numberSide, valueSide, AtMost, AtLeast}
 use Rattle.values.specs.Floor.{floorValue}
-use Rattle.values.specs.Slopes.{segmentStart, segmentEnd, hi, lo, spread}
-use Rattle.values.proofs.Powers.{pow-mul, pow-cancel, power-grows}
-use Rattle.values.proofs.ExactLaws.{degree, den-pos, number-mono, number-cancel, at-most-finer, more-than-finer}
+use Rattle.values.specs.Slopes.{segmentStart, segmentEnd, hi, lo}
+use Rattle.values.proofs.Powers.{pow-mul, power-grows}
+use Rattle.values.proofs.ExactLaws.{degree, number-mono, number-cancel, at-most-finer, more-than-finer}
 use Rattle.values.proofs.FloorLaws.{floor-greatest, floor-next}
 
 -- h is at least, at most the slope at X

@@ -2,7 +2,7 @@
 -- The proofs show that sentence of the definition below, which the checker can compute: n is at most E(X) exactly when
 -- n^k ≤ floor((2^k)^P·num / den), and the greatest such n is found a binary digit at a time.
 use mathlib.Core.Bool.{cond}
-use Prim.Native.Nat.{ℕ, zero, suc, _+_, _*_, _/_, _^_}
+use Prim.Native.Nat.{ℕ, zero, suc, _+_, _/_, _^_}
 use lib.Dec.{leb}
 use Rattle.values.specs.declared.rows.Row.{Row}
 use Rattle.values.specs.Exact.{den, valueSide}

@@ -1,5 +1,5 @@
 -- What the call `value` answers: "values 1 to 4, 12", else L(X) in table units. "The input word x .. stands for X = 2^w + x."
-use mathlib.Core.List.{List, [], _∷_, _++_}
+use mathlib.Core.List.{[], _∷_, _++_}
 use Prim.Native.Nat.{ℕ, _+_, _^_}
 use lib.Dec.{leb}
 use lib.IntN.{pos}

@@ -1,6 +1,6 @@
 // Segments, and the bounds Hi and Lo of the slope on each.
 ghost use mathlib.Core.Path.{_≡_};
-ghost use Prim.Native.Nat.{ℕ, _+_, _*_, _^_, _<_, _≤_};
+ghost use Prim.Native.Nat.{_+_, _*_, _^_, _<_};
 ghost use Rattle.values.specs.Floor.{floorValue};
 ghost use Rattle.values.specs.Slopes.{segmentStart, segmentEnd, spread, largestSpread};
 ghost use Rattle.values.specs.Slopes as Slopes;

@@ -1,11 +1,9 @@
 -- `design::budget` meets its contract: the verdict's refusal, or the budget of a legal design.
-use mathlib.Core.Path.{_≡_, sym, ap, _∙_}
+use mathlib.Core.Path.{sym, ap, _∙_}
 use borrow.Author.Needs.{needs}
-use Rattle.refusal.specs.declared.Verdict.{Verdict}
 use Rattle.design.specs.declared.Measured.{Measured}
-use Rattle.design.specs.Budget as Budget
-use Rattle.design.specs.Legal.{Legal, designVerdict}
-use Rattle.design.specs.Answers.{measured, budgetAnswer}
+use Rattle.design.specs.Legal.{Legal}
+use Rattle.design.specs.Answers.{budgetAnswer}
 use Rattle.design.proofs.budget.Statement.{statement}
 use Rattle.design.proofs.budget.Tie as tie
 

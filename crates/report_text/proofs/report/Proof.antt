@@ -1,12 +1,11 @@
 -- `report_text::report` meets its contract: the verdict of each check in turn, and the numbers of a design that passed them all.
-use mathlib.Core.Path.{_≡_, sym, ap, _∙_}
-use mathlib.Core.List.{List}
+use mathlib.Core.Path.{_≡_, sym, _∙_}
 use Prim.Native.Nat.{ℕ}
 use borrow.Author.Needs.{needs}
 use Rattle.refusal.specs.declared.Verdict.{Verdict}
 use Rattle.refusal.specs.Checks.{verdict}
 use Rattle.design.specs.declared.Design.{Design}
-use Rattle.design.specs.Legal.{Legal, designVerdict}
+use Rattle.design.specs.Legal.{Legal}
 use lib.Dec.{ltb}
 use lib.ListN.{length}
 use Rattle.design.specs.Budget.{budget, limit, withinLimit, size}

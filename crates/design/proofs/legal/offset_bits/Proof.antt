@@ -1,6 +1,6 @@
 -- `design::legal::offset_bits` meets its contract: after n turns `bits` is the sum of the first n.
 use mathlib.Core.Path.{_≡_, refl, sym, ap₂, _∙_}
-use Prim.Native.Nat.{ℕ, _+_, _*_, _-_, _^_, _≤_}
+use Prim.Native.Nat.{_+_, _*_, _-_, _^_, _≤_}
 use native.Mathlib.Omega.{arith}
 use borrow.Author.Needs.{needs}
 use Rattle.design.specs.Cut.{bOf, sumBelow, position}

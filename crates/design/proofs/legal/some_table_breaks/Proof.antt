@@ -4,7 +4,6 @@ use mathlib.Core.Bool.{Bool}
 use mathlib.Core.Logic.{⊎-elim}
 use Prim.Native.Nat.{_-_, _≤_}
 use native.Mathlib.Omega.{arith}
-use borrow.Author.Needs.{needs}
 use Rattle.design.specs.Legal.{someBelow, tableBreaks}
 use Rattle.design.proofs.Sums.{some-here, some-not-here}
 use Rattle.design.proofs.legal.some_table_breaks.Statement.{statement}

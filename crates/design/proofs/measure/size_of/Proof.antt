@@ -5,7 +5,7 @@ use native.Mathlib.Nat.{add-zero, add-assoc}
 use native.Mathlib.Omega.{arith}
 use lib.Pow.{pow-mono}
 use Rattle.design.specs.declared.Design.{Design}
-use Rattle.design.specs.Cut.{aOf, bOf, sumBelow, initialCount, offsetCount, tableStart, offsetTotal}
+use Rattle.design.specs.Cut.{sumBelow, initialCount, offsetCount, tableStart, offsetTotal}
 use Rattle.design.specs.Budget.{size}
 use Rattle.design.proofs.Sums.{sum-next}
 use Rattle.design.proofs.LegalLaws.{limits}

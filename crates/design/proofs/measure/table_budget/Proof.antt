@@ -1,20 +1,18 @@
 -- `design::measure::table_budget` meets its contract. The product of the two powers is D_i, below 2^14, and the slopes spread by at
 -- most 2^38.
-use mathlib.Core.Path.{_≡_, ap₂}
-use Prim.Native.Nat.{ℕ, _-_, _*_, _^_, _≤_, _<_}
+use mathlib.Core.Path.{_≡_}
+use Prim.Native.Nat.{ℕ, _-_, _*_, _^_, _<_}
 use native.Mathlib.Nat.{lt-trans, lt-of-le-of-lt}
 use native.Mathlib.Omega.{arith}
 use lib.Dec.{lit<}
 use lib.Pow.{pow-pos}
 use Rattle.values.specs.Slopes.{largestSpread}
-use Rattle.values.specs.Inputs.{SlopeInput}
 use Rattle.values.specs.declared.rows.Row.{Row}
 use Rattle.design.specs.declared.Pair.{Pair}
 use Rattle.design.specs.declared.Design.{Design}
-use Rattle.design.specs.Cut.{bOf, row, fractionBits, pairAt, position}
-use Rattle.design.specs.Legal.{Legal}
+use Rattle.design.specs.Cut.{row, fractionBits, pairAt, position}
 use Rattle.design.specs.Budget.{reach, tableBudget}
-use Rattle.design.proofs.LegalLaws.{Limits, limits, slopewise, bits-end}
+use Rattle.design.proofs.LegalLaws.{limits, slopewise, bits-end}
 use Rattle.design.proofs.BudgetLaws.{reach-small, table-budget-small}
 use Rattle.design.proofs.measure.table_budget.Statement.{statement}
 use Rattle.design.proofs.measure.table_budget.Tie as tie

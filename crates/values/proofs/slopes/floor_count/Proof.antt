@@ -1,5 +1,5 @@
 -- `values::slopes::floor_count` meets its contract: the floor value is not negative, and below 2^21.
-use mathlib.Core.Path.{_≡_, ap, _∙_}
+use mathlib.Core.Path.{ap, _∙_}
 use borrow.Author.Needs.{needs}
 use lib.IntN.{natAbs}
 use Rattle.values.specs.declared.TableUnits.{TableUnits}
