@@ -1,1 +1,2 @@
+-- Document 01's starred examples.
 pub mod Starred

@@ -1,3 +1,4 @@
+-- `refusal::number` meets its contract: in each arm the cause is the one that the arm names.
 use mathlib.Core.Path.{sym, ap}
 use borrow.Author.Needs.{needs}
 use Rattle.refusal.specs.Numbers.{numberOf}
