@@ -1,6 +1,7 @@
 // Budget, limit and size of a legal design.
 ghost use mathlib.Core.Path.{_≡_};
 ghost use Prim.Native.Nat.{_<_};
+ghost use Rattle.design.specs.Cut.{offsetTotal};
 ghost use Rattle.design.specs.Cut as Cut;
 ghost use Rattle.design.specs.Legal.{Legal};
 ghost use Rattle.design.specs.Budget.{tableBudget, budget, limit, size};
@@ -44,16 +45,24 @@ pub fn limit_of(d: Design) -> u64
     pow2(d.g + 17)
 }
 
+// inner: the number of offsets of a legal design, all tables together.
+pub fn offset_total(d: Design) -> u64
+    requires { ⌜ Legal d ⌝ }
+    ensures { λ r. ⌜ r ≡ offsetTotal d ⌝ }
+{
+    let m = d.m;
+    let mut entries = 0;
+    for i in 0..m {
+        let pair = pair_at(d, i);
+        entries += pow2(pair.a + pair.b);
+    }
+    entries
+}
+
 // inner: the size in bits of a legal design.
 pub fn size_of(d: Design) -> u64
     requires { ⌜ Legal d ⌝ }
     ensures { λ r. ⌜ r ≡ size d ⌝ }
 {
-    let m = d.m;
-    let mut entries = pow2(d.alpha);
-    for i in 0..m {
-        let pair = pair_at(d, i);
-        entries += pow2(pair.a + pair.b);
-    }
-    24 * entries
+    24 * (pow2(d.alpha) + offset_total(d))
 }

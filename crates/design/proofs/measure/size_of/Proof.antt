@@ -1,108 +1,35 @@
--- `design::measure::size_of` meets its contract: after n turns `entries` counts the initial entries and the first n tables.
-use mathlib.Core.Path.{_≡_, sym, _∙_}
-use Prim.Native.Nat.{ℕ, _+_, _*_, _-_, _^_, _≤_}
-use native.Mathlib.Nat.{add-zero, add-assoc}
+-- `design::measure::size_of` meets its contract: 24 bits for each initial entry and each offset.
+use Prim.Native.Nat.{_≤_}
 use native.Mathlib.Omega.{arith}
-use lib.Pow.{pow-mono}
-use Rattle.design.specs.declared.Design.{Design}
-use Rattle.design.specs.Cut.{sumBelow, initialCount, offsetCount, tableStart, offsetTotal}
+use Rattle.design.specs.Cut.{initialCount}
 use Rattle.design.specs.Budget.{size}
-use Rattle.design.proofs.Sums.{sum-next}
 use Rattle.design.proofs.LegalLaws.{limits}
-use Rattle.design.proofs.CutLaws.{initial-count-small}
+use Rattle.design.proofs.CutLaws.{initial-count-small, offset-total-small}
 use Rattle.design.proofs.measure.size_of.Statement.{statement}
 use Rattle.design.proofs.measure.size_of.Tie as tie
 
-record Inv (d : Design) (entries i : ℕ) : Type 0 where
-  count : entries ≡ initialCount d + tableStart d i
-  within : i ≤ d .m
-  small : entries ≤ 2 ^ 13 + i * 2 ^ 12
-
-abbrev Inv-loop : tie.InvT-loop
-Inv-loop d m entries₀ i₀ entries i =
-    Inv d entries i
-
-abbrev μ-loop : tie.MeasureT-loop
-μ-loop d m entries₀ i₀ entries i = m - i
-
-pow2-requires : tie.Need-pow2-requires Inv-loop μ-loop
+pow2-requires : tie.Need-pow2-requires
 pow2-requires c κs = omega (arith, limits _ (c .pre))
 
-one-more : (d : Design) (i entries more : ℕ) → entries ≡ initialCount d + tableStart d i → more ≡ offsetCount d i
-    → entries + more ≡ initialCount d + tableStart d (i + 1)
-unfolding tableStart
-one-more d i entries more e f = rw (e, f, sum-next, add-assoc)
+offset-total-requires : tie.Need-offset-total-requires
+offset-total-requires c κs = c .before .pre
 
-loop-holds : tie.Need-loop-holds Inv-loop μ-loop
-unfolding sumBelow tableStart initialCount
-loop-holds c =
-    record {
-      count = c .pow2 .ensures ∙ sym (add-zero _);
-      within = omega arith;
-      small = rw (c .pow2 .ensures) (omega (arith, initial-count-small _ (limits _ (c .before .pre))));
-    }
+-- at most 8192 initial entries and 16384 offsets
+few : (c : tie.After-offset-total) → (c .before .pow2 .result ≤ 8192) × (c .offset-total .result ≤ 16384)
+unfolding initialCount
+few c =
+    let l = limits _ (c .before .before .pre) in
+    (rw (c .before .pow2 .ensures) (initial-count-small _ l), rw (c .offset-total .ensures) (offset-total-small _ l))
 
-pair-at-requires : tie.Need-pair-at-requires Inv-loop μ-loop
-pair-at-requires c κs = (c .loop-test .taken, limits _ (c .before .before .before .pre) .m-high)
+add-result : tie.Need-add-result
+add-result c = omega (arith, few c)
 
--- the bits of this turn's table
-few-bits : (c : tie.After-struct-known Inv-loop μ-loop) → c .before .pair-at .result .a + c .before .pair-at .result .b ≤ 12
-few-bits c =
-    rw (c .before .pair-at .ensures)
-    (limits _ (c .before .before .before .before .before .pre) .table _ (c .before .before .loop-test .taken) .sum-high)
+mul-result : tie.Need-mul-result
+mul-result c = omega (arith, few c)
 
-add-pow2 : tie.Need-add-pow2 Inv-loop μ-loop
-add-pow2 c = omega (arith, few-bits c)
-
-pow2-requires-2 : tie.Need-pow2-requires-2 Inv-loop μ-loop
-pow2-requires-2 c κs = omega (arith, few-bits c)
-
--- and the number of its entries
-few-entries : (c : tie.After-pow22 Inv-loop μ-loop) → c .pow22 .result ≤ 2 ^ 12
-few-entries c = rw (c .pow22 .ensures) (pow-mono (few-bits (c .before)))
-
-add-entries : tie.Need-add-entries Inv-loop μ-loop
-add-entries c = omega (arith, few-entries c, limits _ (c .before .before .before .before .before .before .pre) .m-high)
-
-add-i : tie.Need-add-i Inv-loop μ-loop
-add-i c = omega (arith, limits _ (c .before .before .before .before .before .before .pre) .m-high)
-
-loop-less : tie.Need-loop-less Inv-loop μ-loop
-loop-less c = omega arith
-
-loop-again : tie.Need-loop-again Inv-loop μ-loop
-unfolding offsetCount
-loop-again c =
-    let inv = c .before .before .before .before .loop .inv in
-    record {
-      count = one-more _ _ _ _ (inv .count) (rw (c .before .before .pair-at .ensures) at (c .pow22 .ensures));
-      within = omega arith;
-      small = omega (arith, few-entries c, inv .small);
-    }
-
-mul-result : tie.Need-mul-result Inv-loop μ-loop
-mul-result c = omega (arith, limits _ (c .before .before .before .pre) .m-high)
-
-returns : tie.Need-returns Inv-loop μ-loop
-unfolding size offsetTotal
-returns c =
-    let e : c .before .loop .i ≡ c .before .before .before .args .d .m = omega arith in
-    rw (rw e at (c .before .loop .inv .count))
+returns : tie.Need-returns
+unfolding size initialCount
+returns c = rw (c .before .pow2 .ensures, c .offset-total .ensures)
 
 pub size-of-spec : {M : Type 1} → statement M
-size-of-spec =
-    tie.close
-    (tie.spec
-    Inv-loop
-    μ-loop
-    pow2-requires
-    loop-holds
-    pair-at-requires
-    add-pow2
-    pow2-requires-2
-    add-entries
-    add-i
-    loop-less
-    loop-again
-    mul-result
-    returns)
+size-of-spec = tie.close (tie.spec pow2-requires offset-total-requires add-result mul-result returns)

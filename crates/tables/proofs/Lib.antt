@@ -1,0 +1,2 @@
+-- Laws of table sets, one file a subject.
+pub mod SetLaws

@@ -1,0 +1,53 @@
+-- What refusals 1 to 10 come to, and what a set that passes them tells.
+use mathlib.Core.Path.{_≡_}
+use mathlib.Core.Bool.{Bool, true, false, _||_}
+use mathlib.Core.List.{[], _∷_}
+use Prim.Native.Nat.{ℕ, _≤_, _<_}
+use lib.Dec.{ltb}
+use borrow.Author.Tests.{ltb-false, lt-ltb, le-ltb}
+use Rattle.refusal.specs.declared.Cause.{Cause}
+use Rattle.refusal.specs.declared.Verdict.{Verdict}
+use Rattle.refusal.specs.Checks.{verdict, refuses}
+use Rattle.refusal.proofs.Checks.{verdict-append, passed-append, none-fails, neither}
+use Rattle.design.specs.declared.Design.{Design}
+use Rattle.design.specs.Cut.{initialCount, offsetTotal}
+use Rattle.design.specs.Legal.{designChecks, designVerdict, Legal}
+use Rattle.tables.specs.Fill.{tablesCheck, setChecks}
+
+-- A legal design with tables long enough for it
+pub record Usable (d : Design) (initial offsets : ℕ) : Type 0 where
+  pub legal : Legal d
+  pub initial-long : initialCount d ≤ initial
+  pub offsets-long : offsetTotal d ≤ offsets
+
+module _ (d : Design) (initial offsets : ℕ) where
+  pub set-refused : (cause : Cause) → designVerdict d ≡ Verdict.Refused cause → verdict (setChecks d initial offsets) ≡ Verdict.Refused cause
+  unfolding setChecks designVerdict
+  set-refused cause e = rw (verdict-append, e)
+
+  -- what a legal design's tables are tried for
+  too-short : (short : Bool) → Legal d → ltb initial (initialCount d) || ltb offsets (offsetTotal d) ≡ short
+      → verdict (setChecks d initial offsets) ≡ refuses short Cause.TablesShort Verdict.Passed
+  unfolding setChecks designVerdict tablesCheck
+  too-short short legal e = rw (verdict-append, legal, e)
+
+  pub initial-short : Legal d → initial < initialCount d → verdict (setChecks d initial offsets) ≡ Verdict.Refused Cause.TablesShort
+  initial-short legal h = too-short true legal (rw (lt-ltb _ _ h))
+
+  pub offsets-short : Legal d → initialCount d ≤ initial → offsets < offsetTotal d
+      → verdict (setChecks d initial offsets) ≡ Verdict.Refused Cause.TablesShort
+  offsets-short legal h k = too-short true legal (rw (le-ltb _ _ h, lt-ltb _ _ k))
+
+  pub set-passed : Usable d initial offsets → verdict (setChecks d initial offsets) ≡ Verdict.Passed
+  set-passed u = too-short false (u .legal) (rw (le-ltb _ _ (u .initial-long), le-ltb _ _ (u .offsets-long)))
+
+  pub usable : verdict (setChecks d initial offsets) ≡ Verdict.Passed → Usable d initial offsets
+  unfolding setChecks designVerdict tablesCheck
+  usable e =
+      let lists = passed-append (designChecks d) (tablesCheck d initial offsets ∷ []) e in
+      let long = neither _ _ (none-fails (tablesCheck d initial offsets ∷ []) (lists .1) .0) in
+      record {
+        legal = lists .0;
+        initial-long = ltb-false _ _ (long .0);
+        offsets-long = ltb-false _ _ (long .1);
+      }

@@ -1,0 +1,65 @@
+-- What the call `evaluate_batch` answers, "for a batch 14, then 12 and 13 word by word", and what it leaves in the output.
+use mathlib.Core.List.{List, [], _∷_, _++_, map}
+use Prim.Native.Nat.{ℕ, zero, suc}
+use lib.Dec.{ltb}
+use lib.ListN.{length, getD, drop}
+use lib.IntN.{ℤ}
+use Rattle.refusal.specs.declared.Cause.{Cause}
+use Rattle.refusal.specs.declared.Verdict.{Verdict}
+use Rattle.refusal.specs.Numbers.{numberOf}
+use Rattle.refusal.specs.Checks.{Check, _↝_, verdict}
+use Rattle.design.specs.declared.Design.{Design}
+use Rattle.tables.specs.declared.Batched.{Batched}
+use Rattle.tables.specs.Sum.{wordAt}
+use Rattle.tables.specs.Fill.{setChecks}
+use Rattle.tables.specs.Evaluate.{wordChecks}
+
+-- 14, "output shorter than the batch"
+unfoldable pub outputCheck : ℕ → ℕ → Check
+outputCheck words output = ltb output words ↝ Cause.OutputShort
+
+-- 1 to 10, 14: what is tried before any word
+unfoldable pub roomVerdict : Design → List ℕ → List ℤ → ℕ → ℕ → Verdict
+roomVerdict d initial offsets words output =
+    verdict (setChecks d (length initial) (length offsets) ++ outputCheck words output ∷ [])
+
+-- "all evaluated or all refused, at its lowest bad place": the answer for n words, then for one more
+abbrev pub oneMore : Batched → Verdict → ℕ → Batched
+oneMore (Batched.Refused cause place) word n = Batched.Refused cause place
+oneMore (Batched.Count count) (Verdict.Refused cause) n = Batched.Refused cause n
+oneMore (Batched.Count count) Verdict.Passed n = Batched.Count (suc n)
+
+-- The answer for the first n words, by each word's verdict. "An accepted batch returns its number of words, 0 for an empty one."
+unfoldable pub wordsBelow : ℕ → (ℕ → Verdict) → Batched
+wordsBelow zero word = Batched.Count 0
+wordsBelow (suc n) word = oneMore (wordsBelow n word) (word n) n
+
+unfoldable pub placeVerdict : Design → List ℕ → List ℤ → List ℕ → ℕ → Verdict
+placeVerdict d initial offsets words n = verdict (wordChecks d initial offsets (getD words n 0))
+
+-- "for a batch also the place of the word (0 for all other causes)"
+abbrev pub afterRoom : Verdict → Batched → Batched
+afterRoom Verdict.Passed answer = answer
+afterRoom (Verdict.Refused cause) answer = Batched.Refused cause 0
+
+unfoldable pub batchAnswer : Design → List ℕ → List ℤ → List ℕ → ℕ → Batched
+batchAnswer d initial offsets words output =
+    afterRoom (roomVerdict d initial offsets (length words) output) (wordsBelow (length words) (placeVerdict d initial offsets words))
+
+-- "Output beyond the batch is untouched", and all of it when the batch is refused.
+abbrev pub outputLeft : Batched → List ℕ → List ℕ → List ℕ
+outputLeft (Batched.Count count) words output = words ++ drop (length words) output
+outputLeft (Batched.Refused cause place) words output = output
+
+unfoldable pub outputAfter : Design → List ℕ → List ℤ → List ℕ → List ℕ → List ℕ
+outputAfter d initial offsets words output =
+    outputLeft (batchAnswer d initial offsets words (length output)) (map (wordAt d initial offsets) words) output
+
+-- Document 01's numbers of an answer: the refusal, 0 where there is none, and the place.
+abbrev pub refusalOf : Batched → ℕ
+refusalOf (Batched.Count count) = 0
+refusalOf (Batched.Refused cause place) = numberOf cause
+
+abbrev pub placeOf : Batched → ℕ
+placeOf (Batched.Count count) = 0
+placeOf (Batched.Refused cause place) = place

@@ -1,0 +1,44 @@
+-- Document 01, "Filling": what the fill writes, entry by entry.
+use mathlib.Core.Bool.{Bool, cond, not}
+use Prim.Native.Nat.{ℕ, _+_, _-_, _*_, _/_, _^_}
+use lib.IntN.{ℤ, pos, negsuc, subℕ, natAbs}
+use lib.Signed.{nonNeg}
+use Rattle.values.specs.Floor.{floorValue}
+use Rattle.values.specs.Slopes.{segmentStart, segmentEnd, hi, lo}
+use Rattle.design.specs.declared.Design.{Design}
+use Rattle.design.specs.Cut.{aOf, bOf, row, fractionBits, position}
+
+-- "L(X)", for the kind and widths of a design
+unfoldable pub valueAt : Design → ℕ → ℕ
+valueAt d X = floorValue (row d) (d .w) (fractionBits d) X
+
+-- "with s = 2^w + A·2^(w-alpha), e = s + 2^(w-alpha) - 1 and M = L(s) + L(e)"
+unfoldable pub endValues : Design → ℕ → ℕ
+endValues d A = valueAt d (segmentStart (d .w) (d .alpha) A) + valueAt d (segmentEnd (d .w) (d .alpha) A)
+
+-- "Initial entry A: .. floor((M+1+m)/2) + 2^(g-1)"
+unfoldable pub initialAt : Design → ℕ → ℕ
+initialAt d A = (endValues d A + 1 + d .m) / 2 + 2 ^ (d .g - 1)
+
+-- Hi and Lo of the segment that a value A of A_i names in table i
+unfoldable pub hiAt : Design → ℕ → ℕ → ℕ
+hiAt d i A = hi (row d) (d .w) (fractionBits d) (segmentStart (d .w) (aOf d i) A)
+
+unfoldable pub loAt : Design → ℕ → ℕ → ℕ
+loAt d i A = lo (row d) (d .w) (fractionBits d) (segmentEnd (d .w) (aOf d i) A)
+
+-- "j = 2·B_i + 1 - 2^(b_i), an odd number of either sign"
+unfoldable pub oddNumber : Design → ℕ → ℕ → ℤ
+oddNumber d i B = subℕ (2 * B + 1) (2 ^ bOf d i)
+
+-- "T = floor((Hi+Lo)·|j|·2^(p_i) / 2^18)"
+unfoldable pub magnitude : Design → ℕ → ℕ → ℕ → ℕ
+magnitude d i A B = (hiAt d i A + loAt d i A) * natAbs (oddNumber d i B) * 2 ^ position d i / 2 ^ 18
+
+-- "where j has the function's sign"
+unfoldable pub sameSign : Bool → ℤ → Bool
+sameSign rising j = cond rising (nonNeg j) (not (nonNeg j))
+
+-- "The entry is T where j has the function's sign, and -1 - T where it has the other." (`negsuc T` is -1 - T.)
+unfoldable pub offsetAt : Design → ℕ → ℕ → ℕ → ℤ
+offsetAt d i A B = cond (sameSign (row d .rising) (oddNumber d i B)) (pos (magnitude d i A B)) (negsuc (magnitude d i A B))

@@ -1,0 +1,62 @@
+-- What the call `fill` answers, "fill 1 to 11", and what it leaves in the tables, for any that are lent.
+use mathlib.Core.Bool.{not, _||_}
+use mathlib.Core.List.{List, [], _∷_, _++_}
+use Prim.Native.Nat.{ℕ, zero, suc, _/_, _%_, _^_}
+use lib.Dec.{ltb}
+use lib.ListN.{length, drop}
+use lib.IntN.{ℤ}
+use Rattle.refusal.specs.declared.Cause.{Cause}
+use Rattle.refusal.specs.declared.Verdict.{Verdict}
+use Rattle.refusal.specs.Checks.{Check, _↝_, verdict}
+use Rattle.design.specs.declared.Design.{Design}
+use Rattle.design.specs.Cut.{bOf, initialCount, offsetCount, offsetTotal}
+use Rattle.design.specs.Legal.{designChecks}
+use Rattle.design.specs.Budget.{withinLimit}
+use Rattle.tables.specs.Entries.{initialAt, offsetAt}
+
+-- 10, "either lent table shorter than the set", by the tables' lengths
+unfoldable pub tablesCheck : Design → ℕ → ℕ → Check
+tablesCheck d initial offsets = (ltb initial (initialCount d) || ltb offsets (offsetTotal d)) ↝ Cause.TablesShort
+
+-- 1 to 10: what every call that takes a set tries first
+unfoldable pub setChecks : Design → ℕ → ℕ → List Check
+setChecks d initial offsets = designChecks d ++ tablesCheck d initial offsets ∷ []
+
+-- 11, "not admitted"
+unfoldable pub admittedCheck : Design → Check
+admittedCheck d = not (withinLimit d) ↝ Cause.NotAdmitted
+
+unfoldable pub fillVerdict : Design → ℕ → ℕ → Verdict
+fillVerdict d initial offsets = verdict (setChecks d initial offsets ++ admittedCheck d ∷ [])
+
+-- The list of f over the numbers below n.
+unfoldable pub listBelow : {A : Type 0} → ℕ → (ℕ → A) → List A
+listBelow zero f = []
+listBelow (suc n) f = listBelow n f ++ (f n ∷ [])
+
+-- The initial entries
+unfoldable pub initialEntries : Design → List ℕ
+initialEntries d = listBelow (initialCount d) (initialAt d)
+
+-- The offsets of table i: "entry A_i·2^(b_i) + B_i"
+unfoldable pub tableEntries : Design → ℕ → List ℤ
+tableEntries d i = listBelow (offsetCount d i) (λ n. offsetAt d i (n / 2 ^ bOf d i) (n % 2 ^ bOf d i))
+
+-- "Offset tables lie one after another, table 0 first": those of the tables below n
+unfoldable pub offsetsBelow : Design → ℕ → List ℤ
+offsetsBelow d zero = []
+offsetsBelow d (suc n) = offsetsBelow d n ++ tableEntries d n
+
+unfoldable pub offsetEntries : Design → List ℤ
+offsetEntries d = offsetsBelow d (d .m)
+
+-- "Elements beyond the set are untouched", and a refusal "leaves every buffer untouched".
+abbrev pub leaves : {A : Type 0} → Verdict → List A → List A → List A
+leaves Verdict.Passed entries before = entries ++ drop (length entries) before
+leaves (Verdict.Refused cause) entries before = before
+
+unfoldable pub initialAfter : Design → List ℕ → List ℤ → List ℕ
+initialAfter d initial offsets = leaves (fillVerdict d (length initial) (length offsets)) (initialEntries d) initial
+
+unfoldable pub offsetsAfter : Design → List ℕ → List ℤ → List ℤ
+offsetsAfter d initial offsets = leaves (fillVerdict d (length initial) (length offsets)) (offsetEntries d) offsets

@@ -1,0 +1,34 @@
+-- Document 01, "Evaluating and checking": the sum Y over any tables, whoever filled them, and the word.
+use mathlib.Core.Bool.{Bool, _||_}
+use mathlib.Core.List.{List}
+use Prim.Native.Nat.{ℕ, zero, suc, _+_, _/_, _^_}
+use lib.ListN.{getD}
+use lib.IntN.{ℤ, pos, _+ℤ_, natAbs}
+use lib.Signed.{ltZ, leZ}
+use Rattle.design.specs.declared.Design.{Design}
+use Rattle.design.specs.Cut.{fractionBits, initialWord, segmentWord, offsetWord, offsetPlace}
+
+-- The sum of f over the numbers below n, of either sign.
+unfoldable pub signedSum : ℕ → (ℕ → ℤ) → ℤ
+signedSum zero f = pos 0
+signedSum (suc n) f = signedSum n f +ℤ f n
+
+-- The offset of table i that x looks up, "entry A_i·2^(b_i) + B_i"
+unfoldable pub offsetFor : Design → List ℤ → ℕ → ℕ → ℤ
+offsetFor d offsets x i = getD offsets (offsetPlace d i (segmentWord d i x) (offsetWord d i x)) (pos 0)
+
+-- "Y is the initial entry plus the m offsets, each offset signed."
+unfoldable pub sumAt : Design → List ℕ → List ℤ → ℕ → ℤ
+sumAt d initial offsets x = pos (getD initial (initialWord d x) 0) +ℤ signedSum (d .m) (offsetFor d offsets x)
+
+-- not "0 ≤ Y < 2^(P+2)"
+unfoldable pub sumOutside : Design → ℤ → Bool
+sumOutside d Y = ltZ Y (pos 0) || leZ (pos (2 ^ (fractionBits d + 2))) Y
+
+-- "the word is floor(Y / 2^g)", for a Y that is not negative
+unfoldable pub wordOf : Design → ℤ → ℕ
+wordOf d Y = natAbs Y / 2 ^ d .g
+
+-- The word that x gets from these tables, where its sum is in range
+unfoldable pub wordAt : Design → List ℕ → List ℤ → ℕ → ℕ
+wordAt d initial offsets x = wordOf d (sumAt d initial offsets x)

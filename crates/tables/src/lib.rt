@@ -1,0 +1,46 @@
+// Table sets: what every call over them answers, the refusals 1 to 10 that they share, and demand 3.
+ghost use mathlib.Core.Path.{_≡_};
+ghost use Rattle.refusal.specs.Checks.{verdict};
+ghost use Rattle.tables.specs.Fill.{setChecks};
+use design::Design;
+use design::legal::design_verdict;
+use design::measure::offset_total;
+use refusal::Cause;
+use refusal::Verdict;
+use values::OutputUnits;
+use values::floor::pow2;
+
+// What `evaluate` answers.
+pub enum Evaluated {
+    Word(OutputUnits),
+    Refused(Cause),
+}
+
+// What `evaluate_batch` answers: how many words, or the cause and the place of the lowest bad one (0 if no word is the cause).
+pub enum Batched {
+    Count(usize),
+    Refused(Cause, usize),
+}
+
+// What `check` answers: faithful, or the lowest word that is not.
+pub enum Checked {
+    Faithful,
+    Unfaithful(u32),
+    Refused(Cause),
+}
+
+// Refusals 1 to 10 of any call that takes a set, by the lengths of its tables.
+pub fn set_verdict(d: Design, initial: usize, offsets: usize) -> Verdict
+    ensures { λ r. ⌜ r ≡ verdict (setChecks d initial offsets) ⌝ }
+{
+    if let Verdict::Refused(cause) = design_verdict(d) {
+        return Verdict::Refused(cause);
+    }
+    if (initial as u64) < pow2(d.alpha) {
+        return Verdict::Refused(Cause::TablesShort);
+    }
+    if (offsets as u64) < offset_total(d) {
+        return Verdict::Refused(Cause::TablesShort);
+    }
+    Verdict::Passed
+}
