@@ -12,13 +12,8 @@ use Rattle.refusal.proofs.Checks.{verdict-append, passed-append, none-fails, ne
 use Rattle.design.specs.declared.Design.{Design}
 use Rattle.design.specs.Cut.{initialCount, offsetTotal}
 use Rattle.design.specs.Legal.{designChecks, designVerdict, Legal}
+use Rattle.tables.specs.Inputs.{Usable}
 use Rattle.tables.specs.Fill.{tablesCheck, setChecks}
-
--- A legal design with tables long enough for it
-pub record Usable (d : Design) (initial offsets : ℕ) : Type 0 where
-  pub legal : Legal d
-  pub initial-long : initialCount d ≤ initial
-  pub offsets-long : offsetTotal d ≤ offsets
 
 module _ (d : Design) (initial offsets : ℕ) where
   pub set-refused : (cause : Cause) → designVerdict d ≡ Verdict.Refused cause → verdict (setChecks d initial offsets) ≡ Verdict.Refused cause

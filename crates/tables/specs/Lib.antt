@@ -1,4 +1,5 @@
 -- What a reader has to believe of filled tables, their sums, the check and demand 3.
+pub mod Inputs
 pub mod Entries
 pub mod Sum
 pub mod Faithful
