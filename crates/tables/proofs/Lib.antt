@@ -1,2 +1,4 @@
 -- Laws of table sets, one file a subject.
 pub mod SetLaws
+pub mod Steps
+pub mod Climb
