@@ -2,3 +2,4 @@
 pub mod SetLaws
 pub mod Steps
 pub mod Climb
+pub mod Enclosed
