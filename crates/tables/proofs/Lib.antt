@@ -3,3 +3,4 @@ pub mod SetLaws
 pub mod Steps
 pub mod Climb
 pub mod Enclosed
+pub mod Path
