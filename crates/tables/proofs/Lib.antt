@@ -4,3 +4,4 @@ pub mod Steps
 pub mod Climb
 pub mod Enclosed
 pub mod Path
+pub mod Offsets

@@ -1,5 +1,5 @@
 -- How far X lies from the two ends of the interval of A, a table at a time.
-use mathlib.Core.Path.{_≡_}
+use mathlib.Core.Path.{_≡_, sym}
 use mathlib.Core.Bool.{Bool, true, false, cond}
 use Prim.Native.Nat.{ℕ, zero, suc, _+_, _-_, _*_, _^_, _≤_, _<_}
 use native.Mathlib.Nat.{add-comm, le-refl, le-step, le-of-lt, pow-zero}
@@ -24,15 +24,15 @@ behind d x i = offsetWord d i x * 2 ^ position d i
 unfoldable pub ahead : Design → ℕ → ℕ → ℕ
 ahead d x i = (2 ^ bOf d i - 1 - offsetWord d i x) * 2 ^ position d i
 
-parts : (n m r p : ℕ) → m + r ≡ n → m * p + r * p ≡ n * p
-parts n m r p e = rw (← e) (omega arith)
+pub parts : (n m r p : ℕ) → n ≡ m + r → n * p ≡ m * p + r * p
+parts n m r p e = rw e (omega arith)
 
 module _ (d : Design) where
   -- the two make up D_i,
   pub behind-ahead : (x i : ℕ) → behind d x i + ahead d x i ≡ reach d i
   unfolding behind ahead reach
   behind-ahead x i =
-      parts (2 ^ bOf d i - 1) (offsetWord d i x) _ (2 ^ position d i) (omega (arith, offset-word-lt d i x, pow-pos (bOf d i)))
+      sym (parts (2 ^ bOf d i - 1) (offsetWord d i x) _ (2 ^ position d i) (omega (arith, offset-word-lt d i x, pow-pos (bOf d i))))
 
   sum-behind-ahead : (x n : ℕ) → sumBelow n (behind d x) + sumBelow n (ahead d x) ≡ sumBelow n (reach d)
   unfolding sumBelow

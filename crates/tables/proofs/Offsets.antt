@@ -1,0 +1,77 @@
+-- What an offset means: it stands for itself plus one half, on either side of zero. As a pair of natural numbers, what it adds and what
+-- it takes.
+use mathlib.Core.Path.{_≡_, refl, ap}
+use mathlib.Core.Bool.{Bool, true, false, cond, not}
+use mathlib.Core.Logic.{_⊎_, inl, inr, ⊎-elim}
+use Prim.Native.Nat.{ℕ, zero, suc, _+_, _-_, _*_, _/_, _^_, _≤_, _<_}
+use native.Mathlib.Nat.{mul-assoc, mul-div-le, lt-mul-div-succ}
+use native.Mathlib.Omega.{arith}
+use lib.Dec.{ltb, lit<}
+use lib.IntN.{ℤ, pos, negsuc, subℕ, natAbs}
+use lib.Signed.{nonNeg}
+use lib.Pow.{pow-pos}
+use borrow.Author.Tests.{ltb-true, ltb-false}
+use Rattle.design.specs.declared.Design.{Design}
+use Rattle.design.specs.Cut.{bOf, row, position, segmentWord, offsetWord}
+use Rattle.design.proofs.CutLaws.{offset-word-lt}
+use Rattle.tables.specs.Entries.{hiAt, loAt, oddNumber, magnitude, sameSign, offsetAt}
+use Rattle.tables.proofs.Path.{behind, ahead, done, left, parts}
+
+abbrev pub added : ℤ → ℕ
+added (pos n) = n
+added (negsuc n) = 0
+
+abbrev pub taken : ℤ → ℕ
+taken (pos n) = 0
+taken (negsuc n) = suc n
+
+-- One distance is the other and the gap between them; which is the larger, the Bool says.
+abbrev Apart : Bool → ℕ → ℕ → ℕ → Type 0
+Apart true gap m n = m ≡ n + gap
+Apart false gap m n = n ≡ m + gap
+
+-- |j|·2^p is the gap between what is behind X and what is ahead of it, in a table. In plain numbers, n for 2^b and p for 2^p:
+odd-apart : (B n p : ℕ) → B < n → let j = subℕ (2 * B + 1) n in Apart (nonNeg j) (natAbs j * p) (B * p) ((n - 1 - B) * p)
+odd-apart B n p h = go (ltb (2 * B + 1) n) refl
+  where
+    go : (t : Bool) → ltb (2 * B + 1) n ≡ t → let j = cond t (negsuc (n - suc (2 * B + 1))) (pos (2 * B + 1 - n)) in
+        Apart (nonNeg j) (natAbs j * p) (B * p) ((n - 1 - B) * p)
+    go true e =
+        parts (n - 1 - B) B (suc (n - suc (2 * B + 1))) p (omega (arith, ltb-true (2 * B + 1) n e))
+    go false e =
+        parts B (n - 1 - B) (2 * B + 1 - n) p (omega (arith, ltb-false (2 * B + 1) n e))
+
+-- Seen in the direction in which the exact value rises
+turned : (rising t : Bool) (gap back front : ℕ) → Apart t gap back front
+    → Apart (cond rising t (not t)) gap (cond rising back front) (cond rising front back)
+turned true t gap back front apart = apart
+turned false true gap back front apart = apart
+turned false false gap back front apart = apart
+
+-- An offset o stands for o + 1/2: what it should be, slopes·(done - left) / 2^18 with slopes = Hi + Lo, lies between o and o + 1,
+-- for a positive and a negative one alike.
+pub record Stands (o : ℤ) (slopes done left : ℕ) : Type 0 where
+  pub at-least : 2 ^ 18 * added o + slopes * left ≤ slopes * done + 2 ^ 18 * taken o
+  pub at-most : slopes * done + 2 ^ 18 * taken o ≤ 2 ^ 18 * (added o + 1) + slopes * left
+
+stands : (t : Bool) (slopes gap done left : ℕ) → Apart t gap done left
+    → let T = slopes * gap / 2 ^ 18 in Stands (cond t (pos T) (negsuc T)) slopes done left
+stands true slopes gap done left apart =
+    let low = mul-div-le (slopes * gap) (2 ^ 18) in
+    let high = lt-mul-div-succ (slopes * gap) (pow-pos 18) in
+    record { at-least = rw apart (omega arith); at-most = rw apart (omega arith) }
+stands false slopes gap done left apart =
+    let low = mul-div-le (slopes * gap) (2 ^ 18) in
+    let high = lt-mul-div-succ (slopes * gap) (pow-pos 18) in
+    record { at-least = rw apart (omega arith); at-most = rw apart (omega arith) }
+
+module _ (d : Design) (x i : ℕ) where
+  pub offset-stands : let A = segmentWord d i x in
+      Stands (offsetAt d i A (offsetWord d i x)) (hiAt d i A + loAt d i A) (done d x i) (left d x i)
+  unfolding offsetAt magnitude sameSign oddNumber behind ahead
+  offset-stands =
+      let A = segmentWord d i x in
+      let j = oddNumber d i (offsetWord d i x) in
+      rw (mul-assoc (hiAt d i A + loAt d i A) (natAbs j) (2 ^ position d i))
+      (stands (sameSign (row d .rising) j) (hiAt d i A + loAt d i A) (natAbs j * 2 ^ position d i) (done d x i) (left d x i)
+      (turned (row d .rising) (nonNeg j) _ _ _ (odd-apart (offsetWord d i x) (2 ^ bOf d i) (2 ^ position d i) (offset-word-lt d i x))))
