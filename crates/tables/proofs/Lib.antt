@@ -5,3 +5,4 @@ pub mod Climb
 pub mod Enclosed
 pub mod Path
 pub mod Offsets
+pub mod Totals
