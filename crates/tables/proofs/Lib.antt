@@ -6,3 +6,4 @@ pub mod Enclosed
 pub mod Path
 pub mod Offsets
 pub mod Totals
+pub mod ErrorBound
