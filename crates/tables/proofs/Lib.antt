@@ -7,3 +7,4 @@ pub mod Path
 pub mod Offsets
 pub mod Totals
 pub mod ErrorBound
+pub mod WordBound
