@@ -8,3 +8,4 @@ pub mod Offsets
 pub mod Totals
 pub mod ErrorBound
 pub mod WordBound
+pub mod Said
