@@ -9,3 +9,4 @@ pub mod Totals
 pub mod ErrorBound
 pub mod WordBound
 pub mod Said
+pub mod EntryLaws

@@ -1,0 +1,113 @@
+-- The entries that the fill writes: how many there are, which stands where, and that an accepted fill leaves filled tables.
+use mathlib.Core.Path.{_≡_, refl, _∙_}
+use mathlib.Core.List.{List, [], _∷_, _++_}
+use Prim.Native.Nat.{ℕ, zero, suc, _+_, _*_, _^_, _≤_, _<_}
+use native.Mathlib.Nat.{not-suc-le-zero}
+use native.Mathlib.Numerals.{add-one}
+use native.Mathlib.Omega.{arith}
+use lib.Arith.{digits-lt}
+use lib.ListN.{length, getD, drop, length-append, length-drop, List·getD-append}
+use lib.Pow.{high, low, pow-add}
+use lib.Seq.{getD-at, getD-append-add}
+use lib.IntN.{ℤ, pos}
+use Rattle.refusal.specs.declared.Verdict.{Verdict}
+use Rattle.refusal.proofs.Checks.{passed-append}
+use Rattle.design.specs.declared.Design.{Design}
+use Rattle.design.specs.Cut.{bOf, sumBelow, initialCount, offsetCount, tableStart, offsetTotal, offsetPlace}
+use Rattle.design.proofs.Sums.{below-suc}
+use Rattle.design.proofs.CutLaws.{Entry, place-below}
+use Rattle.tables.specs.Inputs.{Usable}
+use Rattle.tables.specs.Entries.{initialAt, offsetAt}
+use Rattle.tables.specs.Fill.{
+  setChecks,
+  admittedCheck,
+  fillVerdict,
+  listBelow,
+  initialEntries,
+  tableEntries,
+  offsetsBelow,
+  offsetEntries,
+  initialAfter,
+  offsetsAfter,
+}
+use Rattle.tables.specs.Demand.{Filled}
+use Rattle.tables.proofs.SetLaws.{usable}
+
+-- The list of f over the numbers below n has n elements, and f k at place k.
+module _ {A : Type 0} (f : ℕ → A) where
+  pub list-length : (n : ℕ) → length (listBelow n f) ≡ n
+  unfolding listBelow
+  list-length zero = refl
+  list-length (suc n) = rw (length-append, list-length n) (add-one n)
+
+  pub list-at : (n k : ℕ) (z : A) → k < n → getD (listBelow n f) k z ≡ f k
+  unfolding listBelow
+  list-at zero k z h = absurd (not-suc-le-zero h)
+  list-at (suc n) k z h =
+      below-suc h (λ last. rw last (getD-at (listBelow n f) (f n) [] z n (list-length n)))
+      (λ below. List·getD-append (listBelow n f) (f n ∷ []) z k (rw (list-length n) below) ∙ list-at n k z below)
+
+module _ (d : Design) where
+  pub initial-length : length (initialEntries d) ≡ initialCount d
+  unfolding initialEntries
+  initial-length = list-length (initialAt d) (initialCount d)
+
+  pub initial-at : (A : ℕ) → A < initialCount d → getD (initialEntries d) A 0 ≡ initialAt d A
+  unfolding initialEntries
+  initial-at A = list-at (initialAt d) (initialCount d) A 0
+
+  table-length : (i : ℕ) → length (tableEntries d i) ≡ offsetCount d i
+  unfolding tableEntries
+  table-length i = list-length _ (offsetCount d i)
+
+  table-at : (i A B : ℕ) (z : ℤ) → Entry d i A B → getD (tableEntries d i) (A * 2 ^ bOf d i + B) z ≡ offsetAt d i A B
+  unfolding tableEntries offsetCount
+  table-at i A B z entry =
+      list-at _ (offsetCount d i) (A * 2 ^ bOf d i + B) z (rw pow-add (digits-lt (entry .A-lt) (entry .B-lt)))
+      ∙ rw (high A (bOf d i) (entry .B-lt), low A (bOf d i) (entry .B-lt))
+
+  -- "Offset tables lie one after another, table 0 first"
+  pub offsets-length : (n : ℕ) → length (offsetsBelow d n) ≡ tableStart d n
+  unfolding offsetsBelow tableStart sumBelow
+  offsets-length zero = refl
+  offsets-length (suc n) = rw (length-append, offsets-length n, table-length n)
+
+  pub offset-at : (n i A B : ℕ) (z : ℤ) → i < n → Entry d i A B
+      → getD (offsetsBelow d n) (offsetPlace d i A B) z ≡ offsetAt d i A B
+  unfolding offsetsBelow offsetPlace
+  offset-at zero i A B z h entry = absurd (not-suc-le-zero h)
+  offset-at (suc n) i A B z h entry =
+      below-suc h
+      (λ last. rw last
+      (rw (← offsets-length n) (getD-append-add (offsetsBelow d n) (tableEntries d n) _ z) ∙ table-at n A B z (rw last at entry)))
+      (λ below. List·getD-append (offsetsBelow d n) (tableEntries d n) z _ (rw (offsets-length n) (place-below d n i A B below entry))
+      ∙ offset-at n i A B z below entry)
+
+-- Entries before what the table held: the table keeps its length, and begins with the entries.
+module _ {A : Type 0} (entries before : List A) (room : length entries ≤ length before) where
+  kept-length : length (entries ++ drop (length entries) before) ≡ length before
+  kept-length = simp (length-append, length-drop) (omega arith)
+
+-- "an accepted fill leaves such tables"
+module _ (d : Design) (initial : List ℕ) (offsets : List ℤ) where
+  pub fill-usable : fillVerdict d (length initial) (length offsets) ≡ Verdict.Passed → Usable d (length initial) (length offsets)
+  unfolding fillVerdict
+  fill-usable e = usable d _ _ (passed-append (setChecks d _ _) (admittedCheck d ∷ []) e .0)
+
+  pub filled : fillVerdict d (length initial) (length offsets) ≡ Verdict.Passed
+      → Filled d (initialAfter d initial offsets) (offsetsAfter d initial offsets)
+  unfolding initialAfter offsetsAfter offsetEntries offsetTotal
+  filled e =
+      let u = fill-usable e in
+      let initial-fits : length (initialEntries d) ≤ length initial = omega (arith, initial-length d, u .initial-long) in
+      let offsets-fit : length (offsetsBelow d (d .m)) ≤ length offsets = omega (arith, offsets-length d (d .m), u .offsets-long) in
+      rw e
+      (record {
+        initial-long = rw (kept-length (initialEntries d) initial initial-fits) (u .initial-long);
+        offsets-long = rw (kept-length (offsetsBelow d (d .m)) offsets offsets-fit) (u .offsets-long);
+        initial-entry = λ A h. List·getD-append (initialEntries d) _ 0 A (rw (initial-length d) h) ∙ initial-at d A h;
+        offset-entry = λ i A B h a b.
+            let entry : Entry d i A B = record { A-lt = a; B-lt = b } in
+            List·getD-append (offsetsBelow d (d .m)) _ (pos 0) _ (rw (offsets-length d (d .m)) (place-below d (d .m) i A B h entry))
+            ∙ offset-at d (d .m) i A B (pos 0) h entry;
+      })
