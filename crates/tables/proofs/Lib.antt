@@ -10,3 +10,5 @@ pub mod ErrorBound
 pub mod WordBound
 pub mod Said
 pub mod EntryLaws
+pub mod SignedLaws
+pub mod SumLaws

@@ -2,6 +2,9 @@
 ghost use mathlib.Core.Path.{_≡_};
 ghost use Rattle.refusal.specs.Checks.{verdict};
 ghost use Rattle.tables.specs.Fill.{setChecks};
+
+pub mod sums;
+
 use design::Design;
 use design::legal::design_verdict;
 use design::measure::offset_total;

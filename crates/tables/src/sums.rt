@@ -1,0 +1,66 @@
+// The sum Y of an input word over any tables, whoever filled them, and the word that it comes to.
+ghost use mathlib.Core.Path.{_≡_};
+ghost use mathlib.Core.Bool.{false};
+ghost use Prim.Native.Nat.{_^_, _<_};
+ghost use lib.ListN.{length};
+ghost use Rattle.design.specs.Cut.{segmentWord, offsetWord, tableStart, offsetPlace, offsetTotal};
+ghost use Rattle.design.specs.Cut as Cut;
+ghost use Rattle.design.specs.Legal.{Legal};
+ghost use Rattle.tables.specs.Inputs.{Usable};
+ghost use Rattle.tables.specs.Sum.{sumAt, sumOutside, wordOf};
+use design::Design;
+use design::legal::pair_at;
+use values::OutputUnits;
+use values::TableUnits;
+use values::floor::pow2;
+
+// Where x's offset of table i lies among all offsets, for a table that begins at `start` and whose b bits of x begin at `position`.
+fn offset_place(d: Design, i: u32, start: u64, position: u32, x: u32) -> u64
+    requires { ⌜ Legal d ⌝ }
+    requires { ⌜ (i < d .m) × (start ≡ tableStart d i) × (position ≡ Cut.position d i) × (x < 2 ^ d .w) ⌝ }
+    ensures { λ r. ⌜ (r ≡ offsetPlace d i (segmentWord d i x) (offsetWord d i x)) × (r < offsetTotal d) ⌝ }
+{
+    let pair = pair_at(d, i);
+    let places = pow2(pair.b);
+    let segment = (x >> (d.w - pair.a)) as u64;
+    let offset = (x >> position) as u64 % places;
+    start + (segment * places + offset)
+}
+
+// inner: Y, summed from the tables: m + 1 lookups, shifts and adds.
+pub fn sum_of(d: Design, initial: &[u32], offsets: &[i32], x: u32) -> TableUnits
+    requires { ⌜ Usable d (length (now initial)) (length (now offsets)) ⌝ }
+    requires { ⌜ x < 2 ^ d .w ⌝ }
+    ensures { λ r. ⌜ r ≡ record { 0 = sumAt d (now (initial .entry)) (now (offsets .entry)) x } ⌝ }
+{
+    let m = d.m;
+    let mut sum = initial[(x >> (d.w - d.alpha)) as usize] as i64;
+    let mut start = 0;
+    let mut position = 0;
+    for i in 0..m {
+        let offset = offsets[offset_place(d, i, start, position, x) as usize];
+        sum += offset as i64;
+        let pair = pair_at(d, i);
+        start += pow2(pair.a + pair.b);
+        position += pair.b;
+    }
+    TableUnits(sum)
+}
+
+// inner: whether Y is out of range, not 0 ≤ Y < 2^(P+2).
+pub fn sum_outside(d: Design, sum: TableUnits) -> bool
+    requires { ⌜ Legal d ⌝ }
+    ensures { λ r. ⌜ r ≡ sumOutside d (sum .0) ⌝ }
+{
+    let limit = pow2(d.q + d.g + 2) as i64;
+    sum.0 < 0 || limit <= sum.0
+}
+
+// inner: the word, floor(Y / 2^g): the only place where table units become output units.
+pub fn word_of(d: Design, sum: TableUnits) -> OutputUnits
+    requires { ⌜ Legal d ⌝ }
+    requires { ⌜ sumOutside d (sum .0) ≡ false ⌝ }
+    ensures { λ r. ⌜ r ≡ record { 0 = wordOf d (sum .0) } ⌝ }
+{
+    OutputUnits((sum.count() >> d.g) as u32)
+}
