@@ -12,3 +12,4 @@ pub mod Said
 pub mod EntryLaws
 pub mod SignedLaws
 pub mod SumLaws
+pub mod CheckLaws
