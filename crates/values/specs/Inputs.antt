@@ -8,6 +8,12 @@ pub record InRange (w X : ℕ) : Type 0 where
   pub low : 2 ^ w ≤ X
   pub high : X < 2 ^ w * 2
 
+-- The exact value is asked for: of a row of the table, for some input word of a width within document 01's limits.
+pub record ExactInput (row : Row) (w X : ℕ) : Type 0 where
+  pub lawful : Lawful row
+  pub w-small : w ≤ 16
+  pub range : InRange w X
+
 -- A floor value is asked for: of a row of the table, at widths within document 01's limits, for some input word.
 pub record FloorInput (row : Row) (w P X : ℕ) : Type 0 where
   pub lawful : Lawful row

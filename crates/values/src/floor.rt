@@ -6,6 +6,8 @@ ghost use Rattle.values.specs.Floor.{rootFrom, floorValue};
 ghost use Rattle.values.specs.Floor as Floor;
 ghost use Rattle.values.specs.Inputs.{FloorInput};
 use crate::TableUnits;
+use crate::exact::den;
+use crate::exact::value_side;
 use crate::rows::Row;
 
 // inner: 2^n.
@@ -16,7 +18,8 @@ pub fn pow2(n: u32) -> u64
     1 << n
 }
 
-fn power(n: u64, k: u32) -> u64
+// inner: n^k.
+pub fn power(n: u64, k: u32) -> u64
     requires { ⌜ (n ≤ 2 ^ 21) × (k ≤ 3) ⌝ }
     ensures { λ r. ⌜ r ≡ n ^ k ⌝ }
 {
@@ -44,19 +47,12 @@ fn floor_root(k: u32, digits: u32, limit: u64) -> u64
     root
 }
 
-// floor(E(X)^k): the argument c·X / 2^w, or its reciprocal, in units of (2^k)^-P.
+// floor(E(X)^k): n is at most E(X) exactly when n^k is at most this.
 fn scaled(row: Row, w: u32, p: u32, x: u64) -> u64
     requires { ⌜ FloorInput row w p x ⌝ }
     ensures { λ r. ⌜ r ≡ Floor.scaled row w p x ⌝ }
 {
-    let argument = row.c * x;
-    let one = pow2(w);
-    let units = pow2(row.k * p);
-    if row.rising {
-        units * argument / one
-    } else {
-        units * one / argument
-    }
+    value_side(row, w, p, x) / den(row, w, x)
 }
 
 // inner: L(X) in table units, P = p.

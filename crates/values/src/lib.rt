@@ -7,6 +7,7 @@ ghost use lib.IntN.{natAbs};
 ghost use lib.Signed.{nonNeg};
 ghost use Rattle.values.specs.Value.{valueVerdict, valueOf, refusalOf};
 
+pub mod exact;
 pub mod floor;
 pub mod rows;
 pub mod slopes;

@@ -1,0 +1,42 @@
+// The two sides of the one inequality between a whole number and the exact value, whose k-th power is num / den. No division.
+ghost use mathlib.Core.Path.{_≡_};
+ghost use Prim.Native.Nat.{_^_, _≤_};
+ghost use Rattle.values.specs.Exact.{numberSide, valueSide};
+ghost use Rattle.values.specs.Exact as Exact;
+ghost use Rattle.values.specs.Inputs.{ExactInput, FloorInput};
+use crate::floor::pow2;
+use crate::floor::power;
+use crate::rows::Row;
+
+// The argument is c·X / 2^w: the exact value's k-th power is it where the function rises, and one over it where it falls.
+fn num(row: Row, w: u32, x: u64) -> u64
+    requires { ⌜ ExactInput row w x ⌝ }
+    ensures { λ r. ⌜ r ≡ Exact.num row w x ⌝ }
+{
+    if row.rising { row.c * x } else { pow2(w) }
+}
+
+// inner: what it is divided by.
+pub fn den(row: Row, w: u32, x: u64) -> u64
+    requires { ⌜ ExactInput row w x ⌝ }
+    ensures { λ r. ⌜ r ≡ Exact.den row w x ⌝ }
+{
+    if row.rising { pow2(w) } else { row.c * x }
+}
+
+// inner: the number's side, n^k·den.
+pub fn number_side(row: Row, w: u32, x: u64, n: u64) -> u64
+    requires { ⌜ ExactInput row w x ⌝ }
+    requires { ⌜ n ≤ 2 ^ 21 ⌝ }
+    ensures { λ r. ⌜ r ≡ numberSide row w x n ⌝ }
+{
+    power(n, row.k) * den(row, w, x)
+}
+
+// inner: the value's side, (2^k)^s·num, for s fraction bits.
+pub fn value_side(row: Row, w: u32, s: u32, x: u64) -> u64
+    requires { ⌜ FloorInput row w s x ⌝ }
+    ensures { λ r. ⌜ r ≡ valueSide row w s x ⌝ }
+{
+    pow2(row.k * s) * num(row, w, x)
+}
