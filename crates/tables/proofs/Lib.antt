@@ -9,6 +9,7 @@ pub mod Totals
 pub mod ErrorBound
 pub mod WordBound
 pub mod Said
+pub mod Demand3
 pub mod EntryLaws
 pub mod SignedLaws
 pub mod SumLaws

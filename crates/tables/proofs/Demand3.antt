@@ -1,0 +1,88 @@
+-- Demand 3, whole: every admitted design, all filled tables, every input word.
+use mathlib.Core.Path.{_≡_, refl, sym, ap₂, _∙_}
+use mathlib.Core.Bool.{false}
+use mathlib.Core.List.{List, [], _∷_, _++_, map}
+use Prim.Native.Nat.{ℕ, zero, suc, _+_, _-_, _*_, _/_, _^_, _≤_, _<_}
+use native.Mathlib.Nat.{le-refl, le-step}
+use native.Mathlib.Omega.{arith}
+use lib.ListN.{length, getD, drop}
+use lib.IntN.{ℤ, pos, _+ℤ_}
+use lib.Pow.{pow-add, pow-pos}
+use borrow.Author.Tests.{le-ltb, lt-leb}
+use Rattle.refusal.specs.declared.Verdict.{Verdict}
+use Rattle.refusal.specs.Checks.{verdict}
+use Rattle.refusal.proofs.Checks.{verdict-append}
+use Rattle.values.specs.Inputs.{InRange}
+use Rattle.values.specs.Value.{wordCheck}
+use Rattle.values.proofs.ExactLaws.{value-low}
+use Rattle.design.specs.declared.Design.{Design}
+use Rattle.design.specs.Cut.{aOf, bOf, row, fractionBits, sumBelow, initialWord, segmentWord, offsetWord, initialCount}
+use Rattle.design.specs.Budget.{budget, limit, Admitted}
+use Rattle.design.proofs.LegalLaws.{Limits, limits, lawful}
+use Rattle.design.proofs.CutLaws.{initial-word-lt, segment-word-lt, offset-word-lt}
+use Rattle.tables.specs.Entries.{initialAt}
+use Rattle.tables.specs.Sum.{signedSum, offsetFor, sumAt, sumOutside, wordOf, wordAt}
+use Rattle.tables.specs.Demand.{Filled}
+use Rattle.tables.proofs.Offsets.{added, taken}
+use Rattle.tables.proofs.Totals.{Balance, total-balance, not-negative}
+use Rattle.tables.proofs.ErrorBound.{offsetOf, sum-low, sum-high}
+use Rattle.tables.proofs.WordBound.{Near, GoodWord, sum-in-range, good-word}
+
+signed-congruence : (n : ℕ) (f g : ℕ → ℤ) → ((i : ℕ) → i < n → f i ≡ g i) → signedSum n f ≡ signedSum n g
+unfolding signedSum
+signed-congruence zero f g same = refl
+signed-congruence (suc n) f g same = ap₂ _+ℤ_ (signed-congruence n f g (λ i h. same i (le-step h))) (same n (le-refl _))
+
+module _ (d : Design) (admitted : Admitted d) (x : ℕ) (x-lt : x < 2 ^ d .w) where
+  l : Limits d
+  l = limits d (admitted .legal)
+
+  range : InRange (d .w) (2 ^ d .w + x)
+  range = record { low = omega arith; high = omega arith }
+
+  -- what is added and what is taken, all together
+  abbrev plus : ℕ
+  plus = initialAt d (initialWord d x) + sumBelow (d .m) (λ i. added (offsetOf d x i))
+
+  abbrev minus : ℕ
+  minus = sumBelow (d .m) (λ i. taken (offsetOf d x i))
+
+  half-is : 2 ^ 18 * 2 ^ (d .g - 1) ≡ 2 ^ (d .g + 17)
+  half-is = let e : 18 + (d .g - 1) ≡ d .g + 17 = omega (arith, l .widths .g-low) in sym (pow-add 2 18 (d .g - 1)) ∙ rw e refl
+
+  within : budget d < 2 ^ (d .g + 17)
+  unfolding limit
+  within = admitted .within
+
+  -- more is added than taken, so the sum is a natural number
+  less-taken : minus ≤ plus
+  less-taken =
+      let e : fractionBits d + 17 + 1 ≡ fractionBits d + 18 = omega arith in
+      omega (
+        arith,
+        within,
+        half-is,
+        sum-high d l x x-lt (2 ^ (fractionBits d + 17)) (rw e at (value-low (row d) (lawful d l) (d .w) (2 ^ d .w + x) range (fractionBits d + 17))),
+      )
+
+  pub near : Near (row d) (d .w) (fractionBits d) (2 ^ d .w + x) (plus - minus) (2 ^ (d .g + 17)) (budget d)
+  near =
+      record {
+        low = λ n h. omega (arith, less-taken, half-is, sum-low d l x x-lt n h);
+        high = λ n h. omega (arith, less-taken, half-is, sum-high d l x x-lt n h);
+      }
+
+  module _ (initial : List ℕ) (offsets : List ℤ) (filled : Filled d initial offsets) where
+    offset-read : (i : ℕ) → i < d .m → offsetFor d offsets x i ≡ offsetOf d x i
+    unfolding offsetFor offsetOf
+    offset-read i h =
+        filled .offset-entry i (segmentWord d i x) (offsetWord d i x) h (segment-word-lt d l i x h x-lt) (offset-word-lt d i x)
+
+    pub sum-is : sumAt d initial offsets x ≡ pos (plus - minus)
+    unfolding sumAt
+    sum-is =
+        rw (
+          filled .initial-entry (initialWord d x) (initial-word-lt d l x x-lt),
+          signed-congruence (d .m) (offsetFor d offsets x) (offsetOf d x) offset-read,
+        )
+        (not-negative _ plus minus (total-balance (initialAt d (initialWord d x)) (d .m) (offsetOf d x)) less-taken)
