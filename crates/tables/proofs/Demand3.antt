@@ -20,18 +20,28 @@ use Rattle.design.specs.Cut.{aOf, bOf, row, fractionBits, sumBelow, initialWord
 use Rattle.design.specs.Budget.{budget, limit, Admitted}
 use Rattle.design.proofs.LegalLaws.{Limits, limits, lawful}
 use Rattle.design.proofs.CutLaws.{initial-word-lt, segment-word-lt, offset-word-lt}
+use Rattle.tables.specs.declared.Evaluated.{Evaluated}
+use Rattle.tables.specs.Inputs.{Usable}
 use Rattle.tables.specs.Entries.{initialAt}
 use Rattle.tables.specs.Sum.{signedSum, offsetFor, sumAt, sumOutside, wordOf, wordAt}
-use Rattle.tables.specs.Demand.{Filled}
+use Rattle.tables.specs.Evaluate.{wordChecks, evaluateVerdict, evaluateAnswer}
+use Rattle.tables.specs.Demand.{Filled, margin, scaledWord, Word3}
+use Rattle.tables.proofs.SetLaws.{set-passed}
 use Rattle.tables.proofs.Offsets.{added, taken}
 use Rattle.tables.proofs.Totals.{Balance, total-balance, not-negative}
 use Rattle.tables.proofs.ErrorBound.{offsetOf, sum-low, sum-high}
 use Rattle.tables.proofs.WordBound.{Near, GoodWord, sum-in-range, good-word}
+use Rattle.tables.proofs.Said.{said}
 
 signed-congruence : (n : ℕ) (f g : ℕ → ℤ) → ((i : ℕ) → i < n → f i ≡ g i) → signedSum n f ≡ signedSum n g
 unfolding signedSum
 signed-congruence zero f g same = refl
 signed-congruence (suc n) f g same = ap₂ _+ℤ_ (signed-congruence n f g (λ i h. same i (le-step h))) (same n (le-refl _))
+
+usable-set : (d : Design) → Admitted d → (initial : List ℕ) (offsets : List ℤ) → Filled d initial offsets
+    → Usable d (length initial) (length offsets)
+usable-set d admitted initial offsets filled =
+    record { legal = admitted .legal; initial-long = filled .initial-long; offsets-long = filled .offsets-long }
 
 module _ (d : Design) (admitted : Admitted d) (x : ℕ) (x-lt : x < 2 ^ d .w) where
   l : Limits d
@@ -86,3 +96,44 @@ module _ (d : Design) (admitted : Admitted d) (x : ℕ) (x-lt : x < 2 ^ d .w) wh
           signed-congruence (d .m) (offsetFor d offsets x) (offsetOf d x) offset-read,
         )
         (not-negative _ plus minus (total-balance (initialAt d (initialWord d x)) (d .m) (offsetOf d x)) less-taken)
+
+    pub word-is : wordAt d initial offsets x ≡ (plus - minus) / 2 ^ d .g
+    unfolding wordAt wordOf
+    word-is = rw sum-is refl
+
+    in-range : plus - minus < 2 ^ (fractionBits d + 2)
+    in-range =
+        sum-in-range (row d) (lawful d l) (d .w) (d .q) (d .g) (2 ^ d .w + x) (plus - minus) (budget d) range near within
+
+    pub not-outside : sumOutside d (sumAt d initial offsets x) ≡ false
+    unfolding sumOutside
+    not-outside = rw (sum-is, le-ltb (plus - minus) 0 (omega arith), lt-leb _ _ in-range)
+
+    pub passes : verdict (wordChecks d initial offsets x) ≡ Verdict.Passed
+    unfolding wordChecks wordCheck
+    passes = rw (lt-leb _ _ x-lt, not-outside)
+
+    alone : evaluateAnswer d initial offsets x ≡ Evaluated.Word (record { 0 = wordAt d initial offsets x })
+    unfolding evaluateAnswer evaluateVerdict
+    alone = rw (verdict-append, set-passed d _ _ (usable-set d admitted initial offsets filled), passes)
+
+    good : GoodWord (row d) (d .w) (d .q) (d .g) (2 ^ d .w + x) (wordAt d initial offsets x) (budget d)
+    good =
+        rw word-is
+        (good-word (row d) (lawful d l) (d .w) (d .q) (d .g) (2 ^ d .w + x) (plus - minus) (budget d) range near within
+        (omega (arith, l .widths .q-low)))
+
+    pub word3 : Word3 d initial offsets x
+    unfolding margin scaledWord
+    word3 =
+        record {
+          Y = plus - minus;
+          sum = sum-is;
+          in-range = in-range;
+          word = word-is;
+          alone = alone;
+          faithful = good .faithful;
+          bound = record { above-zero = good .above-zero; low = good .low; high = good .high };
+          faithful-said = said _<_ (d .w) (d .q) (2 ^ d .w + x) _ _ (d .kind) (good .faithful .low, good .faithful .high);
+          bound-said = said _≤_ (d .w) (fractionBits d + 18) (2 ^ d .w + x) _ _ (d .kind) (good .low, good .high);
+        }
