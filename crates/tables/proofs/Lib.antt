@@ -16,3 +16,5 @@ pub mod SumLaws
 pub mod CheckLaws
 pub mod SignedLaws
 pub mod SumLaws
+pub mod WordLaws
+pub mod BatchLaws
