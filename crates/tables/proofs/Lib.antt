@@ -14,7 +14,5 @@ pub mod EntryLaws
 pub mod SignedLaws
 pub mod SumLaws
 pub mod CheckLaws
-pub mod SignedLaws
-pub mod SumLaws
 pub mod WordLaws
 pub mod BatchLaws
