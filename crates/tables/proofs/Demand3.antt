@@ -3,9 +3,10 @@ use mathlib.Core.Path.{_≡_, refl, sym, ap₂, _∙_}
 use mathlib.Core.Bool.{false}
 use mathlib.Core.List.{List, [], _∷_, _++_, map}
 use Prim.Native.Nat.{ℕ, zero, suc, _+_, _-_, _*_, _/_, _^_, _≤_, _<_}
-use native.Mathlib.Nat.{le-refl, le-step}
+use native.Mathlib.Nat.{le-refl, le-step, le-of-suc-le-suc, not-suc-le-zero}
 use native.Mathlib.Omega.{arith}
-use lib.ListN.{length, getD, drop}
+use lib.ListN.{length, getD, drop, length-map, List·getD-append}
+use lib.Seq.{drop-at}
 use lib.IntN.{ℤ, pos, _+ℤ_}
 use lib.Pow.{pow-add, pow-pos}
 use borrow.Author.Tests.{le-ltb, lt-leb}
@@ -21,22 +22,35 @@ use Rattle.design.specs.Budget.{budget, limit, Admitted}
 use Rattle.design.proofs.LegalLaws.{Limits, limits, lawful}
 use Rattle.design.proofs.CutLaws.{initial-word-lt, segment-word-lt, offset-word-lt}
 use Rattle.tables.specs.declared.Evaluated.{Evaluated}
+use Rattle.tables.specs.declared.Batched.{Batched}
+use Rattle.tables.specs.declared.Checked.{Checked}
 use Rattle.tables.specs.Inputs.{Usable}
 use Rattle.tables.specs.Entries.{initialAt}
 use Rattle.tables.specs.Sum.{signedSum, offsetFor, sumAt, sumOutside, wordOf, wordAt}
+use Rattle.tables.specs.Fill.{setChecks}
 use Rattle.tables.specs.Evaluate.{wordChecks, evaluateVerdict, evaluateAnswer}
-use Rattle.tables.specs.Demand.{Filled, margin, scaledWord, Word3}
+use Rattle.tables.specs.Batch.{outputCheck, roomVerdict, placeVerdict, batchAnswer, outputAfter}
+use Rattle.tables.specs.Check.{checkVerdict, checkAnswer}
+use Rattle.tables.specs.Demand.{Filled, margin, scaledWord, Word3, Batch3, Demand3}
 use Rattle.tables.proofs.SetLaws.{set-passed}
 use Rattle.tables.proofs.Offsets.{added, taken}
 use Rattle.tables.proofs.Totals.{Balance, total-balance, not-negative}
 use Rattle.tables.proofs.ErrorBound.{offsetOf, sum-low, sum-high}
 use Rattle.tables.proofs.WordBound.{Near, GoodWord, sum-in-range, good-word}
 use Rattle.tables.proofs.Said.{said}
+use Rattle.tables.proofs.EntryLaws as EntryLaws
+use Rattle.tables.proofs.BatchLaws.{batch-all}
+use Rattle.tables.proofs.CheckLaws.{check-means}
 
 signed-congruence : (n : ℕ) (f g : ℕ → ℤ) → ((i : ℕ) → i < n → f i ≡ g i) → signedSum n f ≡ signedSum n g
 unfolding signedSum
 signed-congruence zero f g same = refl
 signed-congruence (suc n) f g same = ap₂ _+ℤ_ (signed-congruence n f g (λ i h. same i (le-step h))) (same n (le-refl _))
+
+map-at : (f : ℕ → ℕ) (l : List ℕ) (n : ℕ) → n < length l → getD (map f l) n 0 ≡ f (getD l n 0)
+map-at f [] n h = absurd (not-suc-le-zero h)
+map-at f (a ∷ l) zero h = refl
+map-at f (a ∷ l) (suc n) h = map-at f l n (le-of-suc-le-suc h)
 
 usable-set : (d : Design) → Admitted d → (initial : List ℕ) (offsets : List ℤ) → Filled d initial offsets
     → Usable d (length initial) (length offsets)
@@ -137,3 +151,53 @@ module _ (d : Design) (admitted : Admitted d) (x : ℕ) (x-lt : x < 2 ^ d .w) wh
           faithful-said = said _<_ (d .w) (d .q) (2 ^ d .w + x) _ _ (d .kind) (good .faithful .low, good .faithful .high);
           bound-said = said _≤_ (d .w) (fractionBits d + 18) (2 ^ d .w + x) _ _ (d .kind) (good .low, good .high);
         }
+
+module _ (d : Design) (admitted : Admitted d) (initial : List ℕ) (offsets : List ℤ) (filled : Filled d initial offsets) where
+  set-passes : verdict (setChecks d (length initial) (length offsets)) ≡ Verdict.Passed
+  set-passes = set-passed d _ _ (usable-set d admitted initial offsets filled)
+
+  check3 : checkAnswer d initial offsets ≡ Checked.Faithful
+  unfolding checkVerdict
+  check3 =
+      check-means d initial offsets set-passes .is-faithful
+      (λ x h. record {
+        has-word = not-outside d admitted x h initial offsets filled;
+        faithful = word3 d admitted x h initial offsets filled .faithful;
+      })
+
+  module _ (words output : List ℕ) (in-range : (n : ℕ) → n < length words → getD words n 0 < 2 ^ d .w)
+      (room : length words ≤ length output) where
+    place-passes : (n : ℕ) → n < length words → placeVerdict d initial offsets words n ≡ Verdict.Passed
+    unfolding placeVerdict
+    place-passes n h = passes d admitted (getD words n 0) (in-range n h) initial offsets filled
+
+    accepted : batchAnswer d initial offsets words (length output) ≡ Batched.Count (length words)
+    unfolding batchAnswer roomVerdict outputCheck
+    accepted =
+        rw (verdict-append, set-passes, le-ltb _ _ room)
+        (batch-all (length words) (placeVerdict d initial offsets words) place-passes)
+
+    -- what an accepted batch leaves
+    output-is : outputAfter d initial offsets words output ≡ map (wordAt d initial offsets) words ++ drop (length words) output
+    unfolding outputAfter
+    output-is = rw (accepted, length-map words (wordAt d initial offsets)) refl
+
+    batch3 : Batch3 d initial offsets words output
+    batch3 =
+        record {
+          accepted = accepted;
+          at-place = λ n h.
+              rw output-is
+              (List·getD-append (map (wordAt d initial offsets) words) _ 0 n (rw (length-map words (wordAt d initial offsets)) h) ∙ map-at (wordAt d initial offsets) words n h);
+          beyond = rw output-is (drop-at (map (wordAt d initial offsets) words) _ (length words) (length-map words (wordAt d initial offsets)));
+        }
+
+-- The whole of it
+pub demand3 : (d : Design) → Admitted d → Demand3 d
+demand3 d admitted =
+    record {
+      each-word = λ initial offsets filled x h. word3 d admitted x h initial offsets filled;
+      each-batch = batch3 d admitted;
+      check = check3 d admitted;
+      fill = EntryLaws.filled d;
+    }
