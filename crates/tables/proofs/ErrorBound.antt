@@ -18,7 +18,7 @@ use Rattle.design.proofs.CutLaws.{segment-word-lt}
 use Rattle.design.proofs.BudgetLaws.{spread-le-largest}
 use Rattle.tables.specs.Entries.{valueAt, endValues, initialAt, hiAt, loAt, offsetAt}
 use Rattle.tables.proofs.Enclosed.{above-start, above-end, below-start, below-end}
-use Rattle.tables.proofs.Path.{Way, way, first, last, done, left, intervalStart, intervalEnd, slopes-hold}
+use Rattle.tables.proofs.Path.{first, last, done, left, done-left, course, intervalStart, intervalEnd, slopes-hold}
 use Rattle.tables.proofs.Offsets.{added, taken, Stands, offset-stands}
 
 -- What one table contributes, an offset that adds `plus` and takes `minus`, and `share` of the budget.
@@ -75,7 +75,7 @@ module _ (d : Design) (l : Limits d) (x : ℕ) (x-lt : x < 2 ^ d .w) where
       (hiAt d i A - loAt d i A) * (done d x i + left d x i) ≤ tableBudget d i
   unfolding hiAt loAt spread tableBudget
   share-enough i h =
-      rw (way d l x .whole i)
+      rw (done-left d x i)
       (omega (
         arith,
         mul-le-mul-left (reach d i)
@@ -113,12 +113,11 @@ module _ (d : Design) (l : Limits d) (x : ℕ) (x-lt : x < 2 ^ d .w) where
       → 2 ^ 18 * (initialAt d (initialWord d x) + plus) < n + 2 ^ 18 * minus + 2 ^ 18 * 2 ^ (d .g - 1) + budget d
   unfolding initialAt budget valueAt
   sum-low n h =
-      let p = way d l x in
       let bounds = slopes-hold d l x x-lt in
       rw (← both-ends)
       (half-low _ _ (2 ^ (d .g - 1)) (d .m) _ n _ _ plus minus
-      (above-start _ _ _ _ _ _ _ _ bounds (done d x) (left d x) _ _ _ (p .at-first) (p .at-X) (p .at-last) (p .before) (p .after) n h)
-      (above-end _ _ _ _ _ _ _ _ bounds (done d x) (left d x) _ _ _ (p .at-first) (p .at-X) (p .at-last) (p .before) (p .after) n h)
+      (above-start bounds (course d l x) n h)
+      (above-end bounds (course d l x) n h)
       (sum-below _ _ _ _ _ _ _ (d .m) table-of))
 
   -- and one that is at most the exact value is not much above it.
@@ -126,10 +125,9 @@ module _ (d : Design) (l : Limits d) (x : ℕ) (x-lt : x < 2 ^ d .w) where
       → n + 2 ^ 18 * minus + 2 ^ 18 * 2 ^ (d .g - 1) < 2 ^ 18 * (initialAt d (initialWord d x) + plus) + budget d
   unfolding initialAt budget valueAt
   sum-high n h =
-      let p = way d l x in
       let bounds = slopes-hold d l x x-lt in
       rw (← both-ends)
       (half-high _ _ (2 ^ (d .g - 1)) (d .m) _ n _ _ plus minus
-      (below-start _ _ _ _ _ _ _ _ bounds (done d x) (left d x) _ _ _ (p .at-first) (p .at-X) (p .at-last) (p .before) (p .after) n h)
-      (below-end _ _ _ _ _ _ _ _ bounds (done d x) (left d x) _ _ _ (p .at-first) (p .at-X) (p .at-last) (p .before) (p .after) n h)
+      (below-start bounds (course d l x) n h)
+      (below-end bounds (course d l x) n h)
       (sum-above _ _ _ _ _ _ _ (d .m) table-of))

@@ -15,7 +15,7 @@ use Rattle.design.proofs.CutLaws.{offset-word-lt, cut-word, initial-word-lt, se
 use Rattle.tables.specs.Entries.{hiAt, loAt}
 use Rattle.tables.proofs.Steps.{Rises}
 use Rattle.tables.proofs.Climb.{Inside}
-use Rattle.tables.proofs.Enclosed.{Slopes}
+use Rattle.tables.proofs.Enclosed.{Slopes, Course}
 
 -- In table i, X lies B·2^p above the start and (2^b - 1 - B)·2^p below the end.
 unfoldable pub behind : Design → ℕ → ℕ → ℕ
@@ -99,21 +99,18 @@ module _ (behind ahead : ℕ → ℕ) (m s X e : ℕ) (above : X ≡ s + sumBelo
   inside-last true = record { from = omega arith; to = le-refl e }
   inside-last false = record { from = le-refl s; to = omega arith }
 
--- The way of an input word
-pub record Way (d : Design) (x : ℕ) : Type 0 where
-  pub at-first : Inside (intervalStart d x) (intervalEnd d x) (first d x)
-  pub at-X : Inside (intervalStart d x) (intervalEnd d x) (2 ^ d .w + x)
-  pub at-last : Inside (intervalStart d x) (intervalEnd d x) (last d x)
-  pub before : Rises (row d .rising) (first d x) (sumBelow (d .m) (done d x)) (2 ^ d .w + x)
-  pub after : Rises (row d .rising) (2 ^ d .w + x) (sumBelow (d .m) (left d x)) (last d x)
-  pub whole : (i : ℕ) → done d x i + left d x i ≡ reach d i
-
+-- done and left make up D_i too
 swap : (rising : Bool) (a b r : ℕ) → a + b ≡ r → cond rising a b + cond rising b a ≡ r
 swap true a b r e = e
 swap false a b r e = omega arith
 
-pub way : (d : Design) (l : Limits d) (x : ℕ) → Way d x
-way d l x =
+pub done-left : (d : Design) (x i : ℕ) → done d x i + left d x i ≡ reach d i
+done-left d x i = swap (row d .rising) _ _ _ (behind-ahead d x i)
+
+-- The course of an input word
+pub course : (d : Design) (l : Limits d) (x : ℕ)
+    → Course (row d .rising) (intervalStart d x) (intervalEnd d x) (d .m) (done d x) (left d x) (first d x) (2 ^ d .w + x) (last d x)
+course d l x =
     let up = row d .rising in
     let a = from-start d l x in
     let b = to-end d l x in
@@ -123,7 +120,6 @@ way d l x =
       at-last = inside-last _ _ (d .m) _ _ _ a b up;
       before = to-X (behind d x) (ahead d x) (d .m) _ _ _ a b up;
       after = from-X (behind d x) (ahead d x) (d .m) _ _ _ a b up;
-      whole = λ i. swap up _ _ _ (behind-ahead d x i);
     }
 
 -- 4·Hi and 4·Lo of the segments that x lies on bound the slope all over the interval of A.
