@@ -37,14 +37,14 @@ module _ {row : Row} {w P s e m : ℕ} {high low : ℕ → ℕ} (slopes : Slopes
     rise-at-most =
         climb (AtLeast row w (P + 18)) (row .rising) s e high t m
         (λ i h u v a at-u at-v step. gain-at-most row (slopes .lawful) w P (high i) (t i) u v a
-            (range-pos (slopes .range u at-u)) step (slopes .steep i h u at-u) (slopes .steep i h v at-v))
+        (range-pos (slopes .range u at-u)) step (slopes .steep i h u at-u) (slopes .steep i h v at-v))
         u v a at-u at-v step
 
     rise-at-least : AtMost row w (P + 18) u a → AtMost row w (P + 18) v (a + sumBelow m (λ i. low i * t i))
     rise-at-least =
         climb (AtMost row w (P + 18)) (row .rising) s e low t m
         (λ i h u v a at-u at-v step. gain-at-least row (slopes .lawful) w P (low i) (t i) u v a
-            (range-pos (slopes .range u at-u)) step (slopes .flat i h u at-u) (slopes .flat i h v at-v))
+        (range-pos (slopes .range u at-u)) step (slopes .flat i h u at-u) (slopes .flat i h v at-v))
         u v a at-u at-v step
 
   module _ (X : ℕ) (at-X : Inside s e X) where

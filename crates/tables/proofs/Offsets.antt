@@ -7,10 +7,10 @@ use Prim.Native.Nat.{ℕ, zero, suc, _+_, _-_, _*_, _/_, _^_, _≤_, _<_}
 use native.Mathlib.Nat.{mul-assoc, mul-div-le, lt-mul-div-succ}
 use native.Mathlib.Omega.{arith}
 use lib.Dec.{ltb, lit<}
-use lib.IntN.{ℤ, pos, negsuc, subℕ, natAbs}
+use lib.IntN.{ℤ, pos, negsuc, subℕ, natAbs, _+ℤ_}
 use lib.Signed.{nonNeg}
-use lib.Pow.{pow-pos}
-use borrow.Author.Tests.{ltb-true, ltb-false}
+use lib.Pow.{pow-add, pow-pos}
+use borrow.Author.Tests.{ltb-true, ltb-false, lt-ltb, le-ltb}
 use Rattle.design.specs.declared.Design.{Design}
 use Rattle.design.specs.Cut.{bOf, row, position, segmentWord, offsetWord}
 use Rattle.design.proofs.CutLaws.{offset-word-lt}
@@ -75,3 +75,41 @@ module _ (d : Design) (x i : ℕ) where
       rw (mul-assoc (hiAt d i A + loAt d i A) (natAbs j) (2 ^ position d i))
       (stands (sameSign (row d .rising) j) (hiAt d i A + loAt d i A) (natAbs j * 2 ^ position d i) (done d x i) (left d x i)
       (turned (row d .rising) (nonNeg j) _ _ _ (odd-apart (offsetWord d i x) (2 ^ bOf d i) (2 ^ position d i) (offset-word-lt d i x))))
+
+-- So offsets mirror: those of B and of 2^b - 1 - B stand for opposite numbers, and add up to -1. For 2^b = n, an even number:
+record Opposite (j k : ℤ) : Type 0 where
+  size : natAbs k ≡ natAbs j
+  sign : nonNeg k ≡ not (nonNeg j)
+
+opposite : (B half n : ℕ) → n ≡ 2 * half → B < n → Opposite (subℕ (2 * B + 1) n) (subℕ (2 * (n - 1 - B) + 1) n)
+opposite B half n even h = go (ltb (2 * B + 1) n) refl
+  where
+    other : ℕ
+    other = 2 * (n - 1 - B) + 1
+
+    go : (t : Bool) → ltb (2 * B + 1) n ≡ t → Opposite (cond t (negsuc (n - suc (2 * B + 1))) (pos (2 * B + 1 - n))) (subℕ other n)
+    go true e =
+        let less = ltb-true (2 * B + 1) n e in
+        rw (le-ltb other n (omega arith)) (record { size = omega arith; sign = refl })
+    go false e =
+        let more = ltb-false (2 * B + 1) n e in
+        rw (lt-ltb other n (omega arith)) (record { size = omega arith; sign = refl })
+
+-- T and -1 - T, whichever comes first
+minus-one : (t : Bool) (T : ℕ) → cond t (pos T) (negsuc T) +ℤ cond (not t) (pos T) (negsuc T) ≡ negsuc 0
+minus-one true T = rw (lt-ltb T (suc T) (omega arith)) (ap negsuc (omega arith))
+minus-one false T = rw (lt-ltb T (suc T) (omega arith)) (ap negsuc (omega arith))
+
+turn-sign : (rising t : Bool) → cond rising (not t) (not (not t)) ≡ not (cond rising t (not t))
+turn-sign true t = refl
+turn-sign false t = refl
+
+pub mirror : (d : Design) (i A B : ℕ) → 1 ≤ bOf d i → B < 2 ^ bOf d i
+    → offsetAt d i A B +ℤ offsetAt d i A (2 ^ bOf d i - 1 - B) ≡ negsuc 0
+unfolding offsetAt magnitude sameSign oddNumber
+mirror d i A B b-pos h =
+    let b = bOf d i in
+    let e : b - 1 + 1 ≡ b = omega arith in
+    let even : 2 ^ b ≡ 2 * 2 ^ (b - 1) = omega (arith, rw e at (pow-add 2 (b - 1) 1)) in
+    let o = opposite B (2 ^ (b - 1)) (2 ^ b) even h in
+    rw (o .size, o .sign, turn-sign) (minus-one (cond (row d .rising) (nonNeg (subℕ (2 * B + 1) (2 ^ b))) (not (nonNeg (subℕ (2 * B + 1) (2 ^ b))))) _)
