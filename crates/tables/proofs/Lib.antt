@@ -16,3 +16,4 @@ pub mod SumLaws
 pub mod CheckLaws
 pub mod WordLaws
 pub mod BatchLaws
+pub mod Opened
