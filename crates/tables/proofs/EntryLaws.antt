@@ -29,8 +29,8 @@ use Rattle.tables.specs.Fill.{
   offsetEntries,
   initialAfter,
   offsetsAfter,
+  Filled,
 }
-use Rattle.tables.specs.Demand.{Filled}
 use Rattle.tables.proofs.SetLaws.{usable}
 
 -- The list of f over the numbers below n has n elements, and f k at place k.

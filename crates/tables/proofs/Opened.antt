@@ -20,12 +20,11 @@ use Rattle.tables.specs.Evaluate.{wordChecks, evaluateVerdict, evaluateA
 use Rattle.tables.specs.Batch.{outputCheck, roomVerdict, wordsBelow, placeVerdict, batchAnswer, outputAfter}
 use Rattle.tables.specs.Check as Check
 use Rattle.tables.specs.Check.{faithfulAt, checkVerdict, checkAnswer}
-use Rattle.tables.specs.Demand.{margin, scaledWord}
 
 unfoldable pub tables-opened : Unit {0}
 unfolding
     design-opened valueAt endValues initialAt hiAt loAt oddNumber magnitude sameSign offsetAt signedSum offsetFor sumAt sumOutside
     wordOf wordAt isFaithful tablesCheck setChecks admittedCheck fillVerdict listBelow initialEntries tableEntries offsetsBelow
     offsetEntries initialAfter offsetsAfter wordChecks evaluateVerdict evaluateAnswer outputCheck roomVerdict wordsBelow placeVerdict
-    batchAnswer outputAfter faithfulAt Check.wordsBelow checkVerdict checkAnswer margin scaledWord
+    batchAnswer outputAfter faithfulAt Check.wordsBelow checkVerdict checkAnswer
 tables-opened = tt

@@ -1,15 +1,16 @@
 -- What the call `fill` answers, "fill 1 to 11", and what it leaves in the tables, for any that are lent.
+use mathlib.Core.Path.{_≡_}
 use mathlib.Core.Bool.{not, _||_}
 use mathlib.Core.List.{List, [], _∷_, _++_}
-use Prim.Native.Nat.{ℕ, zero, suc, _/_, _%_, _^_}
+use Prim.Native.Nat.{ℕ, zero, suc, _/_, _%_, _^_, _≤_, _<_}
 use lib.Dec.{ltb}
-use lib.ListN.{length, drop}
-use lib.IntN.{ℤ}
+use lib.ListN.{length, getD, drop}
+use lib.IntN.{ℤ, pos}
 use Rattle.refusal.specs.declared.Cause.{Cause}
 use Rattle.refusal.specs.declared.Verdict.{Verdict}
 use Rattle.refusal.specs.Checks.{Check, _↝_, verdict}
 use Rattle.design.specs.declared.Design.{Design}
-use Rattle.design.specs.Cut.{bOf, initialCount, offsetCount, offsetTotal}
+use Rattle.design.specs.Cut.{aOf, bOf, initialCount, offsetCount, offsetTotal, offsetPlace}
 use Rattle.design.specs.Legal.{designChecks}
 use Rattle.design.specs.Budget.{withinLimit}
 use Rattle.tables.specs.Entries.{initialAt, offsetAt}
@@ -60,3 +61,11 @@ initialAfter d initial offsets = leaves (fillVerdict d (length initial) (length 
 
 unfoldable pub offsetsAfter : Design → List ℕ → List ℤ → List ℤ
 offsetsAfter d initial offsets = leaves (fillVerdict d (length initial) (length offsets)) (offsetEntries d) offsets
+
+-- "all lent tables that begin with the entries the fill writes for it"; "How the tables came by these entries does not matter"
+pub record Filled (d : Design) (initial : List ℕ) (offsets : List ℤ) : Type 0 where
+  pub initial-long : initialCount d ≤ length initial
+  pub offsets-long : offsetTotal d ≤ length offsets
+  pub initial-entry : (A : ℕ) → A < initialCount d → getD initial A 0 ≡ initialAt d A
+  pub offset-entry : (i A B : ℕ) → i < d .m → A < 2 ^ aOf d i → B < 2 ^ bOf d i
+      → getD offsets (offsetPlace d i A B) (pos 0) ≡ offsetAt d i A B

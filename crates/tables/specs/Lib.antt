@@ -1,4 +1,4 @@
--- What a reader has to believe of filled tables, their sums, the check and demand 3.
+-- What a reader has to believe of filled tables, their sums and the check.
 pub mod Inputs
 pub mod Entries
 pub mod Sum
@@ -7,4 +7,3 @@ pub mod Fill
 pub mod Evaluate
 pub mod Batch
 pub mod Check
-pub mod Demand

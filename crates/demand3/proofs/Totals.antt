@@ -8,8 +8,8 @@ use lib.Dec.{ltb}
 use lib.IntN.{ℤ, pos, negsuc, subℕ, _+ℤ_}
 use borrow.Author.Tests.{ltb-true, ltb-false}
 use Rattle.design.specs.Cut.{sumBelow}
 use Rattle.tables.specs.Sum.{signedSum}
-use Rattle.tables.proofs.Offsets.{added, taken}
+use Rattle.demand3.proofs.Offsets.{added, taken}
 
 -- z is a less t
 abbrev pub Balance : ℤ → ℕ → ℕ → Type 0

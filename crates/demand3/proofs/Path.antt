@@ -12,10 +12,10 @@ use Rattle.design.specs.Cut.{aOf, bOf, row, fractionBits, sumBelow, position, i
 use Rattle.design.specs.Budget.{reach}
 use Rattle.design.proofs.LegalLaws.{Limits, lawful}
 use Rattle.design.proofs.CutLaws.{offset-word-lt, cut-word, initial-word-lt, segment-word-lt, word-on-segment, segment-within}
 use Rattle.tables.specs.Entries.{hiAt, loAt}
-use Rattle.tables.proofs.Steps.{Rises}
-use Rattle.tables.proofs.Climb.{Inside}
-use Rattle.tables.proofs.Enclosed.{Slopes, Course}
+use Rattle.demand3.proofs.Steps.{Rises}
+use Rattle.demand3.proofs.Climb.{Inside}
+use Rattle.demand3.proofs.Enclosed.{Slopes, Course}
 
 -- In table i, X lies B·2^p above the start and (2^b - 1 - B)·2^p below the end.
 unfoldable pub behind : Design → ℕ → ℕ → ℕ

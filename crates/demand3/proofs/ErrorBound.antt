@@ -16,10 +16,10 @@ use Rattle.design.specs.Budget.{reach, tableBudget, budget}
 use Rattle.design.proofs.LegalLaws.{Limits, slopewise}
 use Rattle.design.proofs.CutLaws.{segment-word-lt}
 use Rattle.design.proofs.BudgetLaws.{spread-le-largest}
 use Rattle.tables.specs.Entries.{valueAt, endValues, initialAt, hiAt, loAt, offsetAt}
-use Rattle.tables.proofs.Enclosed.{above-start, above-end, below-start, below-end}
-use Rattle.tables.proofs.Path.{first, last, done, left, done-left, course, intervalStart, intervalEnd, slopes-hold}
-use Rattle.tables.proofs.Offsets.{added, taken, Stands, offset-stands}
+use Rattle.demand3.proofs.Enclosed.{above-start, above-end, below-start, below-end}
+use Rattle.demand3.proofs.Path.{first, last, done, left, done-left, course, intervalStart, intervalEnd, slopes-hold}
+use Rattle.demand3.proofs.Offsets.{added, taken, Stands, offset-stands}
 
 -- What one table contributes, an offset that adds `plus` and takes `minus`, and `share` of the budget.
 record Table (high low done left plus minus share : ℕ) : Type 0 where

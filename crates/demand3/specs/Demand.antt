@@ -8,26 +8,17 @@ use lib.IntN.{ℤ, pos}
 use Rattle.refusal.specs.declared.Verdict.{Verdict}
 use Rattle.values.specs.Exact.{AtMost, AtLeast}
 use Rattle.design.specs.declared.Design.{Design}
-use Rattle.design.specs.Cut.{aOf, bOf, row, fractionBits, initialCount, offsetTotal, offsetPlace}
+use Rattle.design.specs.Cut.{row, fractionBits}
 use Rattle.design.specs.Budget.{budget}
 use Rattle.tables.specs.declared.Evaluated.{Evaluated}
 use Rattle.tables.specs.declared.Batched.{Batched}
 use Rattle.tables.specs.declared.Checked.{Checked}
-use Rattle.tables.specs.Entries.{initialAt, offsetAt}
 use Rattle.tables.specs.Sum.{sumAt, wordAt}
 use Rattle.tables.specs.Faithful.{Faithful}
-use Rattle.tables.specs.Fill.{fillVerdict, initialAfter, offsetsAfter}
+use Rattle.tables.specs.Fill.{fillVerdict, initialAfter, offsetsAfter, Filled}
 use Rattle.tables.specs.Evaluate.{evaluateAnswer}
 use Rattle.tables.specs.Batch.{batchAnswer, outputAfter}
 use Rattle.tables.specs.Check.{checkAnswer}
-
--- "all lent tables that begin with the entries the fill writes for it"; "How the tables came by these entries does not matter"
-pub record Filled (d : Design) (initial : List ℕ) (offsets : List ℤ) : Type 0 where
-  pub initial-long : initialCount d ≤ length initial
-  pub offsets-long : offsetTotal d ≤ length offsets
-  pub initial-entry : (A : ℕ) → A < initialCount d → getD initial A 0 ≡ initialAt d A
-  pub offset-entry : (i A B : ℕ) → i < d .m → A < 2 ^ aOf d i → B < 2 ^ bOf d i
-      → getD offsets (offsetPlace d i A B) (pos 0) ≡ offsetAt d i A B
 
 -- "let R = budget + 2^(g+17) and Y' = 2^(18+g)·y"
 unfoldable pub margin : Design → ℕ

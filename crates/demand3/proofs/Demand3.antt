@@ -21,26 +21,26 @@ use Rattle.design.specs.Cut.{aOf, bOf, row, fractionBits, sumBelow, initialWord
 use Rattle.design.specs.Budget.{budget, limit, Admitted}
 use Rattle.design.proofs.LegalLaws.{Limits, limits, lawful}
 use Rattle.design.proofs.CutLaws.{initial-word-lt, segment-word-lt, offset-word-lt}
 use Rattle.tables.specs.declared.Evaluated.{Evaluated}
 use Rattle.tables.specs.declared.Batched.{Batched}
 use Rattle.tables.specs.declared.Checked.{Checked}
 use Rattle.tables.specs.Inputs.{Usable}
 use Rattle.tables.specs.Entries.{initialAt}
 use Rattle.tables.specs.Sum.{signedSum, offsetFor, sumAt, sumOutside, wordOf, wordAt}
-use Rattle.tables.specs.Fill.{setChecks}
+use Rattle.tables.specs.Fill.{setChecks, Filled}
 use Rattle.tables.specs.Evaluate.{wordChecks, evaluateVerdict, evaluateAnswer}
 use Rattle.tables.specs.Batch.{outputCheck, roomVerdict, placeVerdict, batchAnswer, outputAfter}
 use Rattle.tables.specs.Check.{checkVerdict, checkAnswer}
-use Rattle.tables.specs.Demand.{Filled, margin, scaledWord, Word3, Batch3, Demand3}
+use Rattle.demand3.specs.Demand.{margin, scaledWord, Word3, Batch3, Demand3}
 use Rattle.tables.proofs.SetLaws.{set-passed}
-use Rattle.tables.proofs.Offsets.{added, taken}
-use Rattle.tables.proofs.Totals.{Balance, total-balance, not-negative}
-use Rattle.tables.proofs.ErrorBound.{offsetOf, sum-low, sum-high}
-use Rattle.tables.proofs.WordBound.{Near, GoodWord, sum-in-range, good-word}
-use Rattle.tables.proofs.Said.{said}
+use Rattle.demand3.proofs.Offsets.{added, taken}
+use Rattle.demand3.proofs.Totals.{Balance, total-balance, not-negative}
+use Rattle.demand3.proofs.ErrorBound.{offsetOf, sum-low, sum-high}
+use Rattle.demand3.proofs.WordBound.{Near, GoodWord, sum-in-range, good-word}
+use Rattle.demand3.proofs.Said.{said}
 use Rattle.tables.proofs.EntryLaws as EntryLaws
 use Rattle.tables.proofs.BatchLaws.{batch-all}
 use Rattle.tables.proofs.CheckLaws.{check-means}
 
 signed-congruence : (n : ℕ) (f g : ℕ → ℤ) → ((i : ℕ) → i < n → f i ≡ g i) → signedSum n f ≡ signedSum n g
 unfolding signedSum

@@ -5,7 +5,7 @@ use Prim.Native.Nat.{ℕ, _+_, _*_, _^_}
 use Rattle.values.specs.Rows.{rows, rowOf}
 use Rattle.values.specs.Exact.{numberSide, valueSide}
 use Rattle.values.proofs.Document.{Reads, reads}
-use Rattle.tables.specs.Demand.{Between}
+use Rattle.demand3.specs.Demand.{Between}
 
 module _ (_≺_ : ℕ → ℕ → Type 0) where
   infix 50 _≺_

@@ -12,8 +12,8 @@ use Rattle.values.proofs.ExactLaws.{below, number-cancel, at-most-finer, more-t
 use Rattle.values.proofs.FloorLaws.{floor-greatest, floor-next}
 use Rattle.values.proofs.SlopeLaws.{Steeper, Flatter, range-pos}
 use Rattle.design.specs.Cut.{sumBelow}
-use Rattle.tables.proofs.Steps.{Rises, gain-at-most, gain-at-least}
-use Rattle.tables.proofs.Climb.{Inside, climb}
+use Rattle.demand3.proofs.Steps.{Rises, gain-at-most, gain-at-least}
+use Rattle.demand3.proofs.Climb.{Inside, climb}
 
 -- An interval from s to e, and slopes of m tables that hold on it: high i at least, low i at most the slope
 pub record Slopes (row : Row) (w P s e m : ℕ) (high low : ℕ → ℕ) : Type 0 where

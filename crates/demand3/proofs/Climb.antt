@@ -5,7 +5,7 @@ use Prim.Native.Nat.{ℕ, zero, suc, _+_, _*_, _≤_, _<_}
 use native.Mathlib.Nat.{add-zero, add-assoc, le-refl, le-step, le-trans}
 use native.Mathlib.Omega.{arith}
 use Rattle.design.specs.Cut.{sumBelow}
-use Rattle.tables.proofs.Steps.{Rises}
+use Rattle.demand3.proofs.Steps.{Rises}
 
 -- X lies between s and e
 pub record Inside (s e X : ℕ) : Type 0 where

@@ -10,8 +10,8 @@ use Rattle.values.specs.Rows.{Lawful}
 use Rattle.values.specs.Inputs.{InRange}
 use Rattle.values.specs.Exact.{numberSide, valueSide, AtMost, LessThan, AtLeast, MoreThan}
 use Rattle.values.proofs.ExactLaws.{number-cancel, value-scale, number-scale, value-low, value-high}
 use Rattle.tables.specs.Faithful.{Faithful}
-use Rattle.tables.proofs.Path.{parts}
+use Rattle.demand3.proofs.Path.{parts}
 
 -- Fewer fraction bits: both sides lose the factor (2^k)^t.
 module _ (row : Row) (w X s t n : ℕ) where

@@ -14,8 +14,8 @@ use borrow.Author.Tests.{ltb-true, ltb-false, lt-ltb, le-ltb}
 use Rattle.design.specs.declared.Design.{Design}
 use Rattle.design.specs.Cut.{bOf, row, position, segmentWord, offsetWord}
 use Rattle.design.proofs.CutLaws.{offset-word-lt}
 use Rattle.tables.specs.Entries.{hiAt, loAt, oddNumber, magnitude, sameSign, offsetAt}
-use Rattle.tables.proofs.Path.{behind, ahead, done, left, parts}
+use Rattle.demand3.proofs.Path.{behind, ahead, done, left, parts}
 
 abbrev pub added : ℤ → ℕ
 added (pos n) = n

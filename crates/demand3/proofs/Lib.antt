@@ -1,0 +1,11 @@
+-- The proof of demand 3, from a single step to the whole statement.
+pub mod Steps
+pub mod Climb
+pub mod Enclosed
+pub mod Path
+pub mod Offsets
+pub mod Totals
+pub mod ErrorBound
+pub mod WordBound
+pub mod Said
+pub mod Demand3
