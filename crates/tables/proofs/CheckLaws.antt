@@ -16,7 +16,7 @@ use Rattle.design.proofs.Sums.{below-suc}
 use Rattle.tables.specs.declared.Checked.{Checked}
 use Rattle.tables.specs.Sum.{sumAt, sumOutside, wordAt}
 use Rattle.tables.specs.Faithful.{Faithful, isFaithful}
-use Rattle.tables.specs.Check.{faithfulAt, wordsBelow, checkVerdict, checkAnswer}
+use Rattle.tables.specs.Check.{faithfulAt, wordsBelow, checkVerdict, checkAnswer, refusalOf}
 
 pub both : (a b : Bool) → a && b ≡ true → (a ≡ true) × (b ≡ true)
 both true b e = (refl, e)
@@ -93,6 +93,13 @@ module _ (n : ℕ) (test : ℕ → Bool) where
       ⊎-elim (λ all. absurd (not-both (sym (check-all n test all) ∙ e)))
       (λ l. rw (← same-word (sym (check-bad n (l .0) test (l .1 .inside) (l .1 .below) (l .1 .fails)) ∙ e)) (l .1))
       (all-or-lowest n test)
+
+-- The search itself turns nothing down.
+pub search-unrefused : (n : ℕ) (test : ℕ → Bool) → refusalOf (wordsBelow n test) ≡ 0
+search-unrefused n test =
+    ⊎-elim (λ (all : (x : ℕ) → x < n → test x ≡ true). rw (check-all n test all) refl)
+    (λ (l : (x : ℕ) × Lowest n test x). rw (check-bad n (l .0) test (l .1 .inside) (l .1 .below) (l .1 .fails)) refl)
+    (all-or-lowest n test)
 
 -- An input "has a word, less than one output unit from the exact value".
 pub record FaithfulWord (d : Design) (initial : List ℕ) (offsets : List ℤ) (x : ℕ) : Type 0 where

@@ -1,0 +1,72 @@
+-- The search from 0 upwards: what is known before word x, how it goes on, and what it comes to.
+use mathlib.Core.Path.{_≡_, refl, sym, _∙_}
+use mathlib.Core.Bool.{Bool, true, false}
+use Prim.Native.Nat.{ℕ, _+_, _-_, _*_, _^_, _≤_, _<_}
+use native.Mathlib.Nat.{add-sub-of-le, le-of-lt, mul-le-mul-right, not-suc-le-zero, one-le-mul}
+use native.Mathlib.Numerals.{add-one}
+use native.Mathlib.Omega.{arith}
+use lib.Pow.{pow-add, pow-mono, pow-pos}
+use Rattle.design.specs.declared.Design.{Design}
+use Rattle.design.proofs.LegalLaws.{Limits}
+use Rattle.design.proofs.Sums.{below-suc}
+use Rattle.tables.specs.declared.Checked.{Checked}
+use Rattle.tables.specs.Check.{wordsBelow}
+use Rattle.tables.proofs.CheckLaws.{check-all, check-bad}
+
+-- Every word below x is faithful, and the answer says so.
+pub record Searched (test : ℕ → Bool) (answer : Checked) (x : ℕ) : Type 0 where
+  pub answer-is : answer ≡ Checked.Faithful
+  pub all : (i : ℕ) → i < x → test i ≡ true
+
+module _ (test : ℕ → Bool) where
+  pub searched-none : Searched test Checked.Faithful 0
+  searched-none = record { answer-is = refl; all = λ i h. absurd (not-suc-le-zero h) }
+
+  module _ {answer : Checked} where
+    pub searched-more : {x : ℕ} → Searched test answer x → test x ≡ true → Searched test answer (x + 1)
+    searched-more s e = record { answer-is = s .answer-is; all = λ i h. below-suc (rw add-one at h) (λ at. rw at e) (s .all i) }
+
+    pub searched-all : {n : ℕ} → Searched test answer n → answer ≡ wordsBelow n test
+    searched-all s = s .answer-is ∙ sym (check-all _ test (s .all))
+
+    pub searched-found : {n x : ℕ} → Searched test answer x → x < n → test x ≡ false → Checked.Unfaithful x ≡ wordsBelow n test
+    searched-found s h e = sym (check-bad _ _ test h (s .all) e)
+
+    -- an interval that is searched to its end leads to the next
+    pub next-interval : (interval rests rest : ℕ) → Searched test answer (interval * rests + rest) → rest ≡ rests
+        → Searched test answer ((interval + 1) * rests)
+    next-interval interval rests rest s e =
+        let end : interval * rests + rests ≡ (interval + 1) * rests = omega arith in
+        rw (e, end) at s
+
+-- How many intervals and words in each the two loops run over: all 2^w words, at most 2^16.
+pub record Counts (d : Design) (intervals rests : ℕ) : Type 0 where
+  pub product : intervals * rests ≡ 2 ^ d .w
+  pub words-small : 2 ^ d .w ≤ 2 ^ 16
+  pub intervals-small : intervals ≤ 2 ^ 16
+  pub rests-small : rests ≤ 2 ^ 16
+
+module _ (d : Design) (l : Limits d) where
+  pub intervals-fit : 2 ^ d .alpha ≤ 2 ^ 16
+  intervals-fit = pow-mono {j = 16} (omega (arith, l .alpha-high))
+
+  pub rests-fit : 2 ^ (d .w - d .alpha) ≤ 2 ^ 16
+  rests-fit = pow-mono {j = 16} (omega (arith, l .widths .w-high))
+
+  pub counts : {intervals rests : ℕ} → intervals ≡ 2 ^ d .alpha → rests ≡ 2 ^ (d .w - d .alpha) → Counts d intervals rests
+  counts intervals-is rests-is =
+      record {
+        product = rw (intervals-is, rests-is, ← pow-add 2 (d .alpha) (d .w - d .alpha), add-sub-of-le (le-of-lt (l .alpha-below))) refl;
+        words-small = pow-mono (l .widths .w-high);
+        intervals-small = omega (arith, intervals-fit);
+        rests-small = omega (arith, rests-fit);
+      }
+
+-- An interval begins before the last word's end, and each of its words is one of them.
+pub start-inside : {d : Design} {intervals rests interval : ℕ} → Counts d intervals rests → interval < intervals
+    → interval * rests ≤ 2 ^ d .w
+start-inside {rests} n h = omega (arith, n .product, mul-le-mul-right rests h)
+
+pub word-inside : {d : Design} {intervals rests interval rest : ℕ} → Counts d intervals rests → interval < intervals → rest < rests
+    → interval * rests + rest < 2 ^ d .w
+word-inside {rests} n h k = omega (arith, n .product, mul-le-mul-right rests h)

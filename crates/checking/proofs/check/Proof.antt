@@ -1,0 +1,56 @@
+-- `checking::check` meets its contract: refusals 1 to 10, then the search.
+use mathlib.Core.Path.{_≡_, sym, _∙_}
+use mathlib.Core.List.{List}
+use Prim.Native.Nat.{ℕ, _^_}
+use lib.IntN.{ℤ}
+use borrow.Author.Needs.{needs}
+use Rattle.refusal.specs.declared.Cause.{Cause}
+use Rattle.refusal.specs.declared.Verdict.{Verdict}
+use Rattle.refusal.specs.Numbers.{verdictNumber}
+use Rattle.design.specs.declared.Design.{Design}
+use Rattle.tables.specs.declared.Checked.{Checked}
+use Rattle.tables.specs.Check.{faithfulAt, wordsBelow, checkVerdict, checkAnswer, refusalOf}
+use Rattle.tables.proofs.SetLaws.{usable}
+use Rattle.tables.proofs.CheckLaws.{check-searches, search-unrefused}
+use Rattle.checking.proofs.check.Statement.{statement}
+use Rattle.checking.proofs.check.Tie as tie
+
+module _ (d : Design) (initial : List ℕ) (offsets : List ℤ) where
+  -- what is promised of an answer
+  abbrev Promised : Checked → Type 0
+  Promised r = (r ≡ checkAnswer d initial offsets) × (refusalOf r ≡ verdictNumber (checkVerdict d initial offsets))
+
+  refused : (cause : Cause) → checkVerdict d initial offsets ≡ Verdict.Refused cause → Promised (Checked.Refused cause)
+  unfolding checkAnswer
+  refused cause e = (rw e, rw e)
+
+  searched : checkVerdict d initial offsets ≡ Verdict.Passed → (r : Checked)
+      → r ≡ wordsBelow (2 ^ d .w) (faithfulAt d initial offsets) → Promised r
+  searched e r r-is = (r-is ∙ sym (check-searches d initial offsets e), rw (r-is, e) (search-unrefused _ _))
+
+set-verdict-requires : tie.Need-set-verdict-requires
+set-verdict-requires c κs = search needs
+
+enum-known-cause : tie.Need-enum-known-cause
+enum-known-cause c = search needs
+
+returns : tie.Need-returns
+unfolding checkVerdict
+returns c = refused _ _ _ _ (sym (c .before .before .before .set-verdict .ensures) ∙ c .before .cause .given .1)
+
+enum-told : tie.Need-enum-told
+enum-told c = search needs
+
+search-requires : tie.Need-search-requires
+search-requires c κs = usable _ _ _ (sym (c .before .before .set-verdict .ensures) ∙ c .enum-told .given .1)
+
+returns-2 : tie.Need-returns-2
+unfolding checkVerdict
+returns-2 c =
+    let b = c .before in
+    searched _ _ _ (sym (b .before .before .set-verdict .ensures) ∙ b .enum-told .given .1) _ (c .search .ensures)
+
+pub check-spec : {M : Type 1} → statement M
+check-spec =
+    tie.close
+    (tie.spec set-verdict-requires enum-known-cause returns enum-told search-requires returns-2)

@@ -1,0 +1,128 @@
+-- `checking::search` meets its contract: up to here every word is faithful, over whole intervals and then within one.
+use mathlib.Core.Path.{_≡_, sym, _∙_}
+use Prim.Native.Nat.{_+_, _-_, _*_, _^_, _≤_, _<_}
+use native.Mathlib.Nat.{zero-mul, add-zero, add-assoc}
+use native.Mathlib.Omega.{arith}
+use borrow.Author.Tests.{not-true, not-false}
+use Rattle.refusal.proofs.Checks.{tested}
+use Rattle.design.proofs.LegalLaws.{Limits, limits}
+use Rattle.tables.specs.Check.{faithfulAt}
+use Rattle.checking.proofs.SearchLaws.{Searched, searched-none, searched-more, searched-all, searched-found, next-interval, Counts, intervals-fit, rests-fit, counts, start-inside, word-inside}
+use Rattle.checking.proofs.search.Statement.{statement}
+use Rattle.checking.proofs.search.Tie as tie
+
+abbrev Inv-loop : tie.InvT-loop
+Inv-loop d initial offsets intervals rests answer₀ interval start rest₀ answer rest =
+    Searched (faithfulAt d initial offsets) answer (start + rest) × (rest ≤ rests)
+
+abbrev μ-loop : tie.MeasureT-loop
+μ-loop d initial offsets intervals rests answer₀ interval start rest₀ answer rest = rests - rest
+
+abbrev Inv-words : tie.InvT-words
+Inv-words d initial offsets intervals rests answer₀ interval₀ answer interval =
+    Searched (faithfulAt d initial offsets) answer (interval * rests) × (interval ≤ intervals)
+
+abbrev μ-words : tie.MeasureT-words
+μ-words d initial offsets intervals rests answer₀ interval₀ answer interval = intervals - interval
+
+pow2-requires : tie.Need-pow2-requires Inv-loop μ-loop Inv-words μ-words
+pow2-requires c κs = omega (arith, limits _ (c .before .pre .legal) .alpha-high)
+
+cast-intervals : tie.Need-cast-intervals Inv-loop μ-loop Inv-words μ-words
+cast-intervals c = omega (arith, c .pow2 .ensures, intervals-fit _ (limits _ (c .before .before .pre .legal)))
+
+sub-pow2 : tie.Need-sub-pow2 Inv-loop μ-loop Inv-words μ-words
+sub-pow2 c = omega (arith, limits _ (c .before .before .before .pre .legal) .alpha-below)
+
+pow2-requires-2 : tie.Need-pow2-requires-2 Inv-loop μ-loop Inv-words μ-words
+pow2-requires-2 c κs = omega (arith, limits _ (c .before .before .before .pre .legal) .widths .w-high)
+
+cast-rests : tie.Need-cast-rests Inv-loop μ-loop Inv-words μ-words
+cast-rests c = omega (arith, c .pow22 .ensures, rests-fit _ (limits _ (c .before .before .before .before .pre .legal)))
+
+words-holds : tie.Need-words-holds Inv-loop μ-loop Inv-words μ-words
+words-holds c = (rw zero-mul (searched-none _), omega arith)
+
+-- the loops' two counts
+counted : (c : tie.After-pow22 Inv-loop μ-loop Inv-words μ-words)
+    → Counts (c .before .before .before .before .args .d) (c .before .before .pow2 .result) (c .pow22 .result)
+counted c =
+    counts _ (limits _ (c .before .before .before .before .pre .legal)) (c .before .before .pow2 .ensures) (c .pow22 .ensures)
+
+mul-start : tie.Need-mul-start Inv-loop μ-loop Inv-words μ-words
+mul-start c =
+    let n = counted (c .before .before) in
+    omega (arith, n .product, n .words-small, start-inside n (c .words-test .taken))
+
+loop-holds : tie.Need-loop-holds Inv-loop μ-loop Inv-words μ-words
+loop-holds c = (rw add-zero (c .before .words .inv .0), omega arith)
+
+-- the word of this turn
+inside : (c : tie.In-loop Inv-loop μ-loop Inv-words μ-words) → let b = c .before .before .before in
+    b .words .interval * b .before .pow22 .result + c .before .loop .rest < 2 ^ b .before .before .before .before .before .args .d .w
+inside c =
+    word-inside (counted (c .before .before .before .before)) (c .before .before .words-test .taken) (c .loop-test .taken)
+
+add-x : tie.Need-add-x Inv-loop μ-loop Inv-words μ-words
+add-x c = omega (arith, inside c, counted (c .before .before .before .before) .words-small)
+
+word-is-faithful-requires : tie.Need-word-is-faithful-requires Inv-loop μ-loop Inv-words μ-words
+word-is-faithful-requires c κs = (c .before .before .before .before .before .before .before .before .pre, inside c)
+
+add-rest : tie.Need-add-rest Inv-loop μ-loop Inv-words μ-words
+add-rest c = omega (arith, counted (c .before .before .before .before .before .before) .rests-small)
+
+loop-less : tie.Need-loop-less Inv-loop μ-loop Inv-words μ-words
+loop-less c = omega arith
+
+loop-again : tie.Need-loop-again Inv-loop μ-loop Inv-words μ-words
+loop-again c =
+    let s = searched-more _ (c .before .before .before .loop .inv .0)
+    (tested (c .before .word-is-faithful .ensures) (not-false _ (c .if1 .left))) in
+    (rw (← add-assoc) s, omega arith)
+
+add-interval : tie.Need-add-interval Inv-loop μ-loop Inv-words μ-words
+add-interval c = omega (arith, counted (c .before .before .before .before) .intervals-small)
+
+words-less : tie.Need-words-less Inv-loop μ-loop Inv-words μ-words
+words-less c = omega arith
+
+words-again : tie.Need-words-again Inv-loop μ-loop Inv-words μ-words
+words-again c = (next-interval _ _ _ _ (c .before .loop .inv .0) (omega arith), omega arith)
+
+returns : tie.Need-returns Inv-loop μ-loop Inv-words μ-words
+returns c =
+    let all : c .before .words .interval ≡ c .before .before .before .before .pow2 .result = omega arith in
+    searched-all _ (rw (all, counted (c .before .before) .product) at (c .before .words .inv .0))
+
+returns-2 : tie.Need-returns-2 Inv-loop μ-loop Inv-words μ-words
+returns-2 c =
+    searched-found _ (c .before .before .before .loop .inv .0) (inside (c .before .before))
+    (tested (c .before .word-is-faithful .ensures) (not-true _ (c .if1 .taken)))
+
+pub search-spec : {M : Type 1} → statement M
+search-spec =
+    tie.close
+    (tie.spec
+    Inv-loop
+    μ-loop
+    Inv-words
+    μ-words
+    pow2-requires
+    cast-intervals
+    sub-pow2
+    pow2-requires-2
+    cast-rests
+    words-holds
+    mul-start
+    loop-holds
+    add-x
+    word-is-faithful-requires
+    add-rest
+    loop-less
+    loop-again
+    add-interval
+    words-less
+    words-again
+    returns
+    returns-2)

@@ -1,0 +1,113 @@
+-- `checking::word_is_faithful` meets its contract: a sum out of range settles it, and else the word, of at most 18 bits, is tried.
+use mathlib.Core.Path.{_≡_, ap, sym, _∙_}
+use mathlib.Core.Bool.{Bool, true, false}
+use mathlib.Core.List.{List}
+use Prim.Native.Nat.{ℕ, _+_, _*_, _^_, _<_, _≤_}
+use native.Mathlib.Nat.{lt-of-lt-of-le}
+use native.Mathlib.Omega.{arith}
+use lib.IntN.{ℤ, natAbs}
+use lib.Pow.{pow-mono, shr-lt}
+use borrow.Author.Needs.{needs}
+use Rattle.refusal.proofs.Checks.{tested}
+use Rattle.values.specs.declared.TableUnits.{TableUnits}
+use Rattle.values.specs.declared.OutputUnits.{OutputUnits}
+use Rattle.values.specs.declared.rows.Row.{Row}
+use Rattle.values.specs.Inputs.{FloorInput}
+use Rattle.design.specs.declared.Design.{Design}
+use Rattle.design.specs.Cut.{row, fractionBits}
+use Rattle.design.proofs.LegalLaws.{Limits, limits, lawful}
+use Rattle.tables.specs.Sum.{sumAt, sumOutside, wordOf, wordAt}
+use Rattle.tables.specs.Faithful.{isFaithful}
+use Rattle.tables.specs.Check.{faithfulAt}
+use Rattle.tables.proofs.SumLaws.{in-range}
+use Rattle.checking.proofs.word_is_faithful.Statement.{statement}
+use Rattle.checking.proofs.word_is_faithful.Tie as tie
+
+module _ (d : Design) (l : Limits d) where
+  width-small : 2 ^ d .w ≤ 2 ^ 16
+  width-small = pow-mono (l .widths .w-high)
+
+  exact-at : (x : ℕ) → x < 2 ^ d .w → FloorInput (row d) (d .w) (d .q) (2 ^ d .w + x)
+  exact-at x h =
+      record {
+        lawful = lawful d l;
+        w-small = l .widths .w-high;
+        P-small = omega (arith, l .widths);
+        range = record { low = omega arith; high = omega arith };
+      }
+
+  word-small : (Y : ℤ) → sumOutside d Y ≡ false → wordOf d Y < 2 ^ 18
+  unfolding wordOf
+  word-small Y e =
+      let places : fractionBits d + 2 ≡ d .q + 2 + d .g = omega arith in
+      lt-of-lt-of-le (shr-lt (d .q + 2) (d .g) (rw places at (in-range d Y e .1))) (pow-mono {j = 18} (omega (arith, l .widths)))
+
+-- The answer, by what the calls promise
+module _ (d : Design) (initial : List ℕ) (offsets : List ℤ) (x : ℕ) (sum : TableUnits) (outside : Bool)
+    (sum-is : sum ≡ record { 0 = sumAt d initial offsets x }) (outside-is : outside ≡ sumOutside d (sum .0)) where
+  no-word : outside ≡ true → false ≡ faithfulAt d initial offsets x
+  unfolding faithfulAt
+  no-word e = let out : sumOutside d (sumAt d initial offsets x) ≡ true = rw sum-is at (tested outside-is e) in rw out
+
+  by-word : outside ≡ false → (r : Row) (one : ℕ) (word : OutputUnits) → r ≡ row d → one ≡ 2 ^ d .w
+      → word ≡ record { 0 = wordOf d (sum .0) } → isFaithful r (d .w) (d .q) (one + x) (word .0) ≡ faithfulAt d initial offsets x
+  unfolding faithfulAt wordAt
+  by-word e r one word row-is one-is word-is =
+      let inside : sumOutside d (sumAt d initial offsets x) ≡ false = rw sum-is at (tested outside-is e) in
+      rw (row-is, one-is, word-is, sum-is, inside)
+
+sum-of-requires : tie.Need-sum-of-requires
+sum-of-requires c κs = search needs
+
+sum-outside-requires : tie.Need-sum-outside-requires
+sum-outside-requires c κs = search needs
+
+returns : tie.Need-returns
+returns c =
+    no-word _ _ _ _ _ _ (c .before .before .sum-of .ensures) (c .before .sum-outside .ensures) (c .if1 .taken)
+
+row-of-requires : tie.Need-row-of-requires
+row-of-requires c κs = omega (arith, limits _ (c .before .before .before .before .pre .0 .legal) .widths .kind-high)
+
+pow2-requires : tie.Need-pow2-requires
+pow2-requires c κs = omega (arith, limits _ (c .before .before .before .before .before .pre .0 .legal) .widths .w-high)
+
+add-is-faithful : tie.Need-add-is-faithful
+add-is-faithful c =
+    let p = c .before .before .before .before .before .before .pre in
+    omega (arith, width-small _ (limits _ (p .0 .legal)), c .pow2 .ensures, p .1)
+
+word-of-requires : tie.Need-word-of-requires
+word-of-requires c κs =
+    let b = c .before .before in
+    (b .before .before .before .before .pre .0 .legal, tested (b .before .sum-outside .ensures) (b .if1 .left))
+
+is-faithful-requires : tie.Need-is-faithful-requires
+is-faithful-requires c κs =
+    let b = c .before .before .before in
+    let p = b .before .before .before .before .pre in
+    let l = limits _ (p .0 .legal) in (
+      rw (c .before .before .row-of .ensures, c .before .pow2 .ensures) (exact-at _ l _ (p .1)),
+      rw (c .word-of .ensures) (word-small _ l _ (tested (b .before .sum-outside .ensures) (b .if1 .left))),
+    )
+
+returns-2 : tie.Need-returns-2
+returns-2 c =
+    let b = c .before .before .before .before in
+    c .is-faithful .ensures
+    ∙ by-word _ _ _ _ _ _ (b .before .before .sum-of .ensures) (b .before .sum-outside .ensures) (b .if1 .left) _ _ _
+    (c .before .before .before .row-of .ensures) (c .before .before .pow2 .ensures) (c .before .word-of .ensures)
+
+pub word-is-faithful-spec : {M : Type 1} → statement M
+word-is-faithful-spec =
+    tie.close
+    (tie.spec
+    sum-of-requires
+    sum-outside-requires
+    returns
+    row-of-requires
+    pow2-requires
+    add-is-faithful
+    word-of-requires
+    is-faithful-requires
+    returns-2)

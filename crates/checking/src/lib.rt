@@ -1,0 +1,86 @@
+// The check of any tables, whoever filled them: faithful, or the lowest word that is not.
+ghost use mathlib.Core.Path.{_≡_};
+ghost use Prim.Native.Nat.{_^_, _<_};
+ghost use lib.ListN.{length};
+ghost use Rattle.refusal.specs.Numbers.{verdictNumber};
+ghost use Rattle.values.specs.Inputs.{FloorInput};
+ghost use Rattle.tables.specs.Inputs.{Usable};
+ghost use Rattle.tables.specs.Faithful.{isFaithful};
+ghost use Rattle.tables.specs.Check.{faithfulAt, wordsBelow, checkVerdict, checkAnswer, refusalOf};
+use design::Design;
+use refusal::Verdict;
+use tables::Checked;
+use tables::set_verdict;
+use tables::sums::sum_of;
+use tables::sums::sum_outside;
+use tables::sums::word_of;
+use values::OutputUnits;
+use values::exact::number_side;
+use values::exact::value_side;
+use values::floor::pow2;
+use values::rows::Row;
+use values::rows::row_of;
+
+// Whether y ≥ 1 is strictly less than one output unit from the exact value.
+fn is_faithful(row: Row, w: u32, q: u32, x: u64, y: OutputUnits) -> bool
+    requires { ⌜ FloorInput row w q x ⌝ }
+    requires { ⌜ y .0 < 2 ^ 18 ⌝ }
+    ensures { λ r. ⌜ r ≡ isFaithful row w q x (y .0) ⌝ }
+{
+    let word = y.0 as u64;
+    if word < 1 {
+        return false;
+    }
+    let exact = value_side(row, w, q, x);
+    number_side(row, w, x, word - 1) < exact && exact < number_side(row, w, x, word + 1)
+}
+
+// A word whose sum is refused counts as unfaithful.
+fn word_is_faithful(d: Design, initial: &[u32], offsets: &[i32], x: u32) -> bool
+    requires { ⌜ Usable d (length (now initial)) (length (now offsets)) ⌝ }
+    requires { ⌜ x < 2 ^ d .w ⌝ }
+    ensures { λ r. ⌜ r ≡ faithfulAt d (now (initial .entry)) (now (offsets .entry)) x ⌝ }
+{
+    let sum = sum_of(d, initial, offsets, x);
+    if sum_outside(d, sum) {
+        return false;
+    }
+    is_faithful(
+        row_of(d.kind),
+        d.w,
+        d.q,
+        pow2(d.w) + x as u64,
+        word_of(d, sum),
+    )
+}
+
+// From 0 upwards, over each interval A and the rest of x, to the lowest unfaithful word.
+fn search(d: Design, initial: &[u32], offsets: &[i32]) -> Checked
+    requires { ⌜ Usable d (length (now initial)) (length (now offsets)) ⌝ }
+    ensures { λ r. ⌜ r ≡ wordsBelow (2 ^ d .w) (faithfulAt d (now (initial .entry)) (now (offsets .entry))) ⌝ }
+{
+    let intervals = pow2(d.alpha) as u32;
+    let rests = pow2(d.w - d.alpha) as u32;
+    let mut answer = Checked::Faithful;
+    'words: for interval in 0..intervals {
+        let start = interval * rests;
+        for rest in 0..rests {
+            let x = start + rest;
+            if !word_is_faithful(d, initial, offsets, x) {
+                answer = Checked::Unfaithful(x);
+                break 'words;
+            }
+        }
+    }
+    answer
+}
+
+pub fn check(d: Design, initial: &[u32], offsets: &[i32]) -> Checked
+    ensures answer { λ r. ⌜ r ≡ checkAnswer d (now (initial .entry)) (now (offsets .entry)) ⌝ }
+    ensures number { λ r. ⌜ refusalOf r ≡ verdictNumber (checkVerdict d (now (initial .entry)) (now (offsets .entry))) ⌝ }
+{
+    if let Verdict::Refused(cause) = set_verdict(d, initial.len(), offsets.len()) {
+        return Checked::Refused(cause);
+    }
+    search(d, initial, offsets)
+}
