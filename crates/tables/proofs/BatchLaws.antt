@@ -1,11 +1,11 @@
 -- What a batch comes to, by the verdicts of its words, and how its output is written word by word.
-use mathlib.Core.Path.{_≡_, refl, sym, subst}
-use mathlib.Core.List.{List, _∷_, _++_}
+use mathlib.Core.Path.{_≡_, refl, sym, subst, _∙_}
+use mathlib.Core.List.{List, _++_, map}
 use Prim.Native.Nat.{ℕ, zero, suc, _+_, _≤_, _<_}
-use native.Mathlib.Nat.{le-refl, le-step, le-of-lt, not-suc-le-zero}
+use native.Mathlib.Nat.{le-of-eq, le-of-lt, le-refl, le-step, le-trans, lt-of-lt-of-le, not-suc-le-zero}
 use native.Mathlib.Numerals.{add-one}
-use lib.ListN.{length, getD, take, drop, set}
-use lib.Seq.{take-suc, drop-cons, append-snoc, length-take-le, set-at}
+use lib.ListN.{length, getD, take, drop, set, length-map, List·getD-map}
+use lib.Seq.{append-snoc, drop-cons, length-front, length-take-le, set-at, take-all, take-suc}
 use Rattle.refusal.specs.declared.Cause.{Cause}
 use Rattle.refusal.specs.declared.Verdict.{Verdict}
 use Rattle.design.proofs.Sums.{below-suc}
@@ -50,9 +50,31 @@ pub batch-passed : (n count : ℕ) (word : ℕ → Verdict) → wordsBelow n wor
     → (i : ℕ) → i < n → word i ≡ Verdict.Passed
 batch-passed n count word e = each-passed n word (subst Counted (sym e) tt)
 
--- The first i elements of `full` stand in front of what was there, and then one more does.
-pub written-more : {A : Type 0} (full before : List A) (i : ℕ) (z : A) → i < length full → i < length before
-    → set (take i full ++ drop i before) i (getD full i z) ≡ take (i + 1) full ++ drop (i + 1) before
-written-more full before i z h k =
-    rw (add-one, take-suc full i z h, append-snoc, drop-cons before i z k)
-    (set-at (take i full) (getD before i z) (drop (suc i) before) (getD full i z) i (length-take-le i full (le-of-lt h)))
+-- A batch's output once the first i words have been written: their images under f, then what was there.
+abbrev pub written : (ℕ → ℕ) → List ℕ → List ℕ → ℕ → List ℕ
+written f words before i = take i (map f words) ++ drop i before
+
+module _ (f : ℕ → ℕ) (words before : List ℕ) (room : length words ≤ length before) where
+  images : length (map f words) ≡ length words
+  images = length-map words f
+
+  pub written-length : (i : ℕ) → i ≤ length words → length (written f words before i) ≡ length before
+  written-length i h =
+      length-front before (take i (map f words)) i
+      (length-take-le i (map f words) (rw images h) ∙ sym (length-take-le i before (le-trans h room)))
+
+  pub written-more : (i : ℕ) → i < length words → set (written f words before i) i (f (getD words i 0)) ≡ written f words before (i + 1)
+  written-more i h =
+      let front = take i (map f words) in
+      rw (
+        add-one,
+        take-suc (map f words) i (f 0) (rw images h),
+        List·getD-map f words i 0,
+        append-snoc,
+        drop-cons before i 0 (lt-of-lt-of-le h room),
+      )
+      (set-at front (getD before i 0) (drop (suc i) before) (f (getD words i 0)) i
+      (length-take-le i (map f words) (rw images (le-of-lt h))))
+
+  pub written-all : written f words before (length words) ≡ map f words ++ drop (length words) before
+  written-all = rw (take-all (length words) (map f words) (le-of-eq images))

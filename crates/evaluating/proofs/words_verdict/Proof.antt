@@ -1,0 +1,80 @@
+-- `evaluating::words_verdict` meets its contract: every word before the present one passed, so the first that does not is the lowest.
+use mathlib.Core.Path.{_≡_, sym, _∙_}
+use Prim.Native.Nat.{ℕ, _-_, _≤_, _<_}
+use native.Mathlib.Omega.{arith}
+use borrow.Author.Count.{below-none, below-more}
+use borrow.Author.Needs.{needs}
+use lib.ListN.{length}
+use Rattle.refusal.specs.declared.Verdict.{Verdict}
+use Rattle.tables.specs.Batch.{placeVerdict}
+use Rattle.tables.proofs.BatchLaws.{batch-all, batch-bad}
+use Rattle.evaluating.proofs.words_verdict.Statement.{statement}
+use Rattle.evaluating.proofs.words_verdict.Tie as tie
+
+abbrev Inv-loop : tie.InvT-loop
+Inv-loop d initial offsets words i₀ i-end i =
+    (i ≤ length words) × ((j : ℕ) → j < i → placeVerdict d initial offsets words j ≡ Verdict.Passed)
+
+abbrev μ-loop : tie.MeasureT-loop
+μ-loop d initial offsets words i₀ i-end i = i-end - i
+
+loop-holds : tie.Need-loop-holds Inv-loop μ-loop
+loop-holds c = (omega arith, below-none _)
+
+mul-word-verdict : tie.Need-mul-word-verdict Inv-loop μ-loop
+mul-word-verdict c = omega arith
+
+shared-slice-read-word-verdict : tie.Need-shared-slice-read-word-verdict Inv-loop μ-loop
+shared-slice-read-word-verdict c = omega arith
+
+word-verdict-requires : tie.Need-word-verdict-requires Inv-loop μ-loop
+word-verdict-requires c κs = c .before .before .before .before .before .pre
+
+enum-known-cause : tie.Need-enum-known-cause Inv-loop μ-loop
+enum-known-cause c = search needs
+
+returns : tie.Need-returns Inv-loop μ-loop
+unfolding placeVerdict
+returns c =
+    let b = c .before .before .before .before .before in
+    sym (batch-bad _ _ _ _ (b .loop-test .taken) (b .before .loop .inv .1)
+    (sym (c .before .before .before .word-verdict .ensures) ∙ c .before .cause .given .1))
+
+enum-told : tie.Need-enum-told Inv-loop μ-loop
+enum-told c = search needs
+
+add-i : tie.Need-add-i Inv-loop μ-loop
+add-i c = omega arith
+
+loop-less : tie.Need-loop-less Inv-loop μ-loop
+loop-less c = omega arith
+
+loop-again : tie.Need-loop-again Inv-loop μ-loop
+unfolding placeVerdict
+loop-again c =
+    let b = c .before .before .before .before .before in
+    (omega arith, below-more _ _ (b .loop .inv .1) (sym (c .before .before .word-verdict .ensures) ∙ c .enum-told .given .1))
+
+returns-2 : tie.Need-returns-2 Inv-loop μ-loop
+returns-2 c =
+    let words = c .before .before .before .before .args .words .now in
+    let end : c .before .loop .i ≡ length words = omega arith in
+    sym (batch-all _ _ (rw end at (c .before .loop .inv .1)))
+
+pub words-verdict-spec : {M : Type 1} → statement M
+words-verdict-spec =
+    tie.close
+    (tie.spec
+    Inv-loop
+    μ-loop
+    loop-holds
+    mul-word-verdict
+    shared-slice-read-word-verdict
+    word-verdict-requires
+    enum-known-cause
+    returns
+    enum-told
+    add-i
+    loop-less
+    loop-again
+    returns-2)

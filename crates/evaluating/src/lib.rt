@@ -1,0 +1,117 @@
+// Evaluation of one word or of a batch, from any tables that are long enough for the design.
+ghost use mathlib.Core.Path.{_≡_};
+ghost use mathlib.Core.List.{_++_, map};
+ghost use Prim.Native.Nat.{ℕ, _<_, _≤_};
+ghost use lib.ListN.{length, drop};
+ghost use Rattle.refusal.specs.Numbers.{verdictNumber};
+ghost use Rattle.refusal.specs.Checks as Checks;
+ghost use Rattle.tables.specs.Inputs.{Usable};
+ghost use Rattle.tables.specs.Sum.{wordAt};
+ghost use Rattle.tables.specs.Evaluate.{wordChecks, evaluateVerdict, evaluateAnswer};
+ghost use Rattle.tables.specs.Evaluate as Evaluate;
+ghost use Rattle.tables.specs.Batch.{roomVerdict, placeVerdict, wordsBelow, batchAnswer, outputAfter};
+ghost use Rattle.tables.specs.Batch as Batch;
+use design::Design;
+use refusal::Cause;
+use refusal::Verdict;
+use tables::Batched;
+use tables::Evaluated;
+use tables::set_verdict;
+use tables::sums::sum_of;
+use tables::sums::sum_outside;
+use tables::sums::word_of;
+use values::OutputUnits;
+use values::floor::pow2;
+
+// Refusals 12 and 13 of a word.
+fn word_verdict(d: Design, initial: &[u32], offsets: &[i32], x: u32) -> Verdict
+    requires { ⌜ Usable d (length (now initial)) (length (now offsets)) ⌝ }
+    ensures { λ r. ⌜ r ≡ Checks.verdict (wordChecks d (now (initial .entry)) (now (offsets .entry)) x) ⌝ }
+{
+    if pow2(d.w) <= x as u64 {
+        return Verdict::Refused(Cause::WordRange);
+    }
+    let sum = sum_of(d, initial, offsets, x);
+    if sum_outside(d, sum) {
+        return Verdict::Refused(Cause::SumRange);
+    }
+    Verdict::Passed
+}
+
+// The word that x gets. Its verdict has been asked, and it passed.
+fn word(d: Design, initial: &[u32], offsets: &[i32], x: u32) -> OutputUnits
+    requires { ⌜ Usable d (length (now initial)) (length (now offsets)) ⌝ }
+    requires { ⌜ Checks.verdict (wordChecks d (now initial) (now offsets) x) ≡ Verdict.Passed ⌝ }
+    ensures { λ r. ⌜ r ≡ record { 0 = wordAt d (now (initial .entry)) (now (offsets .entry)) x } ⌝ }
+{
+    word_of(d, sum_of(d, initial, offsets, x))
+}
+
+pub fn evaluate(d: Design, initial: &[u32], offsets: &[i32], x: u32) -> Evaluated
+    ensures answer { λ r. ⌜ r ≡ evaluateAnswer d (now (initial .entry)) (now (offsets .entry)) x ⌝ }
+    ensures number { λ r. ⌜ Evaluate.refusalOf r ≡ verdictNumber (evaluateVerdict d (now (initial .entry)) (now (offsets .entry)) x) ⌝ }
+{
+    if let Verdict::Refused(cause) = set_verdict(d, initial.len(), offsets.len()) {
+        return Evaluated::Refused(cause);
+    }
+    if let Verdict::Refused(cause) = word_verdict(d, initial, offsets, x) {
+        return Evaluated::Refused(cause);
+    }
+    Evaluated::Word(word(d, initial, offsets, x))
+}
+
+// Refusals 1 to 10 and 14 of a batch: what is tried once, before any of its words.
+fn room_verdict(d: Design, initial: &[u32], offsets: &[i32], words: usize, output: usize) -> Verdict
+    ensures { λ r. ⌜ r ≡ roomVerdict d (now (initial .entry)) (now (offsets .entry)) words output ⌝ }
+{
+    if let Verdict::Refused(cause) = set_verdict(d, initial.len(), offsets.len()) {
+        return Verdict::Refused(cause);
+    }
+    if output < words {
+        return Verdict::Refused(Cause::OutputShort);
+    }
+    Verdict::Passed
+}
+
+// The first pass: how many words there are, or the lowest that is refused. It writes nothing.
+fn words_verdict(d: Design, initial: &[u32], offsets: &[i32], words: &[u32]) -> Batched
+    requires { ⌜ Usable d (length (now initial)) (length (now offsets)) ⌝ }
+    ensures { λ r. ⌜ r ≡ wordsBelow (length (now (words .entry))) (placeVerdict d (now (initial .entry)) (now (offsets .entry)) (now (words .entry))) ⌝ }
+{
+    for i in 0..words.len() {
+        if let Verdict::Refused(cause) = word_verdict(d, initial, offsets, words[i]) {
+            return Batched::Refused(cause, i);
+        }
+    }
+    Batched::Count(words.len())
+}
+
+// The second pass, once every word has passed: each word's output at its place.
+fn write_words(d: Design, initial: &[u32], offsets: &[i32], words: &[u32], output: &mut [u32])
+    requires { ⌜ Usable d (length (now initial)) (length (now offsets)) ⌝ }
+    requires { ⌜ ((i : ℕ) → i < length (now words) → placeVerdict d (now initial) (now offsets) (now words) i ≡ Verdict.Passed) ⌝ }
+    requires { ⌜ length (now words) ≤ length (now output) ⌝ }
+    ensures { λ r. ⌜ now (output .exit) ≡ map (wordAt d (now (initial .entry)) (now (offsets .entry))) (now (words .entry)) ++ drop (length (now (words .entry))) (now (output .entry)) ⌝ }
+{
+    for i in 0..words.len() {
+        let units = word(d, initial, offsets, words[i]);
+        output[i] = units.0;
+    }
+}
+
+// All words of the batch, or none: nothing is written before every word has been looked at.
+pub fn evaluate_batch(d: Design, initial: &[u32], offsets: &[i32], words: &[u32], output: &mut [u32]) -> Batched
+    ensures answer { λ r. ⌜ r ≡ batchAnswer d (now (initial .entry)) (now (offsets .entry)) (now (words .entry)) (length (now (output .entry))) ⌝ }
+    ensures contents { λ r. ⌜ now (output .exit) ≡ outputAfter d (now (initial .entry)) (now (offsets .entry)) (now (words .entry)) (now (output .entry)) ⌝ }
+    ensures number { λ r. ⌜ Batch.refusalOf r ≡ Batch.refusalOf (batchAnswer d (now (initial .entry)) (now (offsets .entry)) (now (words .entry)) (length (now (output .entry)))) ⌝ }
+    ensures place { λ r. ⌜ Batch.placeOf r ≡ Batch.placeOf (batchAnswer d (now (initial .entry)) (now (offsets .entry)) (now (words .entry)) (length (now (output .entry)))) ⌝ }
+{
+    if let Verdict::Refused(cause) = room_verdict(d, initial, offsets, words.len(), output.len()) {
+        return Batched::Refused(cause, 0);
+    }
+    if let Batched::Refused(cause, place) = words_verdict(d, initial, offsets, words) {
+        return Batched::Refused(cause, place);
+    }
+    write_words(d, initial, offsets, words, output);
+    Batched::Count(words.len())
+}
