@@ -47,6 +47,7 @@ fn word(d: Design, initial: &[u32], offsets: &[i32], x: u32) -> OutputUnits
     word_of(d, sum_of(d, initial, offsets, x))
 }
 
+// The word that x gets, or the first refusal.
 pub fn evaluate(d: Design, initial: &[u32], offsets: &[i32], x: u32) -> Evaluated
     ensures answer { λ r. ⌜ r ≡ evaluateAnswer d (now (initial .entry)) (now (offsets .entry)) x ⌝ }
     ensures number { λ r. ⌜ Evaluate.refusalOf r ≡ verdictNumber (evaluateVerdict d (now (initial .entry)) (now (offsets .entry)) x) ⌝ }
@@ -76,7 +77,8 @@ fn room_verdict(d: Design, initial: &[u32], offsets: &[i32], words: usize, outpu
 // The first pass: how many words there are, or the lowest that is refused. It writes nothing.
 fn words_verdict(d: Design, initial: &[u32], offsets: &[i32], words: &[u32]) -> Batched
     requires { ⌜ Usable d (length (now initial)) (length (now offsets)) ⌝ }
-    ensures { λ r. ⌜ r ≡ wordsBelow (length (now (words .entry))) (placeVerdict d (now (initial .entry)) (now (offsets .entry)) (now (words .entry))) ⌝ }
+    ensures { λ r. ⌜ r ≡ wordsBelow (length (now (words .entry)))
+        (placeVerdict d (now (initial .entry)) (now (offsets .entry)) (now (words .entry))) ⌝ }
 {
     for i in 0..words.len() {
         if let Verdict::Refused(cause) = word_verdict(d, initial, offsets, words[i]) {
@@ -91,7 +93,8 @@ fn write_words(d: Design, initial: &[u32], offsets: &[i32], words: &[u32], outpu
     requires { ⌜ Usable d (length (now initial)) (length (now offsets)) ⌝ }
     requires { ⌜ ((i : ℕ) → i < length (now words) → placeVerdict d (now initial) (now offsets) (now words) i ≡ Verdict.Passed) ⌝ }
     requires { ⌜ length (now words) ≤ length (now output) ⌝ }
-    ensures { λ r. ⌜ now (output .exit) ≡ map (wordAt d (now (initial .entry)) (now (offsets .entry))) (now (words .entry)) ++ drop (length (now (words .entry))) (now (output .entry)) ⌝ }
+    ensures { λ r. ⌜ now (output .exit) ≡ map (wordAt d (now (initial .entry)) (now (offsets .entry))) (now (words .entry))
+        ++ drop (length (now (words .entry))) (now (output .entry)) ⌝ }
 {
     for i in 0..words.len() {
         let units = word(d, initial, offsets, words[i]);
@@ -100,11 +103,21 @@ fn write_words(d: Design, initial: &[u32], offsets: &[i32], words: &[u32], outpu
 }
 
 // All words of the batch, or none: nothing is written before every word has been looked at.
-pub fn evaluate_batch(d: Design, initial: &[u32], offsets: &[i32], words: &[u32], output: &mut [u32]) -> Batched
-    ensures answer { λ r. ⌜ r ≡ batchAnswer d (now (initial .entry)) (now (offsets .entry)) (now (words .entry)) (length (now (output .entry))) ⌝ }
-    ensures contents { λ r. ⌜ now (output .exit) ≡ outputAfter d (now (initial .entry)) (now (offsets .entry)) (now (words .entry)) (now (output .entry)) ⌝ }
-    ensures number { λ r. ⌜ Batch.refusalOf r ≡ Batch.refusalOf (batchAnswer d (now (initial .entry)) (now (offsets .entry)) (now (words .entry)) (length (now (output .entry)))) ⌝ }
-    ensures place { λ r. ⌜ Batch.placeOf r ≡ Batch.placeOf (batchAnswer d (now (initial .entry)) (now (offsets .entry)) (now (words .entry)) (length (now (output .entry)))) ⌝ }
+pub fn evaluate_batch(
+    d: Design,
+    initial: &[u32],
+    offsets: &[i32],
+    words: &[u32],
+    output: &mut [u32],
+) -> Batched
+    ensures answer { λ r. ⌜ r
+        ≡ batchAnswer d (now (initial .entry)) (now (offsets .entry)) (now (words .entry)) (length (now (output .entry))) ⌝ }
+    ensures contents { λ r. ⌜ now (output .exit)
+        ≡ outputAfter d (now (initial .entry)) (now (offsets .entry)) (now (words .entry)) (now (output .entry)) ⌝ }
+    ensures number { λ r. ⌜ Batch.refusalOf r
+        ≡ Batch.refusalOf (batchAnswer d (now (initial .entry)) (now (offsets .entry)) (now (words .entry)) (length (now (output .entry)))) ⌝ }
+    ensures place { λ r. ⌜ Batch.placeOf r
+        ≡ Batch.placeOf (batchAnswer d (now (initial .entry)) (now (offsets .entry)) (now (words .entry)) (length (now (output .entry)))) ⌝ }
 {
     if let Verdict::Refused(cause) = room_verdict(d, initial, offsets, words.len(), output.len()) {
         return Batched::Refused(cause, 0);

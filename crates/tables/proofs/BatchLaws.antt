@@ -1,16 +1,23 @@
 -- What a batch comes to, by the verdicts of its words, and how its output is written word by word.
 use mathlib.Core.Path.{_≡_, refl, sym, subst, _∙_}
-use mathlib.Core.List.{List, _++_, map}
+use mathlib.Core.List.{List, [], _∷_, _++_, map}
 use Prim.Native.Nat.{ℕ, zero, suc, _+_, _≤_, _<_}
 use native.Mathlib.Nat.{le-of-eq, le-of-lt, le-refl, le-step, le-trans, lt-of-lt-of-le, not-suc-le-zero}
 use native.Mathlib.Numerals.{add-one}
+use borrow.Author.Tests.{ltb-false}
+use lib.IntN.{ℤ}
 use lib.ListN.{length, getD, take, drop, set, length-map, List·getD-map}
 use lib.Seq.{append-snoc, drop-cons, length-front, length-take-le, set-at, take-all, take-suc}
 use Rattle.refusal.specs.declared.Cause.{Cause}
 use Rattle.refusal.specs.declared.Verdict.{Verdict}
+use Rattle.refusal.proofs.Checks.{passed-append, none-fails}
+use Rattle.design.specs.declared.Design.{Design}
 use Rattle.design.proofs.Sums.{below-suc}
 use Rattle.tables.specs.declared.Batched.{Batched}
-use Rattle.tables.specs.Batch.{oneMore, wordsBelow}
+use Rattle.tables.specs.Inputs.{Usable}
+use Rattle.tables.specs.Fill.{setChecks}
+use Rattle.tables.specs.Batch.{outputCheck, roomVerdict, oneMore, wordsBelow}
+use Rattle.tables.proofs.SetLaws.{usable}
 
 -- Words that all pass are counted,
 pub batch-all : (n : ℕ) (word : ℕ → Verdict) → ((i : ℕ) → i < n → word i ≡ Verdict.Passed) → wordsBelow n word ≡ Batched.Count n
@@ -49,6 +56,15 @@ each-passed (suc n) word c i h =
 pub batch-passed : (n count : ℕ) (word : ℕ → Verdict) → wordsBelow n word ≡ Batched.Count count
     → (i : ℕ) → i < n → word i ≡ Verdict.Passed
 batch-passed n count word e = each-passed n word (subst Counted (sym e) tt)
+
+-- What a batch that passes 1 to 10 and 14 tells.
+pub room-tells : (d : Design) (initial : List ℕ) (offsets : List ℤ) (words output : ℕ)
+    → roomVerdict d initial offsets words output ≡ Verdict.Passed → Usable d (length initial) (length offsets) × (words ≤ output)
+unfolding roomVerdict outputCheck
+room-tells d initial offsets words output e =
+    let last = outputCheck words output ∷ [] in
+    let lists = passed-append (setChecks d (length initial) (length offsets)) last e in
+    (usable _ _ _ (lists .0), ltb-false _ _ (none-fails last (lists .1) .0))
 
 -- A batch's output once the first i words have been written: their images under f, then what was there.
 abbrev pub written : (ℕ → ℕ) → List ℕ → List ℕ → ℕ → List ℕ

@@ -1,5 +1,4 @@
 -- `evaluating::word` meets its contract: a word that passed has a sum in range.
-use mathlib.Core.Path.{_∙_}
 use Rattle.tables.specs.Sum.{wordAt}
 use Rattle.tables.proofs.WordLaws.{passed-word}
 use Rattle.evaluating.proofs.word.Statement.{statement}

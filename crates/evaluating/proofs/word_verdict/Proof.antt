@@ -1,6 +1,5 @@
 -- `evaluating::word_verdict` meets its contract: the word's range, then that of its sum.
 use mathlib.Core.Path.{_≡_, sym, _∙_}
-use mathlib.Core.Bool.{Bool}
 use Prim.Native.Nat.{_^_, _<_}
 use native.Mathlib.Omega.{arith}
 use borrow.Author.Needs.{needs}

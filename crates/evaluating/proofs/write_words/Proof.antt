@@ -1,7 +1,7 @@
 -- `evaluating::write_words` meets its contract: after i turns the output is `written .. i`.
 use mathlib.Core.Path.{_≡_, refl, ap, ap₂, _∙_}
 use mathlib.Core.List.{List}
-use Prim.Native.Nat.{ℕ, _-_, _≤_, _<_}
+use Prim.Native.Nat.{ℕ, _-_, _≤_}
 use native.Mathlib.Omega.{arith}
 use lib.ListN.{length, set}
 use Rattle.values.specs.declared.OutputUnits.{OutputUnits}
@@ -56,10 +56,11 @@ loop-again : tie.Need-loop-again Inv-loop μ-loop
 loop-again c =
     let b = c .before .before .before in
     let start = b .before .before .before .before in
-    let word-is = ap (λ (units : OutputUnits). units .0) (c .word .ensures) in
-    (omega arith,
+    let word-is = ap (λ (units : OutputUnits). units .0) (c .word .ensures) in (
+      omega arith,
       ap₂ (λ (output : List ℕ) (word : ℕ). set output (b .loop .i) word) (b .loop .inv .1) word-is
-      ∙ written-more _ (start .args .words .now) _ (start .pre .1 .1) _ (c .before .before .loop-test .taken))
+          ∙ written-more _ (start .args .words .now) _ (start .pre .1 .1) _ (c .before .before .loop-test .taken),
+    )
 
 same-length : tie.Need-same-length Inv-loop μ-loop
 same-length c = full (c .before)
