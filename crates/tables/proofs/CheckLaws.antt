@@ -16,7 +16,7 @@ use Rattle.design.proofs.Sums.{below-suc}
 use Rattle.tables.specs.declared.Checked.{Checked}
 use Rattle.tables.specs.Sum.{sumAt, sumOutside, wordAt}
 use Rattle.tables.specs.Faithful.{Faithful, isFaithful}
-use Rattle.tables.specs.Check.{faithfulAt, wordsBelow, checkVerdict, checkAnswer, refusalOf}
+use Rattle.tables.specs.Check.{faithfulAt, wordsBelow, checkVerdict, checkAnswer, refusalOf, FaithfulWord, CheckMeans}
 
 pub both : (a b : Bool) → a && b ≡ true → (a ≡ true) × (b ≡ true)
 both true b e = (refl, e)
@@ -101,11 +101,6 @@ search-unrefused n test =
     (λ (l : (x : ℕ) × Lowest n test x). rw (check-bad n (l .0) test (l .1 .inside) (l .1 .below) (l .1 .fails)) refl)
     (all-or-lowest n test)
 
--- An input "has a word, less than one output unit from the exact value".
-pub record FaithfulWord (d : Design) (initial : List ℕ) (offsets : List ℤ) (x : ℕ) : Type 0 where
-  pub has-word : sumOutside d (sumAt d initial offsets x) ≡ false
-  pub faithful : Faithful (row d) (d .w) (d .q) (2 ^ d .w + x) (wordAt d initial offsets x)
-
 module _ (d : Design) (initial : List ℕ) (offsets : List ℤ) (x : ℕ) where
   pub word-test : faithfulAt d initial offsets x ≡ true → FaithfulWord d initial offsets x
   unfolding faithfulAt
@@ -120,19 +115,6 @@ module _ (d : Design) (initial : List ℕ) (offsets : List ℤ) (x : ℕ) where
   -- a word that fails is one that has no faithful word
   pub word-failed : faithfulAt d initial offsets x ≡ false → FaithfulWord d initial offsets x → ⊥
   word-failed e f = true≢false (sym (word-tested f) ∙ e)
-
--- Demand 2: "The check says faithful exactly when every input has a word, less than one output unit from the exact value, and otherwise
--- names the lowest input that fails." This is what the answer means for tables that pass refusals 1 to 10.
-pub record CheckMeans (d : Design) (initial : List ℕ) (offsets : List ℤ) : Type 0 where
-  pub says-faithful : checkAnswer d initial offsets ≡ Checked.Faithful → (x : ℕ) → x < 2 ^ d .w → FaithfulWord d initial offsets x
-  pub is-faithful : ((x : ℕ) → x < 2 ^ d .w → FaithfulWord d initial offsets x) → checkAnswer d initial offsets ≡ Checked.Faithful
-  -- the input that is named, and no other, is the lowest that fails
-  pub names : (x : ℕ) → checkAnswer d initial offsets ≡ Checked.Unfaithful x
-      → (x < 2 ^ d .w) × (FaithfulWord d initial offsets x → ⊥) × ((i : ℕ) → i < x → FaithfulWord d initial offsets i)
-  pub is-named : (x : ℕ) → x < 2 ^ d .w → (FaithfulWord d initial offsets x → ⊥)
-      → ((i : ℕ) → i < x → FaithfulWord d initial offsets i) → checkAnswer d initial offsets ≡ Checked.Unfaithful x
-  -- and there is no other answer
-  pub answers : (checkAnswer d initial offsets ≡ Checked.Faithful) ⊎ ((x : ℕ) × (checkAnswer d initial offsets ≡ Checked.Unfaithful x))
 
 -- Where the refusals pass, the answer is that of the search.
 pub check-searches : (d : Design) (initial : List ℕ) (offsets : List ℤ) → checkVerdict d initial offsets ≡ Verdict.Passed

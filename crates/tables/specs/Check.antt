@@ -1,7 +1,9 @@
 -- What the call `check` answers: "check 1 to 10", else faithful or the lowest unfaithful word.
+use mathlib.Core.Path.{_≡_}
 use mathlib.Core.Bool.{Bool, true, false, not, _&&_}
+use mathlib.Core.Logic.{_⊎_}
 use mathlib.Core.List.{List}
-use Prim.Native.Nat.{ℕ, zero, suc, _+_, _^_}
+use Prim.Native.Nat.{ℕ, zero, suc, _+_, _^_, _<_}
 use lib.ListN.{length}
 use lib.IntN.{ℤ}
 use Rattle.refusal.specs.declared.Verdict.{Verdict}
@@ -11,7 +13,7 @@ use Rattle.design.specs.declared.Design.{Design}
 use Rattle.design.specs.Cut.{row}
 use Rattle.tables.specs.declared.Checked.{Checked}
 use Rattle.tables.specs.Sum.{sumAt, sumOutside, wordAt}
-use Rattle.tables.specs.Faithful.{isFaithful}
+use Rattle.tables.specs.Faithful.{Faithful, isFaithful}
 use Rattle.tables.specs.Fill.{setChecks}
 
 -- "A word whose sum is refused counts as unfaithful."
@@ -47,3 +49,21 @@ abbrev pub refusalOf : Checked → ℕ
 refusalOf Checked.Faithful = 0
 refusalOf (Checked.Unfaithful lowest) = 0
 refusalOf (Checked.Refused cause) = numberOf cause
+
+-- An input "has a word, less than one output unit from the exact value".
+pub record FaithfulWord (d : Design) (initial : List ℕ) (offsets : List ℤ) (x : ℕ) : Type 0 where
+  pub has-word : sumOutside d (sumAt d initial offsets x) ≡ false
+  pub faithful : Faithful (row d) (d .w) (d .q) (2 ^ d .w + x) (wordAt d initial offsets x)
+
+-- Demand 2: "The check says faithful exactly when every input has a word, less than one output unit from the exact value, and otherwise
+-- names the lowest input that fails." This is what the answer means for tables that pass refusals 1 to 10.
+pub record CheckMeans (d : Design) (initial : List ℕ) (offsets : List ℤ) : Type 0 where
+  pub says-faithful : checkAnswer d initial offsets ≡ Checked.Faithful → (x : ℕ) → x < 2 ^ d .w → FaithfulWord d initial offsets x
+  pub is-faithful : ((x : ℕ) → x < 2 ^ d .w → FaithfulWord d initial offsets x) → checkAnswer d initial offsets ≡ Checked.Faithful
+  -- the input that is named, and no other, is the lowest that fails
+  pub names : (x : ℕ) → checkAnswer d initial offsets ≡ Checked.Unfaithful x
+      → (x < 2 ^ d .w) × (FaithfulWord d initial offsets x → ⊥) × ((i : ℕ) → i < x → FaithfulWord d initial offsets i)
+  pub is-named : (x : ℕ) → x < 2 ^ d .w → (FaithfulWord d initial offsets x → ⊥)
+      → ((i : ℕ) → i < x → FaithfulWord d initial offsets i) → checkAnswer d initial offsets ≡ Checked.Unfaithful x
+  -- and there is no other answer
+  pub answers : (checkAnswer d initial offsets ≡ Checked.Faithful) ⊎ ((x : ℕ) × (checkAnswer d initial offsets ≡ Checked.Unfaithful x))
