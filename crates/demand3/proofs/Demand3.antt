@@ -6,7 +6,6 @@ use Prim.Native.Nat.{ℕ, zero, suc, _+_, _-_, _*_, _/_, _^_, _≤_, _<_}
 use native.Mathlib.Nat.{le-refl, le-step, le-of-suc-le-suc, not-suc-le-zero}
 use native.Mathlib.Omega.{arith}
 use lib.ListN.{length, getD, drop, length-map, List·getD-append}
-use lib.Seq.{drop-at}
 use lib.IntN.{ℤ, pos, _+ℤ_}
 use lib.Pow.{pow-add, pow-pos}
 use borrow.Author.Tests.{le-ltb, lt-leb}
@@ -186,14 +185,14 @@ module _ (d : Design) (admitted : Admitted d) (initial : List ℕ) (offsets : Li
     batch3 =
         record {
           accepted = accepted;
+          contents = output-is;
           at-place = λ n h.
               rw output-is
               (List·getD-append (map (wordAt d initial offsets) words) _ 0 n (rw (length-map words (wordAt d initial offsets)) h) ∙ map-at (wordAt d initial offsets) words n h);
-          beyond = rw output-is (drop-at (map (wordAt d initial offsets) words) _ (length words) (length-map words (wordAt d initial offsets)));
         }
 
 -- The whole of it
-pub demand3 : (d : Design) → Admitted d → Demand3 d
+pub demand3 : Demand3
 demand3 d admitted =
     record {
       each-word = λ initial offsets filled x h. word3 d admitted x h initial offsets filled;

@@ -1,7 +1,7 @@
 -- Demand 3, as document 01 states it in "Evaluating and checking".
 use mathlib.Core.Path.{_≡_}
 use mathlib.Core.Logic.{_⊎_}
-use mathlib.Core.List.{List}
+use mathlib.Core.List.{List, _++_, map}
 use Prim.Native.Nat.{ℕ, _+_, _-_, _*_, _/_, _^_, _≤_, _<_}
 use lib.ListN.{length, getD, drop}
 use lib.IntN.{ℤ, pos}
@@ -9,7 +9,7 @@ use Rattle.refusal.specs.declared.Verdict.{Verdict}
 use Rattle.values.specs.Exact.{AtMost, AtLeast}
 use Rattle.design.specs.declared.Design.{Design}
 use Rattle.design.specs.Cut.{row, fractionBits}
-use Rattle.design.specs.Budget.{budget}
+use Rattle.design.specs.Budget.{budget, Admitted}
 use Rattle.tables.specs.declared.Evaluated.{Evaluated}
 use Rattle.tables.specs.declared.Batched.{Batched}
 use Rattle.tables.specs.declared.Checked.{Checked}
@@ -38,17 +38,17 @@ pub record SecondBound (d : Design) (X y : ℕ) : Type 0 where
 module _ (_≺_ : ℕ → ℕ → Type 0) where
   infix 50 _≺_
   pub record Between (kind c w F X low high : ℕ) : Type 0 where
-    -- "kind 0: (y-1)·X < 2^(q+w) < (y+1)·X"
+    -- "kind 0: (y-1)·X < 2^(q+w) < (y+1)·X", "kind 0: (Y'-R)·X ≤ 2^(P+18+w) ≤ (Y'+R)·X"
     pub reciprocal : kind ≡ 0 → (low * X ≺ 2 ^ (F + w)) × (2 ^ (F + w) ≺ high * X)
-    -- "kinds 1, 2: (y-1)²·2^w < c·X·4^q < (y+1)²·2^w"
+    -- "kinds 1, 2: (y-1)²·2^w < c·X·4^q < (y+1)²·2^w", "kinds 1, 2: (Y'-R)²·2^w ≤ c·X·4^(P+18) ≤ (Y'+R)²·2^w"
     pub root : (kind ≡ 1) ⊎ (kind ≡ 2) → (low ^ 2 * 2 ^ w ≺ c * X * 4 ^ F) × (c * X * 4 ^ F ≺ high ^ 2 * 2 ^ w)
-    -- "kinds 3, 4: (y-1)²·c·X < 4^q·2^w < (y+1)²·c·X"
+    -- "kinds 3, 4: (y-1)²·c·X < 4^q·2^w < (y+1)²·c·X", "kinds 3, 4: (Y'-R)²·c·X ≤ 4^(P+18)·2^w ≤ (Y'+R)²·c·X"
     pub reciprocal-root : (kind ≡ 3) ⊎ (kind ≡ 4)
         → (low ^ 2 * (c * X) ≺ 4 ^ F * 2 ^ w) × (4 ^ F * 2 ^ w ≺ high ^ 2 * (c * X))
 
 -- What demand 3 says of one input word
 pub record Word3 (d : Design) (initial : List ℕ) (offsets : List ℤ) (x : ℕ) : Type 0 where
-  -- "its word .. is floor(Y / 2^g) with Y summed from these tables": Y is a number Y in range,
+  -- "its word .. is floor(Y / 2^g) with Y summed from these tables", a Y that is not negative and in range
   pub Y : ℕ
   pub sum : sumAt d initial offsets x ≡ pos Y
   pub in-range : Y < 2 ^ (fractionBits d + 2)
@@ -64,18 +64,15 @@ pub record Word3 (d : Design) (initial : List ℕ) (offsets : List ℤ) (x : ℕ
   pub bound-said : Between _≤_ (d .kind) (row d .c) (d .w) (fractionBits d + 18) (2 ^ d .w + x)
       (scaledWord d (wordAt d initial offsets x) - margin d) (scaledWord d (wordAt d initial offsets x) + margin d)
 
--- What it says of a batch: it is accepted, and x's word stands "at x's place in the output".
+-- What it says of a batch: it is accepted, each word's output stands "at x's place in the output", and the output beyond is untouched.
 pub record Batch3 (d : Design) (initial : List ℕ) (offsets : List ℤ) (words output : List ℕ) : Type 0 where
   pub accepted : batchAnswer d initial offsets words (length output) ≡ Batched.Count (length words)
+  pub contents : outputAfter d initial offsets words output ≡ map (wordAt d initial offsets) words ++ drop (length words) output
   pub at-place : (n : ℕ) → n < length words
       → getD (outputAfter d initial offsets words output) n 0 ≡ wordAt d initial offsets (getD words n 0)
-  pub beyond : drop (length words) (outputAfter d initial offsets words output) ≡ drop (length words) output
 
--- "Demand 3 is one statement: for every admitted design, all lent tables that begin with the entries the fill writes for it, and every
--- x < 2^w, evaluation accepts x, alone or in a batch of such words with an output long enough, its word, in a batch at x's place in the
--- output, is floor(Y / 2^g) with Y summed from these tables, this word is faithful and meets the second bound, and the check of the
--- same design and tables answers faithful. .. an accepted fill leaves such tables."
-pub record Demand3 (d : Design) : Type 0 where
+-- What it says of one design
+pub record Holds (d : Design) : Type 0 where
   pub each-word : (initial : List ℕ) (offsets : List ℤ) → Filled d initial offsets → (x : ℕ) → x < 2 ^ d .w
       → Word3 d initial offsets x
   pub each-batch : (initial : List ℕ) (offsets : List ℤ) → Filled d initial offsets → (words output : List ℕ)
@@ -84,3 +81,10 @@ pub record Demand3 (d : Design) : Type 0 where
   pub check : (initial : List ℕ) (offsets : List ℤ) → Filled d initial offsets → checkAnswer d initial offsets ≡ Checked.Faithful
   pub fill : (initial : List ℕ) (offsets : List ℤ) → fillVerdict d (length initial) (length offsets) ≡ Verdict.Passed
       → Filled d (initialAfter d initial offsets) (offsetsAfter d initial offsets)
+
+-- "Demand 3 is one statement: for every admitted design, all lent tables that begin with the entries the fill writes for it, and every
+-- x < 2^w, evaluation accepts x, alone or in a batch of such words with an output long enough, its word, in a batch at x's place in the
+-- output, is floor(Y / 2^g) with Y summed from these tables, this word is faithful and meets the second bound, and the check of the
+-- same design and tables answers faithful. .. an accepted fill leaves such tables."
+abbrev pub Demand3 : Type 0
+Demand3 = (d : Design) → Admitted d → Holds d

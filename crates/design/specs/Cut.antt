@@ -7,7 +7,7 @@ use Rattle.values.specs.Rows.{rowOf}
 use Rattle.design.specs.declared.Pair.{Pair}
 use Rattle.design.specs.declared.Design.{Design}
 
--- "m pairs (a_i, b_i), i from 0"; "pairs beyond m are not read"
+-- "m pairs (a_i, b_i), i from 0"; "Pairs beyond m are not read"
 unfoldable pub tables : Design → List Pair
 tables d = take (d .m) (d .pairs)
 

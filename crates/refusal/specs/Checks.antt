@@ -24,6 +24,6 @@ abbrev pub verdict : List Check → Verdict
 verdict [] = Verdict.Passed
 verdict (check ∷ checks) = refuses (check .fails) (check .cause) (verdict checks)
 
--- "n not low..high"
+-- n is not within low..high
 abbrev pub outside : ℕ → ℕ → ℕ → Bool
 outside low high n = ltb n low || ltb high n

@@ -29,7 +29,7 @@ oneMore (Batched.Refused cause place) word n = Batched.Refused cause place
 oneMore (Batched.Count count) (Verdict.Refused cause) n = Batched.Refused cause n
 oneMore (Batched.Count count) Verdict.Passed n = Batched.Count (suc n)
 
--- The answer for the first n words, by each word's verdict. "An accepted batch returns its number of words, 0 for an empty one."
+-- The answer for the first n words, by each word's verdict. ".. an accepted batch returns its number of words, 0 for an empty one."
 unfoldable pub wordsBelow : ℕ → (ℕ → Verdict) → Batched
 wordsBelow zero word = Batched.Count 0
 wordsBelow (suc n) word = oneMore (wordsBelow n word) (word n) n

@@ -35,7 +35,7 @@ oddNumber d i B = subℕ (2 * B + 1) (2 ^ bOf d i)
 unfoldable pub magnitude : Design → ℕ → ℕ → ℕ → ℕ
 magnitude d i A B = (hiAt d i A + loAt d i A) * natAbs (oddNumber d i B) * 2 ^ position d i / 2 ^ 18
 
--- "where j has the function's sign"
+-- "where j has the function's sign"; j is odd, since b_i is not 0, so it is never 0
 unfoldable pub sameSign : Bool → ℤ → Bool
 sameSign rising j = cond rising (nonNeg j) (not (nonNeg j))
 

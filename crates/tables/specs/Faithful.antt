@@ -5,7 +5,7 @@ use lib.Dec.{ltb}
 use Rattle.values.specs.declared.rows.Row.{Row}
 use Rattle.values.specs.Exact.{numberSide, valueSide, LessThan, MoreThan}
 
--- "An output word y ≥ 1 is faithful when it is strictly less than one output unit from the exact value"; "y = 0 is not faithful".
+-- "An output word y ≥ 1 is **faithful** when it is strictly less than one output unit from the exact value"; "y = 0 is not faithful".
 pub record Faithful (row : Row) (w q X y : ℕ) : Type 0 where
   pub positive : 1 ≤ y
   pub low : LessThan row w q X (y - 1)

@@ -19,7 +19,7 @@ use Rattle.tables.specs.Entries.{initialAt, offsetAt}
 unfoldable pub tablesCheck : Design → ℕ → ℕ → Check
 tablesCheck d initial offsets = (ltb initial (initialCount d) || ltb offsets (offsetTotal d)) ↝ Cause.TablesShort
 
--- 1 to 10: what every call that takes a set tries first
+-- 1 to 10: what fill, evaluation, check and writer try first
 unfoldable pub setChecks : Design → ℕ → ℕ → List Check
 setChecks d initial offsets = designChecks d ++ tablesCheck d initial offsets ∷ []
 

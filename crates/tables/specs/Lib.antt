@@ -1,4 +1,4 @@
--- What a reader has to believe of filled tables, their sums and the check.
+-- What a reader has to believe of filled tables, sums and words, batches and the check.
 pub mod Inputs
 pub mod Entries
 pub mod Sum

@@ -1,4 +1,4 @@
-// Table sets: what every call over them answers, the refusals 1 to 10 that they share, and demand 3.
+// Table sets: what the calls over them answer, and the refusals 1 to 10 that they share.
 ghost use mathlib.Core.Path.{_≡_};
 ghost use Rattle.refusal.specs.Checks.{verdict};
 ghost use Rattle.tables.specs.Fill.{setChecks};
