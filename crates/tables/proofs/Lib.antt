@@ -7,3 +7,4 @@ pub mod CheckLaws
 pub mod WordLaws
 pub mod BatchLaws
 pub mod Opened
+pub mod BatchNumber

@@ -46,6 +46,18 @@ unfoldable pub batchAnswer : Design → List ℕ → List ℤ → List ℕ → �
 batchAnswer d initial offsets words output =
     afterRoom (roomVerdict d initial offsets (length words) output) (wordsBelow (length words) (placeVerdict d initial offsets words))
 
+-- All checks of a batch in their order, "for a batch 14, then 12 and 13 word by word": those of the first n words,
+unfoldable pub checksBelow : ℕ → (ℕ → List Check) → List Check
+checksBelow zero word = []
+checksBelow (suc n) word = checksBelow n word ++ word n
+
+-- after 1 to 10 and 14. It is the refusal of the answer above, whose place it leaves open.
+unfoldable pub batchVerdict : Design → List ℕ → List ℤ → List ℕ → ℕ → Verdict
+batchVerdict d initial offsets words output =
+    verdict
+    ((setChecks d (length initial) (length offsets) ++ outputCheck (length words) output ∷ [])
+    ++ checksBelow (length words) (λ n. wordChecks d initial offsets (getD words n 0)))
+
 -- "Output beyond the batch is untouched", and all of it when the batch is refused.
 abbrev pub outputLeft : Batched → List ℕ → List ℕ → List ℕ
 outputLeft (Batched.Count count) words output = words ++ drop (length words) output
