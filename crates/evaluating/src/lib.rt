@@ -96,9 +96,9 @@ fn write_words(d: Design, initial: &[u32], offsets: &[i32], words: &[u32], outpu
     ensures { λ r. ⌜ now (output .exit) ≡ map (wordAt d (now (initial .entry)) (now (offsets .entry))) (now (words .entry))
         ++ drop (length (now (words .entry))) (now (output .entry)) ⌝ }
 {
-    for i in 0..words.len() {
-        let units = word(d, initial, offsets, words[i]);
-        output[i] = units.0;
+    for n in 0..words.len() {
+        let units = word(d, initial, offsets, words[n]);
+        output[n] = units.0;
     }
 }
 
@@ -122,9 +122,10 @@ pub fn evaluate_batch(
     if let Verdict::Refused(cause) = room_verdict(d, initial, offsets, words.len(), output.len()) {
         return Batched::Refused(cause, 0);
     }
-    if let Batched::Refused(cause, place) = words_verdict(d, initial, offsets, words) {
+    let answer = words_verdict(d, initial, offsets, words);
+    if let Batched::Refused(cause, place) = answer {
         return Batched::Refused(cause, place);
     }
     write_words(d, initial, offsets, words, output);
-    Batched::Count(words.len())
+    answer
 }

@@ -14,17 +14,35 @@ use values::OutputUnits;
 use values::TableUnits;
 use values::floor::pow2;
 
-// Where x's offset of table i lies among all offsets, for a table that begins at `start` and whose b bits of x begin at `position`.
+// A_i, the top a_i bits of x.
+fn segment_word(d: Design, i: u32, x: u32) -> u64
+    requires { ⌜ Legal d ⌝ }
+    requires { ⌜ i < d .m ⌝ }
+    ensures { λ r. ⌜ r ≡ segmentWord d i x ⌝ }
+{
+    let pair = pair_at(d, i);
+    (x >> (d.w - pair.a)) as u64
+}
+
+// B_i, the b_i bits of x that begin at p_i.
+fn offset_word(d: Design, i: u32, position: u32, x: u32) -> u64
+    requires { ⌜ Legal d ⌝ }
+    requires { ⌜ (i < d .m) × (position ≡ Cut.position d i) ⌝ }
+    ensures { λ r. ⌜ r ≡ offsetWord d i x ⌝ }
+{
+    let pair = pair_at(d, i);
+    (x >> position) as u64 % pow2(pair.b)
+}
+
+// Where x's offset of table i lies among all offsets, for a table that begins at `start` and whose bits of x begin at `position`.
 fn offset_place(d: Design, i: u32, start: u64, position: u32, x: u32) -> u64
     requires { ⌜ Legal d ⌝ }
     requires { ⌜ (i < d .m) × (start ≡ tableStart d i) × (position ≡ Cut.position d i) × (x < 2 ^ d .w) ⌝ }
     ensures { λ r. ⌜ (r ≡ offsetPlace d i (segmentWord d i x) (offsetWord d i x)) × (r < offsetTotal d) ⌝ }
 {
     let pair = pair_at(d, i);
-    let places = pow2(pair.b);
-    let segment = (x >> (d.w - pair.a)) as u64;
-    let offset = (x >> position) as u64 % places;
-    start + (segment * places + offset)
+    let segment = segment_word(d, i, x);
+    start + (segment * pow2(pair.b) + offset_word(d, i, position, x))
 }
 
 // inner: Y, summed from the tables: m + 1 lookups, shifts and adds.
@@ -62,5 +80,6 @@ pub fn word_of(d: Design, sum: TableUnits) -> OutputUnits
     requires { ⌜ sumOutside d (sum .0) ≡ false ⌝ }
     ensures { λ r. ⌜ r ≡ record { 0 = wordOf d (sum .0) } ⌝ }
 {
-    OutputUnits((sum.count() >> d.g) as u32)
+    let word = (sum.count() >> d.g) as u32;
+    OutputUnits(word)
 }

@@ -42,12 +42,13 @@ module _ (d : Design) (initial : List ℕ) (offsets : List ℤ) (words output : 
     unfolding batchAnswer
     word-refused cause place e = answered (Batched.Refused cause place) output (rw (room, e)) refl
 
-    accepted : ((i : ℕ) → i < length words → placeVerdict d initial offsets words i ≡ Verdict.Passed) → (left : List ℕ)
-        → left ≡ map (wordAt d initial offsets) words ++ drop (length words) output → Promised (Batched.Count (length words)) left
+    accepted : ((i : ℕ) → i < length words → placeVerdict d initial offsets words i ≡ Verdict.Passed)
+        → (r : Batched) (left : List ℕ) → r ≡ wordsBelow (length words) (placeVerdict d initial offsets words)
+        → left ≡ map (wordAt d initial offsets) words ++ drop (length words) output → Promised r left
     unfolding batchAnswer
-    accepted all left e =
-        answered (Batched.Count (length words)) left (rw (room, batch-all (length words) (placeVerdict d initial offsets words) all))
-        (rw length-map e)
+    accepted all r left r-is left-is =
+        let counted = batch-all (length words) (placeVerdict d initial offsets words) all in
+        answered r left (rw room (sym r-is)) (rw (r-is ∙ counted, length-map) left-is)
 
 -- where 1 to 10 and 14 passed
 room-passed : (c : tie.After-enum-told) →
@@ -76,13 +77,13 @@ enum-told c = search needs
 words-verdict-requires : tie.Need-words-verdict-requires
 words-verdict-requires c κs = room-tells _ _ _ _ _ (room-passed c) .0
 
-enum-known-cause-2 : tie.Need-enum-known-cause-2
-enum-known-cause-2 c = search needs
+enum-known-answer : tie.Need-enum-known-answer
+enum-known-answer c = search needs
 
 returns-2 : tie.Need-returns-2
 returns-2 c =
     word-refused _ _ _ _ _ (room-passed (c .before .before .before .before)) _ _
-    (sym (c .before .before .before .words-verdict .ensures) ∙ c .before .cause2 .given .1)
+    (sym (c .before .before .before .words-verdict .ensures) ∙ c .before .answer .given .1)
 
 enum-told-2 : tie.Need-enum-told-2
 enum-told-2 c = search needs
@@ -98,7 +99,8 @@ same-length c = search needs
 returns-3 : tie.Need-returns-3
 returns-3 c =
     accepted _ _ _ _ _ (room-passed (c .before .before .before .before .before .before .before))
-    (words-passed (c .before .before .before .before)) _ (c .before .before .write-words .ensures)
+    (words-passed (c .before .before .before .before)) _ _ (c .before .before .before .before .before .before .words-verdict .ensures)
+    (c .before .before .write-words .ensures)
 
 pub evaluate-batch-spec : {M : Type 1} → statement M
 evaluate-batch-spec =
@@ -109,7 +111,7 @@ evaluate-batch-spec =
     returns
     enum-told
     words-verdict-requires
-    enum-known-cause-2
+    enum-known-answer
     returns-2
     enum-told-2
     write-words-requires

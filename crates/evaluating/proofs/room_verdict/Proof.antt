@@ -2,6 +2,7 @@
 use mathlib.Core.Path.{_≡_, sym, _∙_}
 use mathlib.Core.List.{List}
 use Prim.Native.Nat.{ℕ, _≤_, _<_}
+use native.Mathlib.Omega.{arith}
 use borrow.Author.Needs.{needs}
 use borrow.Author.Tests.{lt-ltb, le-ltb}
 use lib.ListN.{length}
@@ -50,7 +51,7 @@ enum-told : tie.Need-enum-told
 enum-told c = search needs
 
 returns-2 : tie.Need-returns-2
-returns-2 c = sym (short _ _ _ _ _ (set-passed (c .before)) (c .if1 .taken))
+returns-2 c = sym (short _ _ _ _ _ (set-passed (c .before)) (omega arith))
 
 returns-3 : tie.Need-returns-3
 returns-3 c = sym (long _ _ _ _ _ (set-passed (c .before)) (c .if1 .left))

@@ -13,7 +13,7 @@ pow2-requires : tie.Need-pow2-requires
 pow2-requires c κs = omega (arith, limits _ (c .before .pre .legal) .widths .w-high)
 
 returns : tie.Need-returns
-returns c = sym (word-past _ _ _ _ (rw (c .before .pow2 .ensures) at (c .if1 .taken)))
+returns c = sym (word-past _ _ _ _ (omega arith))
 
 -- where the word is in range
 within : (c : tie.Else1) → c .before .before .before .args .x < 2 ^ c .before .before .before .args .d .w

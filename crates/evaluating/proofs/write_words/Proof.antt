@@ -1,4 +1,4 @@
--- `evaluating::write_words` meets its contract: after i turns the output is `written .. i`.
+-- `evaluating::write_words` meets its contract: after n turns the output is `written .. n`.
 use mathlib.Core.Path.{_≡_, refl, ap, ap₂, _∙_}
 use mathlib.Core.List.{List}
 use Prim.Native.Nat.{ℕ, _-_, _≤_}
@@ -12,11 +12,11 @@ use Rattle.evaluating.proofs.write_words.Statement.{statement}
 use Rattle.evaluating.proofs.write_words.Tie as tie
 
 abbrev Inv-loop : tie.InvT-loop
-Inv-loop d initial offsets words output₀ i₀ i-end output i =
-    (i ≤ length words) × (output ≡ written (wordAt d initial offsets) words output₀ i)
+Inv-loop d initial offsets words output₀ n₀ n-end output n =
+    (n ≤ length words) × (output ≡ written (wordAt d initial offsets) words output₀ n)
 
 abbrev μ-loop : tie.MeasureT-loop
-μ-loop d initial offsets words output₀ i₀ i-end output i = i-end - i
+μ-loop d initial offsets words output₀ n₀ n-end output n = n-end - n
 
 loop-holds : tie.Need-loop-holds Inv-loop μ-loop
 loop-holds c = (omega arith, refl)
@@ -46,8 +46,8 @@ mul-output c = omega arith
 slice-write-output : tie.Need-slice-write-output Inv-loop μ-loop
 slice-write-output c = omega (arith, full (c .before .before .before), c .before .before .before .before .before .before .before .pre .1 .1)
 
-add-i : tie.Need-add-i Inv-loop μ-loop
-add-i c = omega arith
+add-n : tie.Need-add-n Inv-loop μ-loop
+add-n c = omega arith
 
 loop-less : tie.Need-loop-less Inv-loop μ-loop
 loop-less c = omega arith
@@ -58,7 +58,7 @@ loop-again c =
     let start = b .before .before .before .before in
     let word-is = ap (λ (units : OutputUnits). units .0) (c .word .ensures) in (
       omega arith,
-      ap₂ (λ (output : List ℕ) (word : ℕ). set output (b .loop .i) word) (b .loop .inv .1) word-is
+      ap₂ (λ (output : List ℕ) (word : ℕ). set output (b .loop .n) word) (b .loop .inv .1) word-is
           ∙ written-more _ (start .args .words .now) _ (start .pre .1 .1) _ (c .before .before .loop-test .taken),
     )
 
@@ -68,7 +68,7 @@ same-length c = full (c .before)
 returns : tie.Need-returns Inv-loop μ-loop
 returns c =
     let start = c .before .before .before .before .before in
-    let end : c .before .loop .i ≡ length (start .args .words .now) = omega arith in
+    let end : c .before .loop .n ≡ length (start .args .words .now) = omega arith in
     rw end at (c .before .loop .inv .1) ∙ written-all _ (start .args .words .now) _ (start .pre .1 .1)
 
 pub write-words-spec : {M : Type 1} → statement M
@@ -83,7 +83,7 @@ write-words-spec =
     word-requires
     mul-output
     slice-write-output
-    add-i
+    add-n
     loop-less
     loop-again
     same-length

@@ -32,7 +32,7 @@ pow2-requires c κs = omega (arith, limits _ (legal c))
 returns-2 : tie.Need-returns-2
 unfolding initialCount
 returns-2 c =
-    sym (initial-short _ _ _ (legal (c .before .before)) (rw (c .before .pow2 .ensures) at (c .if1 .taken)))
+    sym (initial-short _ _ _ (legal (c .before .before)) (omega arith))
 
 offset-total-requires : tie.Need-offset-total-requires
 offset-total-requires c κs = legal (c .before .before)
@@ -45,7 +45,7 @@ initial-long c = rw (c .before .pow2 .ensures) at (c .if1 .left)
 returns-3 : tie.Need-returns-3
 returns-3 c =
     sym (offsets-short _ _ _ (legal (c .before .before .before .before)) (initial-long (c .before .before))
-    (rw (c .before .offset-total .ensures) at (c .if2 .taken)))
+    (omega arith))
 
 returns-4 : tie.Need-returns-4
 returns-4 c =

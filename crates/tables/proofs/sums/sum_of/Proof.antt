@@ -2,11 +2,11 @@
 use mathlib.Core.Path.{_≡_, sym, ap, subst, _∙_}
 use mathlib.Core.List.{List}
 use Prim.Native.Nat.{ℕ, _+_, _-_, _/_, _^_, _≤_, _<_}
-use native.Mathlib.Nat.{le-trans, lt-of-lt-of-le}
+use native.Mathlib.Nat.{le-trans, lt-of-le-of-lt, lt-of-lt-of-le, mul-le-mul-right}
 use native.Mathlib.Omega.{arith}
 use lib.ListN.{length, getD}
 use lib.IntN.{ℤ, pos, _+ℤ_}
-use lib.Pow.{pow-mono}
+use lib.Pow.{pow-mono, shr-le}
 use lib.Signed.{mag}
 use mir.Syntax.{w32, w64}
 use mir.Val.{SFits, ofZ, toZ}
@@ -17,7 +17,7 @@ use Rattle.design.specs.declared.Design.{Design}
 use Rattle.design.specs.Cut.{pairAt, initialWord, segmentWord, offsetWord, offsetCount, tableStart, offsetTotal, offsetPlace}
 use Rattle.design.proofs.Sums.{sum-mono}
 use Rattle.design.proofs.LegalLaws.{Limits, limits, bits-end}
-use Rattle.design.proofs.CutLaws.{initial-word-lt, initial-count-small, offset-total-small}
+use Rattle.design.proofs.CutLaws.{initial-word-lt, offset-total-small}
 use Rattle.tables.proofs.SignedLaws.{mag-add}
 use Rattle.tables.proofs.SumLaws.{Summing, start, step, finish}
 use Rattle.tables.proofs.sums.sum_of.Statement.{statement}
@@ -81,22 +81,20 @@ shr-sum c = omega (arith, limits _ (c .before .before .pre .0 .legal) .widths .w
 -- the initial word of this call
 word-lt : (c : tie.After-struct-known Inv-loop μ-loop) →
     let a = c .before .before .args in
-    (a .x / 2 ^ (a .d .w - a .d .alpha) < length (a .initial .now)) × (a .x / 2 ^ (a .d .w - a .d .alpha) < 8192)
+    a .x / 2 ^ (a .d .w - a .d .alpha) < length (a .initial .now)
 unfolding initialWord
 word-lt c =
     let e = c .before .before .pre in
-    let l = limits _ (e .0 .legal) in
-    let lt = initial-word-lt _ l _ (e .1) in
-    (lt-of-lt-of-le lt (e .0 .initial-long), lt-of-lt-of-le lt (initial-count-small _ l))
+    lt-of-lt-of-le (initial-word-lt _ (limits _ (e .0 .legal)) _ (e .1)) (e .0 .initial-long)
 
 cast-sum : tie.Need-cast-sum Inv-loop μ-loop
-cast-sum c = omega (arith, word-lt c)
+cast-sum c = record { fits = lt-of-le-of-lt (shr-le _ _) (omega arith) }
 
 mul-sum : tie.Need-mul-sum Inv-loop μ-loop
-mul-sum c = omega (arith, word-lt c)
+mul-sum c = record { fits = lt-of-le-of-lt (mul-le-mul-right 4 (shr-le _ _)) (omega arith) }
 
 shared-slice-read-sum : tie.Need-shared-slice-read-sum Inv-loop μ-loop
-shared-slice-read-sum c = word-lt (c .before) .0
+shared-slice-read-sum c = word-lt (c .before)
 
 cast-sum-2 : tie.Need-cast-sum-2 Inv-loop μ-loop
 cast-sum-2 c =
@@ -111,11 +109,15 @@ loop-holds c =
     let e = toZ-pos w64 (getD (a .initial .now) (a .x / 2 ^ (a .d .w - a .d .alpha)) 0) (omega (arith, known)) in
     start _ _ _ _ _ e (rw e (omega (arith, known)))
 
+-- a turn's table is one of the design's
+more : (c : tie.In-loop Inv-loop μ-loop) → c .before .loop .i < c .before .before .before .before .before .args .d .m
+more c = omega arith
+
 offset-place-requires : tie.Need-offset-place-requires Inv-loop μ-loop
 offset-place-requires c κs =
     let e = c .before .before .before .before .before .pre in
     let inv = c .before .loop .inv in
-    (e .0 .legal, (c .loop-test .taken, inv .start-is, inv .place, e .1))
+    (e .0 .legal, (more c, inv .start-is, inv .place, e .1))
 
 -- the place lies within the offsets
 place-lt : (c : tie.After-offset-place Inv-loop μ-loop) →
@@ -152,14 +154,14 @@ add-sum c = wide-fits (toZ w64 (c .before .before .before .loop .sum)) (offset-r
 
 pair-at-requires : tie.Need-pair-at-requires Inv-loop μ-loop
 pair-at-requires c κs =
-    (c .before .before .loop-test .taken, limits _ (c .before .before .before .before .before .before .before .pre .0 .legal) .m-high)
+    (more (c .before .before), limits _ (c .before .before .before .before .before .before .before .pre .0 .legal) .m-high)
 
 -- the bits of this turn's table
 few-bits : (c : tie.After-pair-at Inv-loop μ-loop) → c .pair-at .result .a + c .pair-at .result .b ≤ 12
 few-bits c =
     rw (c .pair-at .ensures)
     (limits _ (c .before .before .before .before .before .before .before .before .pre .0 .legal) .table _
-    (c .before .before .before .loop-test .taken) .sum-high)
+    (more (c .before .before .before)) .sum-high)
 
 add-pow2 : tie.Need-add-pow2 Inv-loop μ-loop
 add-pow2 c = omega (arith, few-bits (c .before))
@@ -181,7 +183,7 @@ add-position c =
     let b = c .before .before .before .before .before .before in
     let l = limits _ (b .before .before .before .before .before .pre .0 .legal) in
     rw (c .before .before .before .pair-at .ensures, b .before .loop .inv .place)
-    (omega (arith, bits-end _ l _ (b .loop-test .taken), l .widths .w-high))
+    (omega (arith, bits-end _ l _ (more b), l .widths .w-high))
 
 add-i : tie.Need-add-i Inv-loop μ-loop
 add-i c =
@@ -195,7 +197,7 @@ loop-again : tie.Need-loop-again Inv-loop μ-loop
 loop-again c =
     let b = c .before .before .before .before in
     let l = b .before .before .before .loop in
-    turn (l .sum) (b .before .offset-place .result) (l .inv) (low-sum b) (b .before .before .loop-test .taken)
+    turn (l .sum) (b .before .offset-place .result) (l .inv) (low-sum b) (more (b .before .before))
     (b .before .offset-place .ensures .0) (b .offset .given) _ _ (c .before .before .before .pair-at .ensures) (c .before .pow2 .ensures)
 
 returns : tie.Need-returns Inv-loop μ-loop

@@ -14,14 +14,14 @@ use Rattle.tables.proofs.sums.word_of.Tie as tie
 count-requires : tie.Need-count-requires
 count-requires c κs = in-range (c .args .d) (c .args .sum .0) (c .pre .1) .0
 
-cast-t4 : tie.Need-cast-t4
-cast-t4 c = search needs
+cast-word : tie.Need-cast-word
+cast-word c = search needs
 
-shr-t5 : tie.Need-shr-t5
-shr-t5 c = omega (arith, limits _ (c .before .before .pre .0) .widths)
+shr-word : tie.Need-shr-word
+shr-word c = omega (arith, limits _ (c .before .before .pre .0) .widths)
 
-cast-t6 : tie.Need-cast-t6
-cast-t6 c =
+cast-word-2 : tie.Need-cast-word-2
+cast-word-2 c =
     let s = c .before .before in
     let few : fractionBits (s .args .d) + 2 ≤ 22 = omega (arith, limits _ (s .pre .0) .widths .P-high) in
     omega (
@@ -38,4 +38,4 @@ returns c =
     ap (λ (n : ℕ). record { 0 = n / 2 ^ c .before .before .args .d .g }) (c .before .count .ensures)
 
 pub word-of-spec : {M : Type 1} → statement M
-word-of-spec = tie.close (tie.spec count-requires cast-t4 shr-t5 cast-t6 returns)
+word-of-spec = tie.close (tie.spec count-requires cast-word shr-word cast-word-2 returns)
