@@ -28,11 +28,8 @@ fn is_faithful(row: Row, w: u32, q: u32, x: u64, y: OutputUnits) -> bool
     ensures { λ r. ⌜ r ≡ isFaithful row w q x (y .0) ⌝ }
 {
     let word = y.0 as u64;
-    if word < 1 {
-        return false;
-    }
     let exact = value_side(row, w, q, x);
-    number_side(row, w, x, word - 1) < exact && exact < number_side(row, w, x, word + 1)
+    0 < word && number_side(row, w, x, word - 1) < exact && exact < number_side(row, w, x, word + 1)
 }
 
 // A word whose sum is refused counts as unfaithful.

@@ -52,7 +52,7 @@ counted c =
 mul-start : tie.Need-mul-start Inv-loop μ-loop Inv-words μ-words
 mul-start c =
     let n = counted (c .before .before) in
-    omega (arith, n .product, n .words-small, start-inside n (c .words-test .taken))
+    omega (arith, n .product, n .words-small, start-inside {interval = c .before .words .interval} n (omega arith))
 
 loop-holds : tie.Need-loop-holds Inv-loop μ-loop Inv-words μ-words
 loop-holds c = (rw add-zero (c .before .words .inv .0), omega arith)
@@ -61,7 +61,7 @@ loop-holds c = (rw add-zero (c .before .words .inv .0), omega arith)
 inside : (c : tie.In-loop Inv-loop μ-loop Inv-words μ-words) → let b = c .before .before .before in
     b .words .interval * b .before .pow22 .result + c .before .loop .rest < 2 ^ b .before .before .before .before .before .args .d .w
 inside c =
-    word-inside (counted (c .before .before .before .before)) (c .before .before .words-test .taken) (c .loop-test .taken)
+    word-inside (counted (c .before .before .before .before)) (omega arith) (omega arith)
 
 add-x : tie.Need-add-x Inv-loop μ-loop Inv-words μ-words
 add-x c = omega (arith, inside c, counted (c .before .before .before .before) .words-small)
