@@ -7,9 +7,9 @@ ghost use Rattle.refusal.specs.Numbers.{verdictNumber};
 ghost use Rattle.refusal.specs.Checks as Checks;
 ghost use Rattle.tables.specs.Inputs.{Usable};
 ghost use Rattle.tables.specs.Sum.{wordAt};
-ghost use Rattle.tables.specs.Evaluate.{wordChecks, evaluateVerdict, evaluateAnswer};
+ghost use Rattle.tables.specs.Evaluate.{wordChecks, evaluated, evaluateVerdict, evaluateAnswer};
 ghost use Rattle.tables.specs.Evaluate as Evaluate;
-ghost use Rattle.tables.specs.Batch.{roomVerdict, placeVerdict, wordsBelow, batchAnswer, outputAfter};
+ghost use Rattle.tables.specs.Batch.{roomVerdict, placeVerdict, wordsBelow, batchAnswer, batchVerdict, outputAfter};
 ghost use Rattle.tables.specs.Batch as Batch;
 use design::Design;
 use refusal::Cause;
@@ -23,28 +23,20 @@ use tables::sums::word_of;
 use values::OutputUnits;
 use values::floor::pow2;
 
-// Refusals 12 and 13 of a word.
-fn word_verdict(d: Design, initial: &[u32], offsets: &[i32], x: u32) -> Verdict
+// Refusals 12 and 13 of a word, or the word itself: one sum, m + 1 lookups.
+fn word_answer(d: Design, initial: &[u32], offsets: &[i32], x: u32) -> Evaluated
     requires { ⌜ Usable d (length (now initial)) (length (now offsets)) ⌝ }
-    ensures { λ r. ⌜ r ≡ Checks.verdict (wordChecks d (now (initial .entry)) (now (offsets .entry)) x) ⌝ }
+    ensures { λ r. ⌜ r ≡ evaluated (Checks.verdict (wordChecks d (now (initial .entry)) (now (offsets .entry)) x))
+        (wordAt d (now (initial .entry)) (now (offsets .entry)) x) ⌝ }
 {
     if pow2(d.w) <= x as u64 {
-        return Verdict::Refused(Cause::WordRange);
+        return Evaluated::Refused(Cause::WordRange);
     }
     let sum = sum_of(d, initial, offsets, x);
     if sum_outside(d, sum) {
-        return Verdict::Refused(Cause::SumRange);
+        return Evaluated::Refused(Cause::SumRange);
     }
-    Verdict::Passed
-}
-
-// The word that x gets. Its verdict has been asked, and it passed.
-fn word(d: Design, initial: &[u32], offsets: &[i32], x: u32) -> OutputUnits
-    requires { ⌜ Usable d (length (now initial)) (length (now offsets)) ⌝ }
-    requires { ⌜ Checks.verdict (wordChecks d (now initial) (now offsets) x) ≡ Verdict.Passed ⌝ }
-    ensures { λ r. ⌜ r ≡ record { 0 = wordAt d (now (initial .entry)) (now (offsets .entry)) x } ⌝ }
-{
-    word_of(d, sum_of(d, initial, offsets, x))
+    Evaluated::Word(word_of(d, sum))
 }
 
 // The word that x gets, or the first refusal.
@@ -55,10 +47,7 @@ pub fn evaluate(d: Design, initial: &[u32], offsets: &[i32], x: u32) -> Evaluate
     if let Verdict::Refused(cause) = set_verdict(d, initial.len(), offsets.len()) {
         return Evaluated::Refused(cause);
     }
-    if let Verdict::Refused(cause) = word_verdict(d, initial, offsets, x) {
-        return Evaluated::Refused(cause);
-    }
-    Evaluated::Word(word(d, initial, offsets, x))
+    word_answer(d, initial, offsets, x)
 }
 
 // Refusals 1 to 10 and 14 of a batch: what is tried once, before any of its words.
@@ -81,11 +70,20 @@ fn words_verdict(d: Design, initial: &[u32], offsets: &[i32], words: &[u32]) -> 
         (placeVerdict d (now (initial .entry)) (now (offsets .entry)) (now (words .entry))) ⌝ }
 {
     for i in 0..words.len() {
-        if let Verdict::Refused(cause) = word_verdict(d, initial, offsets, words[i]) {
+        if let Evaluated::Refused(cause) = word_answer(d, initial, offsets, words[i]) {
             return Batched::Refused(cause, i);
         }
     }
     Batched::Count(words.len())
+}
+
+// A word that is known to pass.
+fn word(d: Design, initial: &[u32], offsets: &[i32], x: u32) -> OutputUnits
+    requires { ⌜ Usable d (length (now initial)) (length (now offsets)) ⌝ }
+    requires { ⌜ Checks.verdict (wordChecks d (now initial) (now offsets) x) ≡ Verdict.Passed ⌝ }
+    ensures { λ r. ⌜ r ≡ record { 0 = wordAt d (now (initial .entry)) (now (offsets .entry)) x } ⌝ }
+{
+    word_of(d, sum_of(d, initial, offsets, x))
 }
 
 // The second pass, once every word has passed: each word's output at its place.
@@ -114,10 +112,8 @@ pub fn evaluate_batch(
         ≡ batchAnswer d (now (initial .entry)) (now (offsets .entry)) (now (words .entry)) (length (now (output .entry))) ⌝ }
     ensures contents { λ r. ⌜ now (output .exit)
         ≡ outputAfter d (now (initial .entry)) (now (offsets .entry)) (now (words .entry)) (now (output .entry)) ⌝ }
-    ensures number { λ r. ⌜ Batch.refusalOf r
-        ≡ Batch.refusalOf (batchAnswer d (now (initial .entry)) (now (offsets .entry)) (now (words .entry)) (length (now (output .entry)))) ⌝ }
-    ensures place { λ r. ⌜ Batch.placeOf r
-        ≡ Batch.placeOf (batchAnswer d (now (initial .entry)) (now (offsets .entry)) (now (words .entry)) (length (now (output .entry)))) ⌝ }
+    ensures number { λ r. ⌜ Batch.refusalOf r ≡ verdictNumber
+        (batchVerdict d (now (initial .entry)) (now (offsets .entry)) (now (words .entry)) (length (now (output .entry)))) ⌝ }
 {
     if let Verdict::Refused(cause) = room_verdict(d, initial, offsets, words.len(), output.len()) {
         return Batched::Refused(cause, 0);

@@ -8,6 +8,7 @@ use lib.ListN.{length}
 use Rattle.refusal.specs.declared.Verdict.{Verdict}
 use Rattle.tables.specs.Batch.{placeVerdict}
 use Rattle.tables.proofs.BatchLaws.{batch-all, batch-bad}
+use Rattle.tables.proofs.WordLaws.{evaluated-refused, evaluated-word}
 use Rattle.evaluating.proofs.words_verdict.Statement.{statement}
 use Rattle.evaluating.proofs.words_verdict.Tie as tie
 
@@ -21,14 +22,14 @@ abbrev μ-loop : tie.MeasureT-loop
 loop-holds : tie.Need-loop-holds Inv-loop μ-loop
 loop-holds c = (omega arith, below-none _)
 
-mul-word-verdict : tie.Need-mul-word-verdict Inv-loop μ-loop
-mul-word-verdict c = omega arith
+mul-word-answer : tie.Need-mul-word-answer Inv-loop μ-loop
+mul-word-answer c = omega arith
 
-shared-slice-read-word-verdict : tie.Need-shared-slice-read-word-verdict Inv-loop μ-loop
-shared-slice-read-word-verdict c = omega arith
+shared-slice-read-word-answer : tie.Need-shared-slice-read-word-answer Inv-loop μ-loop
+shared-slice-read-word-answer c = omega arith
 
-word-verdict-requires : tie.Need-word-verdict-requires Inv-loop μ-loop
-word-verdict-requires c κs = c .before .before .before .before .before .pre
+word-answer-requires : tie.Need-word-answer-requires Inv-loop μ-loop
+word-answer-requires c κs = c .before .before .before .before .before .pre
 
 enum-known-cause : tie.Need-enum-known-cause Inv-loop μ-loop
 enum-known-cause c = search needs
@@ -38,7 +39,7 @@ unfolding placeVerdict
 returns c =
     let b = c .before .before .before .before .before in
     sym (batch-bad _ _ _ _ (b .loop-test .taken) (b .before .loop .inv .1)
-    (sym (c .before .before .before .word-verdict .ensures) ∙ c .before .cause .given .1))
+    (evaluated-refused _ _ (sym (c .before .before .before .word-answer .ensures) ∙ c .before .cause .given .1)))
 
 enum-told : tie.Need-enum-told Inv-loop μ-loop
 enum-told c = search needs
@@ -53,7 +54,7 @@ loop-again : tie.Need-loop-again Inv-loop μ-loop
 unfolding placeVerdict
 loop-again c =
     let b = c .before .before .before .before .before in
-    (omega arith, below-more _ _ (b .loop .inv .1) (sym (c .before .before .word-verdict .ensures) ∙ c .enum-told .given .1))
+    (omega arith, below-more _ _ (b .loop .inv .1) (evaluated-word _ _ (sym (c .before .before .word-answer .ensures) ∙ c .enum-told .given .1)))
 
 returns-2 : tie.Need-returns-2 Inv-loop μ-loop
 returns-2 c =
@@ -68,9 +69,9 @@ words-verdict-spec =
     Inv-loop
     μ-loop
     loop-holds
-    mul-word-verdict
-    shared-slice-read-word-verdict
-    word-verdict-requires
+    mul-word-answer
+    shared-slice-read-word-answer
+    word-answer-requires
     enum-known-cause
     returns
     enum-told
