@@ -1,0 +1,98 @@
+-- How large the numbers of an entry get, so that nothing wraps.
+use Prim.Native.Nat.{ℕ, _+_, _*_, _/_, _^_, _≤_, _<_}
+use native.Mathlib.Nat.{le-trans, le-of-lt, mul-le-mul-left, mul-le-mul-right, mul-assoc, mul-div-le}
+use native.Mathlib.Omega.{arith}
+use lib.IntN.{natAbs}
+use lib.Pow.{pow-add, pow-mono, pow-pos, shr-mono}
+use Rattle.values.specs.declared.rows.Row.{Row}
+use Rattle.values.specs.Floor.{floorValue}
+use Rattle.values.specs.Inputs.{InRange, FloorInput, SegmentInput, SlopeInput}
+use Rattle.values.specs.Slopes.{segmentStart, segmentEnd, hi, lo}
+use Rattle.values.proofs.Bounds.{floor-small, start-input, end-input, ordered}
+use Rattle.design.specs.declared.Design.{Design}
+use Rattle.design.specs.Cut.{aOf, bOf, row, fractionBits, position}
+use Rattle.design.proofs.LegalLaws.{Limits, lawful, slopewise, bits-end}
+use Rattle.tables.specs.Entries.{hiAt, loAt}
+use Rattle.filling.specs.Offset.{oddOf}
+use Rattle.filling.specs.Inputs.{OffsetInput}
+use Rattle.filling.proofs.SignLaws.{difference-small}
+
+module _ (slopes b p B : ℕ) (fit : OffsetInput slopes b p B) where
+  pub odd-small : natAbs (oddOf b B) ≤ 2 ^ b
+  unfolding oddOf
+  odd-small = difference-small (2 * B + 1) (2 ^ b) (omega (arith, fit .B-lt))
+
+  pub product-small : slopes * natAbs (oddOf b B) * 2 ^ p ≤ 2 ^ 39
+  product-small =
+      le-trans (mul-le-mul-right (2 ^ p) (mul-le-mul-left slopes odd-small)) (rw (mul-assoc, ← pow-add 2 b p) (fit .small))
+
+  pub half-product-small : slopes * natAbs (oddOf b B) ≤ 2 ^ 39
+  half-product-small =
+      omega (arith, product-small, mul-le-mul-left (slopes * natAbs (oddOf b B)) (pow-pos p))
+
+  pub magnitude-small : slopes * natAbs (oddOf b B) * 2 ^ p / 2 ^ 18 < 2 ^ 31
+  magnitude-small = omega (arith, shr-mono 18 product-small)
+
+-- What the calls of the values ask, at a legal design
+module _ (d : Design) (l : Limits d) where
+  pub floor-input : (X : ℕ) → InRange (d .w) X → FloorInput (row d) (d .w) (fractionBits d) X
+  floor-input X range =
+      record { lawful = lawful d l; w-small = l .widths .w-high; P-small = l .widths .P-high; range = range }
+
+  -- of the intervals of the initial entries
+  pub interval-input : SlopeInput (row d) (d .w) (fractionBits d) (d .alpha)
+  interval-input =
+      record {
+        lawful = lawful d l;
+        w-small = l .widths .w-high;
+        P-small = l .widths .P-high;
+        a-small = le-of-lt (l .alpha-below);
+      }
+
+pub segment-input : {row : Row} {w P a A : ℕ} → SlopeInput row w P a → A < 2 ^ a → SegmentInput w a A
+segment-input fit h = record { w-small = fit .w-small; a-small = fit .a-small; A-small = h }
+
+-- A slope is L(X) / (k·X), and X is at least 2^w: so Hi·2^w is at most 2^37 + 2^w, and Lo is at most Hi.
+quotient-small : (n k s one : ℕ) → 1 ≤ k → one ≤ s → n / (k * s) * one ≤ n
+quotient-small n k s one k-pos low =
+    let step : one ≤ k * s = omega (arith, mul-le-mul-right s k-pos) in
+    omega (arith, mul-le-mul-left (n / (k * s)) step, mul-div-le n (k * s))
+
+module _ (row : Row) (w P a A : ℕ) (fit : SlopeInput row w P a) (A-lt : A < 2 ^ a) where
+  hi-scaled : hi row w P (segmentStart w a A) * 2 ^ w ≤ 2 ^ 37 + 2 ^ w
+  unfolding hi
+  hi-scaled =
+      let input = start-input row w P a A fit A-lt in
+      omega (
+        arith,
+        floor-small row w P _ input,
+        quotient-small ((floorValue row w P (segmentStart w a A) + 1) * 65536) (row .k) (segmentStart w a A) (2 ^ w)
+            (fit .lawful .k-pos) (input .range .low),
+      )
+
+  pub slopes-scaled : (hi row w P (segmentStart w a A) + lo row w P (segmentEnd w a A)) * 2 ^ w ≤ 2 ^ 39
+  slopes-scaled =
+      omega (arith, mul-le-mul-right (2 ^ w) (ordered row w P a A fit A-lt .1), hi-scaled, pow-mono {j = 16} (fit .w-small))
+
+module _ (d : Design) (l : Limits d) (i A : ℕ) (h : i < d .m) (A-lt : A < 2 ^ aOf d i) where
+  pub slopes-fit : hiAt d i A + loAt d i A ≤ 2 ^ 39
+  unfolding hiAt loAt
+  slopes-fit =
+      omega (
+        arith,
+        slopes-scaled (row d) (d .w) (fractionBits d) (aOf d i) A (slopewise d l i h) A-lt,
+        mul-le-mul-left (hiAt d i A + loAt d i A) (pow-pos (d .w)),
+      )
+
+  -- the offsets of a segment can be asked for
+  pub offset-input : (B : ℕ) → B < 2 ^ bOf d i → OffsetInput (hiAt d i A + loAt d i A) (bOf d i) (position d i) B
+  unfolding hiAt loAt
+  offset-input B B-lt =
+      let end = bits-end d l i h in
+      record {
+        B-lt = B-lt;
+        bits = omega (arith, l .widths .w-high);
+        small = le-trans
+            (mul-le-mul-left (hiAt d i A + loAt d i A) (pow-mono {j = d .w} (omega arith)))
+            (slopes-scaled (row d) (d .w) (fractionBits d) (aOf d i) A (slopewise d l i h) A-lt);
+      }

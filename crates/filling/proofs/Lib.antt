@@ -1,0 +1,3 @@
+-- Laws of the fill, one file a subject.
+pub mod SignLaws
+pub mod EntryBounds

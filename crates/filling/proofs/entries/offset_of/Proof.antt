@@ -1,0 +1,67 @@
+-- `filling::entries::offset_of` meets its contract: |j| is at most 2^b, so the product is at most 2^39 and T below 2^31.
+use mathlib.Core.Path.{_≡_, _∙_}
+use Prim.Native.Nat.{ℕ, _*_, _/_, _^_, _≤_, _<_}
+use native.Mathlib.Omega.{arith}
+use borrow.Author.Needs.{needs}
+use lib.IntN.{ℤ, natAbs}
+use lib.Pow.{pow-mono}
+use mir.Syntax.{w32, w64}
+use mir.Val.{SFits, toZ, ofZ}
+use mir.ValLaws.{toZ-ofZ}
+use Rattle.filling.specs.Offset.{oddOf, magnitudeOf, offsetOf}
+use Rattle.filling.specs.Inputs.{OffsetInput}
+use Rattle.filling.proofs.EntryBounds.{odd-small, half-product-small, product-small, magnitude-small}
+use Rattle.filling.proofs.entries.offset_of.Statement.{statement}
+use Rattle.filling.proofs.entries.offset_of.Tie as tie
+
+odd-number-requires : tie.Need-odd-number-requires
+odd-number-requires c κs = search needs
+
+-- j, as its bits are read
+odd-is : (c : tie.After-odd-number) → toZ w64 (ofZ w64 (c .odd-number .result)) ≡ oddOf (c .before .args .b) (c .before .args .word)
+odd-is c = toZ-ofZ w64 _ (record { sfits = c .odd-number .ok }) ∙ c .odd-number .ensures
+
+size-requires : tie.Need-size-requires
+size-requires c κs =
+    let a = c .before .args in
+    rw (odd-is c) (omega (arith, odd-small (a .slopes) (a .b) (a .p) (a .word) (c .before .pre), pow-mono {i = a .b} {j = 16} (omega arith)))
+
+-- |j|
+size-is : (c : tie.After-size) → c .size .result ≡ natAbs (oddOf (c .before .before .args .b) (c .before .before .args .word))
+size-is c = c .size .ensures ∙ rw (odd-is (c .before))
+
+mul-t : tie.Need-mul-t
+mul-t c = rw (size-is c) (omega (arith, half-product-small _ _ _ _ (c .before .before .pre)))
+
+pow2-requires : tie.Need-pow2-requires
+pow2-requires c κs = search needs
+
+mul-t-2 : tie.Need-mul-t-2
+mul-t-2 c = rw (size-is (c .before), c .pow2 .ensures) (omega (arith, product-small _ _ _ _ (c .before .before .before .pre)))
+
+div-t : tie.Need-div-t
+div-t c = search needs
+
+with-sign-requires : tie.Need-with-sign-requires
+with-sign-requires c κs =
+    rw (size-is (c .before), c .pow2 .ensures) (magnitude-small _ _ _ _ (c .before .before .before .pre))
+
+returns : tie.Need-returns
+unfolding offsetOf magnitudeOf
+returns c =
+    let b = c .before in
+    toZ-ofZ w32 _ (record { sfits = c .with-sign .ok }) ∙ c .with-sign .ensures
+    ∙ rw (odd-is (b .before .before), size-is (b .before), b .pow2 .ensures)
+
+pub offset-of-spec : {M : Type 1} → statement M
+offset-of-spec =
+    tie.close
+    (tie.spec
+    odd-number-requires
+    size-requires
+    mul-t
+    pow2-requires
+    mul-t-2
+    div-t
+    with-sign-requires
+    returns)

@@ -1,0 +1,41 @@
+-- `filling::entries::value_at` meets its contract: the floor value is not negative, and below 2^21.
+use mathlib.Core.Path.{ap, _∙_}
+use native.Mathlib.Omega.{arith}
+use lib.IntN.{natAbs}
+use Rattle.values.specs.declared.TableUnits.{TableUnits}
+use Rattle.values.specs.declared.rows.Row.{Row}
+use Rattle.values.specs.Floor.{floorValue}
+use Rattle.values.proofs.Bounds.{floor-small}
+use Rattle.design.proofs.LegalLaws.{limits}
+use Rattle.tables.specs.Entries.{valueAt}
+use Rattle.filling.proofs.EntryBounds.{floor-input}
+use Rattle.filling.proofs.entries.value_at.Statement.{statement}
+use Rattle.filling.proofs.entries.value_at.Tie as tie
+
+row-of-requires : tie.Need-row-of-requires
+row-of-requires c κs = omega (arith, limits _ (c .pre .0) .widths)
+
+add-floor-value : tie.Need-add-floor-value
+add-floor-value c = omega (arith, limits _ (c .before .before .pre .0) .widths)
+
+floor-value-requires : tie.Need-floor-value-requires
+floor-value-requires c κs =
+    let start = c .before .before in
+    rw (c .before .row-of .ensures) (floor-input _ (limits _ (start .pre .0)) _ (start .pre .1))
+
+count-requires : tie.Need-count-requires
+count-requires c κs = rw (c .floor-value .ensures) tt
+
+returns : tie.Need-returns
+unfolding valueAt
+returns c =
+    let b = c .before .before .before in
+    let units = rw (b .row-of .ensures) at (c .before .floor-value .ensures) in
+    let e = c .count .ensures ∙ ap (λ (u : TableUnits). natAbs (u .0)) units in
+    let start = b .before in
+    (e, rw e (floor-small _ _ _ _ (floor-input _ (limits _ (start .pre .0)) _ (start .pre .1))))
+
+pub value-at-spec : {M : Type 1} → statement M
+value-at-spec =
+    tie.close
+    (tie.spec row-of-requires add-floor-value floor-value-requires count-requires returns)

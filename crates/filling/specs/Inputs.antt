@@ -1,0 +1,19 @@
+-- What inner calls may count on. Their callers are proved to see to it.
+use mathlib.Core.Path.{_≡_}
+use Prim.Native.Nat.{ℕ, _+_, _*_, _^_, _≤_, _<_}
+use Rattle.design.specs.declared.Design.{Design}
+use Rattle.design.specs.Cut.{aOf, position, tableStart, offsetTotal, offsetPlace}
+use Rattle.design.specs.Legal.{Legal}
+
+-- An offset is asked for: its B has b bits, and the largest product that its b and p can lead to is small.
+pub record OffsetInput (slopes b p B : ℕ) : Type 0 where
+  pub B-lt : B < 2 ^ b
+  pub bits : b + p ≤ 16
+  pub small : slopes * 2 ^ (b + p) ≤ 2 ^ 39
+
+-- A table is to be written: table i, whose bits begin at p, into offsets of this length.
+pub record TableInput (d : Design) (i p offsets : ℕ) : Type 0 where
+  pub legal : Legal d
+  pub i-lt : i < d .m
+  pub p-is : p ≡ position d i
+  pub long : offsetTotal d ≤ offsets

@@ -1,0 +1,2 @@
+// The fill: both tables of an admitted design, entry by entry.
+pub mod entries;
