@@ -17,10 +17,10 @@ use Rattle.filling.specs.Offset.{oddOf}
 use Rattle.filling.specs.Inputs.{OffsetInput}
 use Rattle.filling.proofs.SignLaws.{difference-small}
 
-module _ (slopes b p B : ℕ) (fit : OffsetInput slopes b p B) where
+module _ (slopes b p B : ℕ) (fit : OffsetInput slopes b p) (B-lt : B < 2 ^ b) where
   pub odd-small : natAbs (oddOf b B) ≤ 2 ^ b
   unfolding oddOf
-  odd-small = difference-small (2 * B + 1) (2 ^ b) (omega (arith, fit .B-lt))
+  odd-small = difference-small (2 * B + 1) (2 ^ b) (omega arith)
 
   pub product-small : slopes * natAbs (oddOf b B) * 2 ^ p ≤ 2 ^ 39
   product-small =
@@ -85,12 +85,11 @@ module _ (d : Design) (l : Limits d) (i A : ℕ) (h : i < d .m) (A-lt : A < 2 ^ 
       )
 
   -- the offsets of a segment can be asked for
-  pub offset-input : (B : ℕ) → B < 2 ^ bOf d i → OffsetInput (hiAt d i A + loAt d i A) (bOf d i) (position d i) B
+  pub offset-input : OffsetInput (hiAt d i A + loAt d i A) (bOf d i) (position d i)
   unfolding hiAt loAt
-  offset-input B B-lt =
+  offset-input =
       let end = bits-end d l i h in
       record {
-        B-lt = B-lt;
         bits = omega (arith, l .widths .w-high);
         small = le-trans
             (mul-le-mul-left (hiAt d i A + loAt d i A) (pow-mono {j = d .w} (omega arith)))

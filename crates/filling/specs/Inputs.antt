@@ -2,12 +2,11 @@
 use mathlib.Core.Path.{_≡_}
 use Prim.Native.Nat.{ℕ, _+_, _*_, _^_, _≤_, _<_}
 use Rattle.design.specs.declared.Design.{Design}
-use Rattle.design.specs.Cut.{aOf, position, tableStart, offsetTotal, offsetPlace}
+use Rattle.design.specs.Cut.{position, offsetTotal}
 use Rattle.design.specs.Legal.{Legal}
 
--- An offset is asked for: its B has b bits, and the largest product that its b and p can lead to is small.
-pub record OffsetInput (slopes b p B : ℕ) : Type 0 where
-  pub B-lt : B < 2 ^ b
+-- Offsets of a segment are asked for: the largest product that its slopes and its table's b and p can lead to is small.
+pub record OffsetInput (slopes b p : ℕ) : Type 0 where
   pub bits : b + p ≤ 16
   pub small : slopes * 2 ^ (b + p) ≤ 2 ^ 39
 

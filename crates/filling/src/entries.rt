@@ -84,7 +84,8 @@ fn with_sign(rising: bool, j: i64, t: u64) -> i32
 
 // inner: the offset of B = word, by Hi + Lo of its segment, b and p of its table, and the function's sign.
 pub fn offset_of(slopes: u64, b: u32, p: u32, rising: bool, word: u64) -> i32
-    requires { ⌜ OffsetInput slopes b p word ⌝ }
+    requires { ⌜ OffsetInput slopes b p ⌝ }
+    requires { ⌜ word < 2 ^ b ⌝ }
     ensures { λ r. ⌜ r ≡ offsetOf slopes b p rising word ⌝ }
 {
     let j = odd_number(b, word);

@@ -9,7 +9,6 @@ use mir.Syntax.{w32, w64}
 use mir.Val.{SFits, toZ, ofZ}
 use mir.ValLaws.{toZ-ofZ}
 use Rattle.filling.specs.Offset.{oddOf, magnitudeOf, offsetOf}
-use Rattle.filling.specs.Inputs.{OffsetInput}
 use Rattle.filling.proofs.EntryBounds.{odd-small, half-product-small, product-small, magnitude-small}
 use Rattle.filling.proofs.entries.offset_of.Statement.{statement}
 use Rattle.filling.proofs.entries.offset_of.Tie as tie
@@ -24,27 +23,27 @@ odd-is c = toZ-ofZ w64 _ (record { sfits = c .odd-number .ok }) ∙ c .odd-numbe
 size-requires : tie.Need-size-requires
 size-requires c κs =
     let a = c .before .args in
-    rw (odd-is c) (omega (arith, odd-small (a .slopes) (a .b) (a .p) (a .word) (c .before .pre), pow-mono {i = a .b} {j = 16} (omega arith)))
+    rw (odd-is c) (omega (arith, odd-small (a .slopes) (a .b) (a .p) (a .word) (c .before .pre .0) (c .before .pre .1), pow-mono {i = a .b} {j = 16} (omega arith)))
 
 -- |j|
 size-is : (c : tie.After-size) → c .size .result ≡ natAbs (oddOf (c .before .before .args .b) (c .before .before .args .word))
 size-is c = c .size .ensures ∙ rw (odd-is (c .before))
 
 mul-t : tie.Need-mul-t
-mul-t c = rw (size-is c) (omega (arith, half-product-small _ _ _ _ (c .before .before .pre)))
+mul-t c = rw (size-is c) (omega (arith, half-product-small _ _ _ _ (c .before .before .pre .0) (c .before .before .pre .1)))
 
 pow2-requires : tie.Need-pow2-requires
 pow2-requires c κs = search needs
 
 mul-t-2 : tie.Need-mul-t-2
-mul-t-2 c = rw (size-is (c .before), c .pow2 .ensures) (omega (arith, product-small _ _ _ _ (c .before .before .before .pre)))
+mul-t-2 c = rw (size-is (c .before), c .pow2 .ensures) (omega (arith, product-small _ _ _ _ (c .before .before .before .pre .0) (c .before .before .before .pre .1)))
 
 div-t : tie.Need-div-t
 div-t c = search needs
 
 with-sign-requires : tie.Need-with-sign-requires
 with-sign-requires c κs =
-    rw (size-is (c .before), c .pow2 .ensures) (magnitude-small _ _ _ _ (c .before .before .before .pre))
+    rw (size-is (c .before), c .pow2 .ensures) (magnitude-small _ _ _ _ (c .before .before .before .pre .0) (c .before .before .before .pre .1))
 
 returns : tie.Need-returns
 unfolding offsetOf magnitudeOf

@@ -1,0 +1,89 @@
+-- A table while it is written: nothing yet, one entry more, a list of entries more, all that begin the table.
+use mathlib.Core.Path.{_≡_, refl, sym, ap₂, _∙_}
+use mathlib.Core.List.{List, [], _∷_, _++_, append-assoc, append-nil}
+use Prim.Native.Nat.{ℕ, zero, suc, _+_, _≤_, _<_}
+use native.Mathlib.Nat.{add-assoc, add-suc, add-zero, zero-add, le-refl, le-step}
+use native.Mathlib.Numerals.{add-one}
+use native.Mathlib.Omega.{arith}
+use lib.ListN.{length, take, drop, set, length-append, length-drop, take-append-drop}
+use lib.Seq.{drop-drop, append-snoc, set-split, take-at, drop-at, length-take-le}
+use Rattle.tables.specs.Fill.{listBelow}
+use Rattle.tables.proofs.EntryLaws.{list-length}
+use Rattle.filling.specs.Writing.{over}
+
+module _ {A : Type 0} where
+  pub over-none : (table : List A) (n : ℕ) → table ≡ over table n []
+  unfolding over
+  over-none table n = rw (add-zero, append-nil) (sym (take-append-drop n table))
+
+  pub over-start : (table entries : List A) → over table 0 entries ≡ entries ++ drop (length entries) table
+  unfolding over
+  over-start table entries = rw zero-add
+
+  -- one store
+  store : (table : List A) (n : ℕ) (v : A) → n < length table → set table n v ≡ over table n (v ∷ [])
+  unfolding over
+  store table n v h = set-split table n v h ∙ rw add-one (sym (append-snoc (take n table) v (drop (suc n) table)))
+
+  module _ (table : List A) (n : ℕ) (entries : List A) (room : n + length entries ≤ length table) where
+    front-length : length (take n table ++ entries) ≡ n + length entries
+    front-length = length-append (take n table) entries ∙ rw (length-take-le n table (omega arith))
+
+    pub over-length : length (over table n entries) ≡ length table
+    unfolding over
+    over-length =
+        let rest = drop (n + length entries) table in
+        omega (arith, front-length, length-append (take n table ++ entries) rest, length-drop (n + length entries) table)
+
+    pub over-more : (more : List A) → over (over table n entries) (n + length entries) more ≡ over table n (entries ++ more)
+    unfolding over
+    over-more more =
+        let front = take n table ++ entries in
+        let rest = drop (n + length entries) table in
+        rw (
+          take-at front rest (n + length entries) front-length,
+          ← drop-drop (length more) (n + length entries) (front ++ rest),
+          drop-at front rest (n + length entries) front-length,
+          drop-drop (length more) (n + length entries) table,
+          length-append entries more,
+          add-assoc n (length entries) (length more),
+          append-assoc (take n table) entries more,
+        )
+
+    pub over-one : (v : A) → n + length entries < length table
+        → set (over table n entries) (n + length entries) v ≡ over table n (entries ++ (v ∷ []))
+    over-one v h = store (over table n entries) (n + length entries) v (rw over-length h) ∙ over-more (v ∷ [])
+
+-- The list of f over the numbers below n + k is that below n, then k more; and it goes by what f is there.
+module _ {A : Type 0} (f : ℕ → A) where
+  pub list-add : (n k : ℕ) → listBelow (n + k) f ≡ listBelow n f ++ listBelow k (λ j. f (n + j))
+  unfolding listBelow
+  list-add n zero = rw (add-zero, append-nil)
+  list-add n (suc k) = rw (add-suc, list-add n k) (append-assoc (listBelow n f) (listBelow k (λ j. f (n + j))) (f (n + k) ∷ []))
+
+  pub list-congruence : (g : ℕ → A) (n : ℕ) → ((j : ℕ) → j < n → f j ≡ g j) → listBelow n f ≡ listBelow n g
+  unfolding listBelow
+  list-congruence g zero same = refl
+  list-congruence g (suc n) same =
+      ap₂ (λ (l : List A) (v : A). l ++ (v ∷ [])) (list-congruence g n (λ j h. same j (le-step h))) (same n (le-refl _))
+
+-- The list of f over the numbers below n, written from a place on: not yet, its length, and one entry more
+module _ {A : Type 0} (f : ℕ → A) (table : List A) (start : ℕ) where
+  pub run-none : table ≡ over table start (listBelow 0 f)
+  unfolding listBelow
+  run-none = over-none table start
+
+  module _ (n : ℕ) where
+    run-room : start + n ≤ length table → start + length (listBelow n f) ≤ length table
+    run-room h = rw (list-length f n) h
+
+    pub run-length : start + n ≤ length table → length (over table start (listBelow n f)) ≡ length table
+    run-length h = over-length table start (listBelow n f) (run-room h)
+
+    pub run-one : (at : ℕ) (v : A) {now : List A} → now ≡ over table start (listBelow n f) → at ≡ start + n → v ≡ f n → at < length table
+        → set now at v ≡ over table start (listBelow (n + 1) f)
+    unfolding listBelow
+    run-one at v now-is at-is v-is h =
+        let last : start + length (listBelow n f) < length table = rw (list-length f n) (omega arith) in
+        rw (now-is, at-is, v-is, add-one)
+        (rw (list-length f n) at (over-one table start (listBelow n f) (run-room (omega arith)) (f n) last))

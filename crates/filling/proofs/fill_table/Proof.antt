@@ -1,0 +1,128 @@
+-- `filling::fill_table` meets its contract: the loop keeps `Segments`, the first n segments written and the place of the next.
+use mathlib.Core.Path.{_≡_, ap}
+use Prim.Native.Nat.{_+_, _-_, _^_, _≤_, _<_}
+use native.Mathlib.Omega.{arith}
+use lib.ListN.{length}
+use lib.Pow.{pow-mono}
+use Rattle.values.specs.declared.rows.Row.{Row}
+use Rattle.design.specs.declared.Pair.{Pair}
+use Rattle.design.specs.Cut.{aOf}
+use Rattle.design.proofs.LegalLaws.{limits}
+use Rattle.filling.proofs.EntryBounds.{offset-input}
+use Rattle.filling.proofs.TableLaws.{Segments, segments-start, segments-next, segments-end, segment-room}
+use Rattle.filling.proofs.fill_table.Statement.{statement}
+use Rattle.filling.proofs.fill_table.Tie as tie
+
+abbrev Inv-loop : tie.InvT-loop
+Inv-loop d i p start offsets₀ pair rising count at₀ segment₀ offsets at segment =
+    Segments d i offsets₀ offsets at segment × (segment ≤ count)
+
+abbrev μ-loop : tie.MeasureT-loop
+μ-loop d i p start offsets₀ pair rising count at₀ segment₀ offsets at segment = count - segment
+
+pair-at-requires : tie.Need-pair-at-requires Inv-loop μ-loop
+pair-at-requires c κs = (c .pre .0 .i-lt, limits _ (c .pre .0 .legal) .m-high)
+
+row-of-requires : tie.Need-row-of-requires Inv-loop μ-loop
+row-of-requires c κs = omega (arith, limits _ (c .before .pre .0 .legal) .widths)
+
+pow2-requires : tie.Need-pow2-requires Inv-loop μ-loop
+pow2-requires c κs =
+    let table = c .before .before .pre .0 in
+    rw (c .before .pair-at .ensures) (omega (arith, limits _ (table .legal) .table _ (table .i-lt)))
+
+loop-holds : tie.Need-loop-holds Inv-loop μ-loop
+loop-holds c = (segments-start _ _ _ _ (c .before .before .before .pre .1), omega arith)
+
+-- the number of segments
+count-is : (c : tie.After-pow2 Inv-loop μ-loop)
+    → c .pow2 .result ≡ 2 ^ aOf (c .before .before .before .args .d) (c .before .before .before .args .i)
+count-is c = rw (c .before .before .pair-at .ensures) at (c .pow2 .ensures)
+
+few : (c : tie.After-pow2 Inv-loop μ-loop) → c .pow2 .result ≤ 2 ^ 12
+few c =
+    let table = c .before .before .before .pre .0 in
+    rw (count-is c) (pow-mono {j = 12} (omega (arith, limits _ (table .legal) .table _ (table .i-lt))))
+
+-- this turn's segment is one of them
+here : (c : tie.In-loop Inv-loop μ-loop) → let a = c .before .before .before .before .before .args in
+    c .before .loop .segment < 2 ^ aOf (a .d) (a .i)
+here c = rw (count-is (c .before .before)) at (c .loop-test .taken)
+
+slope-sum-requires : tie.Need-slope-sum-requires Inv-loop μ-loop
+slope-sum-requires c κs =
+    let table = c .before .before .before .before .before .pre .0 in
+    (table .legal, (table .i-lt, here c))
+
+-- and there is room for its offsets
+room : (c : tie.After-slope-sum Inv-loop μ-loop) → let b = c .before .before .before .before .before in
+    c .before .before .loop .at + 2 ^ b .pair-at .result .b ≤ length (b .before .args .offsets .now)
+room c =
+    let b = c .before .before .before .before .before in
+    let table = b .before .pre .0 in
+    rw (b .pair-at .ensures)
+    (omega (
+      arith,
+      c .before .before .loop .inv .0 .place,
+      segment-room (b .before .args .d) (b .before .args .i) (table .i-lt) _ (here (c .before)),
+      table .long,
+    ))
+
+fill-segment-requires : tie.Need-fill-segment-requires Inv-loop μ-loop
+fill-segment-requires c κs =
+    let b = c .before .before .before .before .before .before in
+    let table = b .before .pre .0 in
+    (
+      rw (c .before .slope-sum .ensures, b .pair-at .ensures, table .p-is)
+          (offset-input _ (limits _ (table .legal)) _ _ (table .i-lt) (here (c .before .before))),
+      omega (arith, room (c .before), c .before .before .before .loop .inv .0 .kept),
+    )
+
+add-segment : tie.Need-add-segment Inv-loop μ-loop
+add-segment c = omega (arith, few (c .before .before .before .before .before .before))
+
+loop-less : tie.Need-loop-less Inv-loop μ-loop
+loop-less c = omega arith
+
+loop-again : tie.Need-loop-again Inv-loop μ-loop
+loop-again c =
+    let s = c .before .before .before in
+    let r = s .before .before .before .before in
+    let call = c .before .fill-segment in
+    let b-is = ap (λ (pair : Pair). pair .b) (r .before .pair-at .ensures) in
+    let rising-is = ap (λ (row : Row). row .rising) (r .row-of .ensures) in
+    (
+      rw (call .ensures .0)
+          (segments-next _ _ (s .before .before .loop .inv .0) (s .slope-sum .ensures) b-is (r .before .before .pre .0 .p-is) rising-is
+          (room s) (call .ensures .1) (call .kept .1 .1 .1 .1 .1 .0)),
+      omega arith,
+    )
+
+same-length : tie.Need-same-length Inv-loop μ-loop
+same-length c = c .before .loop .inv .0 .kept
+
+returns : tie.Need-returns Inv-loop μ-loop
+returns c =
+    let p = c .before .before in
+    let end : c .before .loop .segment ≡ 2 ^ aOf (p .before .before .before .args .d) (p .before .before .before .args .i) =
+        omega (arith, count-is p, c .before .loop .inv .1, c .loop-test .left) in
+    let all = segments-end _ _ (c .before .loop .inv .0) end in
+    (all .0, rw (p .before .before .before .pre .1) (all .1))
+
+pub fill-table-spec : {M : Type 1} → statement M
+fill-table-spec =
+    tie.close
+    (tie.spec
+    Inv-loop
+    μ-loop
+    pair-at-requires
+    row-of-requires
+    pow2-requires
+    loop-holds
+    slope-sum-requires
+    fill-segment-requires
+    add-segment
+    loop-less
+    loop-again
+    same-length
+    returns)
