@@ -8,7 +8,7 @@ use Rattle.values.specs.declared.rows.Row.{Row}
 use Rattle.values.specs.Floor.{floorValue}
 use Rattle.values.specs.Inputs.{InRange, FloorInput, SegmentInput, SlopeInput}
 use Rattle.values.specs.Slopes.{segmentStart, segmentEnd, hi, lo}
-use Rattle.values.proofs.Bounds.{floor-small, start-input, end-input, ordered}
+use Rattle.values.proofs.Bounds.{floor-small, start-input, ordered}
 use Rattle.design.specs.declared.Design.{Design}
 use Rattle.design.specs.Cut.{aOf, bOf, row, fractionBits, position}
 use Rattle.design.proofs.LegalLaws.{Limits, lawful, slopewise, bits-end}

@@ -3,3 +3,4 @@ pub mod SignLaws
 pub mod EntryBounds
 pub mod WritingLaws
 pub mod TableLaws
+pub mod FillLaws

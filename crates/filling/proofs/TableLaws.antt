@@ -2,7 +2,7 @@
 use mathlib.Core.Path.{_≡_, refl, sym, _∙_}
 use mathlib.Core.Bool.{Bool}
 use mathlib.Core.List.{List, _++_}
-use Prim.Native.Nat.{ℕ, suc, _+_, _*_, _/_, _%_, _^_, _≤_, _<_}
+use Prim.Native.Nat.{ℕ, _+_, _*_, _/_, _%_, _^_, _≤_, _<_}
 use native.Mathlib.Nat.{le-of-lt, mul-le-mul-right, zero-mul}
 use native.Mathlib.Numerals.{add-one}
 use native.Mathlib.Omega.{arith}
@@ -42,8 +42,8 @@ module _ (d : Design) (i : ℕ) where
       let f : ℕ → ℤ = λ k. offsetAt d i (k / one) (k % one) in
       let more : (n + 1) * one ≡ n * one + one = omega arith in
       let here : listBelow one (offsetOf (hiAt d i n + loAt d i n) (bOf d i) (position d i) (row d .rising))
-          ≡ listBelow one (λ j. f (n * one + j)) =
-          list-congruence _ _ one (λ j h. sym (rw (high n (bOf d i) h, low n (bOf d i) h) (offset-parts n j))) in
+      ≡ listBelow one (λ j. f (n * one + j)) =
+      list-congruence _ _ one (λ j h. sym (rw (high n (bOf d i) h, low n (bOf d i) h) (offset-parts n j))) in
       rw (more, here) (sym (list-add f (n * one) one))
 
   -- Those of all segments are the table's.
@@ -93,7 +93,7 @@ module _ (d : Design) (i : ℕ) where
         record {
           so-far = next-is
               ∙ rw (slopes-is, b-is, p-is, rising-is, segments .so-far, place-is, ← next-segment d i n)
-                  (over-more before (tableStart d i) (firstSegments d i n) (omega arith) _);
+              (over-more before (tableStart d i) (firstSegments d i n) (omega arith) _);
           kept = same ∙ segments .kept;
           place = rw b-is (omega (arith, segments .place));
         }

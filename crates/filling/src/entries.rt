@@ -6,7 +6,7 @@ ghost use Rattle.values.specs.Inputs.{InRange};
 ghost use Rattle.design.specs.Cut.{aOf, initialCount};
 ghost use Rattle.design.specs.Legal.{Legal};
 ghost use Rattle.tables.specs.Entries.{valueAt, initialAt, hiAt, loAt};
-ghost use Rattle.filling.specs.Offset.{oddOf, magnitudeOf, signed, offsetOf};
+ghost use Rattle.filling.specs.Offset.{oddOf, signed, offsetOf};
 ghost use Rattle.filling.specs.Inputs.{OffsetInput};
 use design::Design;
 use design::legal::pair_at;

@@ -39,7 +39,14 @@ fn fill_initial(d: Design, initial: &mut [u32])
 
 // The offsets of a segment, from their place on, by Hi + Lo of the segment, b and p of its table, and the function's sign.
 // Returns the place after the last.
-fn fill_segment(slopes: u64, b: u32, p: u32, rising: bool, start: usize, offsets: &mut [i32]) -> usize
+fn fill_segment(
+    slopes: u64,
+    b: u32,
+    p: u32,
+    rising: bool,
+    start: usize,
+    offsets: &mut [i32],
+) -> usize
     requires { ⌜ OffsetInput slopes b p ⌝ }
     requires { ⌜ start + 2 ^ b ≤ length (now offsets) ⌝ }
     ensures { λ r. ⌜ r ≡ start + 2 ^ b ⌝ }

@@ -25,8 +25,7 @@ here c = omega (arith, limits _ (c .before .before .pre .0) .m-low)
 fill-table-requires : tie.Need-fill-table-requires Inv-loop μ-loop
 fill-table-requires c κs =
     let start = c .before .before .before in
-    let tables = c .before .before .loop .inv .0 in
-    (
+    let tables = c .before .before .loop .inv .0 in (
       record {
         legal = start .pre .0;
         i-lt = here (c .before);
@@ -59,8 +58,7 @@ loop-again c =
     let call = c .before .before .before .fill-table in
     let turn = c .before .before .before .before .before in
     let b-is = ap (λ (pair : Pair). pair .b) (c .before .pair-at .ensures) in
-    let room = table-room (turn .before .before .args .d) _ (here turn) in
-    (
+    let room = table-room (turn .before .before .args .d) _ (here turn) in (
       tables-next _ (turn .before .loop .inv .0) b-is (call .ensures .0) (omega (arith, room, turn .before .before .pre .1))
           (call .ensures .1) (call .kept .1 .1 .1 .1 .0),
       omega arith,

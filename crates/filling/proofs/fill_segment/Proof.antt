@@ -1,6 +1,5 @@
 -- `filling::fill_segment` meets its contract: after n turns the first n offsets of the segment are written from its place on.
 use mathlib.Core.Path.{_≡_, refl, _∙_}
-use mathlib.Core.Bool.{Bool}
 use mathlib.Core.List.{List}
 use Prim.Native.Nat.{ℕ, _+_, _-_, _^_, _≤_, _<_}
 use native.Mathlib.Omega.{arith}

@@ -71,8 +71,7 @@ room c =
 fill-segment-requires : tie.Need-fill-segment-requires Inv-loop μ-loop
 fill-segment-requires c κs =
     let b = c .before .before .before .before .before .before in
-    let table = b .before .pre .0 in
-    (
+    let table = b .before .pre .0 in (
       rw (c .before .slope-sum .ensures, b .pair-at .ensures, table .p-is)
           (offset-input _ (limits _ (table .legal)) _ _ (table .i-lt) (here (c .before .before))),
       omega (arith, room (c .before), c .before .before .before .loop .inv .0 .kept),
@@ -90,8 +89,7 @@ loop-again c =
     let r = s .before .before .before .before in
     let call = c .before .fill-segment in
     let b-is = ap (λ (pair : Pair). pair .b) (r .before .pair-at .ensures) in
-    let rising-is = ap (λ (row : Row). row .rising) (r .row-of .ensures) in
-    (
+    let rising-is = ap (λ (row : Row). row .rising) (r .row-of .ensures) in (
       rw (call .ensures .0)
           (segments-next _ _ (s .before .before .loop .inv .0) (s .slope-sum .ensures) b-is (r .before .before .pre .0 .p-is) rising-is
           (room s) (call .ensures .1) (call .kept .1 .1 .1 .1 .1 .0)),
@@ -105,7 +103,7 @@ returns : tie.Need-returns Inv-loop μ-loop
 returns c =
     let p = c .before .before in
     let end : c .before .loop .segment ≡ 2 ^ aOf (p .before .before .before .args .d) (p .before .before .before .args .i) =
-        omega (arith, count-is p, c .before .loop .inv .1, c .loop-test .left) in
+    omega (arith, count-is p, c .before .loop .inv .1, c .loop-test .left) in
     let all = segments-end _ _ (c .before .loop .inv .0) end in
     (all .0, rw (p .before .before .before .pre .1) (all .1))
 

@@ -1,12 +1,11 @@
 -- `filling::entries::offset_of` meets its contract: |j| is at most 2^b, so the product is at most 2^39 and T below 2^31.
 use mathlib.Core.Path.{_≡_, _∙_}
-use Prim.Native.Nat.{ℕ, _*_, _/_, _^_, _≤_, _<_}
 use native.Mathlib.Omega.{arith}
 use borrow.Author.Needs.{needs}
-use lib.IntN.{ℤ, natAbs}
+use lib.IntN.{natAbs}
 use lib.Pow.{pow-mono}
 use mir.Syntax.{w32, w64}
-use mir.Val.{SFits, toZ, ofZ}
+use mir.Val.{toZ, ofZ}
 use mir.ValLaws.{toZ-ofZ}
 use Rattle.filling.specs.Offset.{oddOf, magnitudeOf, offsetOf}
 use Rattle.filling.proofs.EntryBounds.{odd-small, half-product-small, product-small, magnitude-small}
@@ -23,7 +22,8 @@ odd-is c = toZ-ofZ w64 _ (record { sfits = c .odd-number .ok }) ∙ c .odd-numbe
 size-requires : tie.Need-size-requires
 size-requires c κs =
     let a = c .before .args in
-    rw (odd-is c) (omega (arith, odd-small (a .slopes) (a .b) (a .p) (a .word) (c .before .pre .0) (c .before .pre .1), pow-mono {i = a .b} {j = 16} (omega arith)))
+    let small = odd-small (a .slopes) (a .b) (a .p) (a .word) (c .before .pre .0) (c .before .pre .1) in
+    rw (odd-is c) (omega (arith, small, pow-mono {i = a .b} {j = 16} (omega arith)))
 
 -- |j|
 size-is : (c : tie.After-size) → c .size .result ≡ natAbs (oddOf (c .before .before .args .b) (c .before .before .args .word))
@@ -36,14 +36,17 @@ pow2-requires : tie.Need-pow2-requires
 pow2-requires c κs = search needs
 
 mul-t-2 : tie.Need-mul-t-2
-mul-t-2 c = rw (size-is (c .before), c .pow2 .ensures) (omega (arith, product-small _ _ _ _ (c .before .before .before .pre .0) (c .before .before .before .pre .1)))
+mul-t-2 c =
+    let s = c .before .before .before in
+    rw (size-is (c .before), c .pow2 .ensures) (omega (arith, product-small _ _ _ _ (s .pre .0) (s .pre .1)))
 
 div-t : tie.Need-div-t
 div-t c = search needs
 
 with-sign-requires : tie.Need-with-sign-requires
 with-sign-requires c κs =
-    rw (size-is (c .before), c .pow2 .ensures) (magnitude-small _ _ _ _ (c .before .before .before .pre .0) (c .before .before .before .pre .1))
+    let s = c .before .before .before in
+    rw (size-is (c .before), c .pow2 .ensures) (magnitude-small _ _ _ _ (s .pre .0) (s .pre .1))
 
 returns : tie.Need-returns
 unfolding offsetOf magnitudeOf

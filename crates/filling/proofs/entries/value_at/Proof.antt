@@ -3,8 +3,6 @@ use mathlib.Core.Path.{ap, _∙_}
 use native.Mathlib.Omega.{arith}
 use lib.IntN.{natAbs}
 use Rattle.values.specs.declared.TableUnits.{TableUnits}
-use Rattle.values.specs.declared.rows.Row.{Row}
-use Rattle.values.specs.Floor.{floorValue}
 use Rattle.values.proofs.Bounds.{floor-small}
 use Rattle.design.proofs.LegalLaws.{limits}
 use Rattle.tables.specs.Entries.{valueAt}

@@ -1,0 +1,62 @@
+-- What the checks of the fill come to, and what its answer promises of the tables.
+use mathlib.Core.Path.{_≡_, refl, _∙_}
+use mathlib.Core.List.{List}
+use Prim.Native.Nat.{ℕ, _≤_, _<_}
+use lib.IntN.{ℤ}
+use lib.ListN.{length}
+use borrow.Author.Tests.{lt-ltb, le-ltb}
+use Rattle.refusal.specs.declared.Cause.{Cause}
+use Rattle.refusal.specs.declared.Verdict.{Verdict}
+use Rattle.refusal.specs.Numbers.{verdictNumber}
+use Rattle.refusal.specs.Checks.{verdict}
+use Rattle.refusal.proofs.Checks.{verdict-append}
+use Rattle.design.specs.declared.Design.{Design}
+use Rattle.design.specs.Budget.{budget, limit, withinLimit}
+use Rattle.tables.specs.Fill.{
+  setChecks,
+  admittedCheck,
+  fillVerdict,
+  initialEntries,
+  offsetEntries,
+  initialAfter,
+  offsetsAfter,
+}
+use Rattle.filling.specs.Writing.{over}
+use Rattle.filling.proofs.WritingLaws.{over-start}
+
+-- "fill 1 to 11"
+module _ (d : Design) (initial offsets : ℕ) where
+  pub refused-before : {cause : Cause} → verdict (setChecks d initial offsets) ≡ Verdict.Refused cause
+      → fillVerdict d initial offsets ≡ Verdict.Refused cause
+  unfolding fillVerdict
+  refused-before e = rw (verdict-append, e)
+
+  module _ (passed : verdict (setChecks d initial offsets) ≡ Verdict.Passed) where
+    pub not-admitted : limit d ≤ budget d → fillVerdict d initial offsets ≡ Verdict.Refused Cause.NotAdmitted
+    unfolding fillVerdict admittedCheck withinLimit
+    not-admitted h = rw (verdict-append, passed, le-ltb _ _ h)
+
+    pub admitted : budget d < limit d → fillVerdict d initial offsets ≡ Verdict.Passed
+    unfolding fillVerdict admittedCheck withinLimit
+    admitted h = rw (verdict-append, passed, lt-ltb _ _ h)
+
+module _ (d : Design) (initial : List ℕ) (offsets : List ℤ) where
+  -- what is promised of an answer and of what the tables are left with
+  abbrev pub Promised : Verdict → List ℕ → List ℤ → Type 0
+  Promised r initial' offsets' =
+      let answer = fillVerdict d (length initial) (length offsets) in
+      (r ≡ answer)
+      × ((verdictNumber r ≡ verdictNumber answer)
+      × ((initial' ≡ initialAfter d initial offsets) × (offsets' ≡ offsetsAfter d initial offsets)))
+
+  pub refuses : {cause : Cause} → fillVerdict d (length initial) (length offsets) ≡ Verdict.Refused cause
+      → Promised (Verdict.Refused cause) initial offsets
+  unfolding initialAfter offsetsAfter
+  refuses e = rw e (refl, (refl, (refl, refl)))
+
+  pub fills : {initial' : List ℕ} {offsets' : List ℤ} → fillVerdict d (length initial) (length offsets) ≡ Verdict.Passed
+      → initial' ≡ over initial 0 (initialEntries d) → offsets' ≡ over offsets 0 (offsetEntries d)
+      → Promised Verdict.Passed initial' offsets'
+  unfolding initialAfter offsetsAfter
+  fills e initial-is offsets-is =
+      rw e (refl, (refl, (initial-is ∙ over-start initial (initialEntries d), offsets-is ∙ over-start offsets (offsetEntries d))))
