@@ -16,7 +16,7 @@ product row w X n p d power-is den-is = simp (power-is, den-is)
 -- the product of this call
 made : (c : tie.After-den) → let a = c .before .before .args in
     c .before .power .result * c .den .result ≡ numberSide (a .row) (a .w) (a .x) (a .n)
-made c = product _ _ _ _ _ _ (c .before .power .ensures) (c .den .ensures)
+made c = let a = c .before .before .args in product (a .row) (a .w) (a .x) (a .n) _ _ (c .before .power .ensures) (c .den .ensures)
 
 power-requires : tie.Need-power-requires
 power-requires c κs = search needs

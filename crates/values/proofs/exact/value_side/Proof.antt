@@ -17,7 +17,7 @@ product row w s X u n units-is num-is = simp (units-is, num-is, pow-pow)
 -- the product of this call
 made : (c : tie.After-num) → let a = c .before .before .before .args in
     c .before .pow2 .result * c .num .result ≡ valueSide (a .row) (a .w) (a .s) (a .x)
-made c = product _ _ _ _ _ _ (c .before .pow2 .ensures) (c .num .ensures)
+made c = let a = c .before .before .before .args in product (a .row) (a .w) (a .s) (a .x) _ _ (c .before .pow2 .ensures) (c .num .ensures)
 
 mul-pow2 : tie.Need-mul-pow2
 mul-pow2 c = omega (arith, exponent-small _ _ _ _ (c .before .pre))
