@@ -34,7 +34,7 @@ use Rattle.demand3.specs.Demand.{margin, scaledWord, Word3, Batch3, Dema
 use Rattle.tables.proofs.SetLaws.{set-passed}
 use Rattle.demand3.proofs.Offsets.{added, taken}
 use Rattle.demand3.proofs.Totals.{Balance, total-balance, not-negative}
-use Rattle.demand3.proofs.ErrorBound.{offsetOf, sum-low, sum-high}
+use Rattle.demand3.proofs.ErrorBound.{offsetFrom, sum-low, sum-high}
 use Rattle.demand3.proofs.WordBound.{Near, GoodWord, sum-in-range, good-word}
 use Rattle.demand3.proofs.Said.{said}
 use Rattle.tables.proofs.EntryLaws as EntryLaws
@@ -65,10 +65,10 @@ module _ (d : Design) (admitted : Admitted d) (x : ℕ) (x-lt : x < 2 ^ d .w) wh
 
   -- what is added and what is taken, all together
   abbrev plus : ℕ
-  plus = initialAt d (initialWord d x) + sumBelow (d .m) (λ i. added (offsetOf d x i))
+  plus = initialAt d (initialWord d x) + sumBelow (d .m) (λ i. added (offsetFrom d x i))
 
   abbrev minus : ℕ
-  minus = sumBelow (d .m) (λ i. taken (offsetOf d x i))
+  minus = sumBelow (d .m) (λ i. taken (offsetFrom d x i))
 
   half-is : 2 ^ 18 * 2 ^ (d .g - 1) ≡ 2 ^ (d .g + 17)
   half-is = let e : 18 + (d .g - 1) ≡ d .g + 17 = omega (arith, l .widths .g-low) in sym (pow-add 2 18 (d .g - 1)) ∙ rw e refl
@@ -96,8 +96,8 @@ module _ (d : Design) (admitted : Admitted d) (x : ℕ) (x-lt : x < 2 ^ d .w) wh
       }
 
   module _ (initial : List ℕ) (offsets : List ℤ) (filled : Filled d initial offsets) where
-    offset-read : (i : ℕ) → i < d .m → offsetFor d offsets x i ≡ offsetOf d x i
-    unfolding offsetFor offsetOf
+    offset-read : (i : ℕ) → i < d .m → offsetFor d offsets x i ≡ offsetFrom d x i
+    unfolding offsetFor offsetFrom
     offset-read i h =
         filled .offset-entry i (segmentWord d i x) (offsetWord d i x) h (segment-word-lt d l i x h x-lt) (offset-word-lt d i x)
 
@@ -106,9 +106,9 @@ module _ (d : Design) (admitted : Admitted d) (x : ℕ) (x-lt : x < 2 ^ d .w) wh
     sum-is =
         rw (
           filled .initial-entry (initialWord d x) (initial-word-lt d l x x-lt),
-          signed-congruence (d .m) (offsetFor d offsets x) (offsetOf d x) offset-read,
+          signed-congruence (d .m) (offsetFor d offsets x) (offsetFrom d x) offset-read,
         )
-        (not-negative _ plus minus (total-balance (initialAt d (initialWord d x)) (d .m) (offsetOf d x)) less-taken)
+        (not-negative _ plus minus (total-balance (initialAt d (initialWord d x)) (d .m) (offsetFrom d x)) less-taken)
 
     pub word-is : wordAt d initial offsets x ≡ (plus - minus) / 2 ^ d .g
     unfolding wordAt wordOf

@@ -14,7 +14,7 @@ use borrow.Author.Tests.{ltb-true, ltb-false, lt-ltb, le-ltb}
 use Rattle.design.specs.declared.Design.{Design}
 use Rattle.design.specs.Cut.{bOf, row, position, segmentWord, offsetWord}
 use Rattle.design.proofs.CutLaws.{offset-word-lt}
-use Rattle.tables.specs.Entries.{hiAt, loAt, oddNumber, magnitude, sameSign, offsetAt}
+use Rattle.tables.specs.Entries.{hiAt, loAt, oddNumber, magnitude, sameSign, signed, offsetOf, offsetAt}
 use Rattle.demand3.proofs.Path.{behind, ahead, done, left, parts}
 
 abbrev pub added : ℤ → ℕ
@@ -68,10 +68,10 @@ stands false slopes gap done left apart =
 module _ (d : Design) (x i : ℕ) where
   pub offset-stands : let A = segmentWord d i x in
       Stands (offsetAt d i A (offsetWord d i x)) (hiAt d i A + loAt d i A) (done d x i) (left d x i)
-  unfolding offsetAt magnitude sameSign oddNumber behind ahead
+  unfolding offsetAt offsetOf signed magnitude sameSign oddNumber behind ahead
   offset-stands =
       let A = segmentWord d i x in
-      let j = oddNumber d i (offsetWord d i x) in
+      let j = oddNumber (bOf d i) (offsetWord d i x) in
       rw (mul-assoc (hiAt d i A + loAt d i A) (natAbs j) (2 ^ position d i))
       (stands (sameSign (row d .rising) j) (hiAt d i A + loAt d i A) (natAbs j * 2 ^ position d i) (done d x i) (left d x i)
       (turned (row d .rising) (nonNeg j) _ _ _ (odd-apart (offsetWord d i x) (2 ^ bOf d i) (2 ^ position d i) (offset-word-lt d i x))))
@@ -106,7 +106,7 @@ turn-sign false t = refl
 
 pub mirror : (d : Design) (i A B : ℕ) → 1 ≤ bOf d i → B < 2 ^ bOf d i
     → offsetAt d i A B +ℤ offsetAt d i A (2 ^ bOf d i - 1 - B) ≡ negsuc 0
-unfolding offsetAt magnitude sameSign oddNumber
+unfolding offsetAt offsetOf signed magnitude sameSign oddNumber
 mirror d i A B b-pos h =
     let b = bOf d i in
     let e : b - 1 + 1 ≡ b = omega arith in

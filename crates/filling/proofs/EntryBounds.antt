@@ -12,25 +12,24 @@ use Rattle.values.proofs.Bounds.{floor-small, start-input, ordered}
 use Rattle.design.specs.declared.Design.{Design}
 use Rattle.design.specs.Cut.{aOf, bOf, row, fractionBits, position}
 use Rattle.design.proofs.LegalLaws.{Limits, lawful, slopewise, bits-end}
-use Rattle.tables.specs.Entries.{hiAt, loAt}
-use Rattle.filling.specs.Offset.{oddOf}
+use Rattle.tables.specs.Entries.{hiAt, loAt, oddNumber}
 use Rattle.filling.specs.Inputs.{OffsetInput}
 use Rattle.filling.proofs.SignLaws.{difference-small}
 
 module _ (slopes b p B : ℕ) (fit : OffsetInput slopes b p) (B-lt : B < 2 ^ b) where
-  pub odd-small : natAbs (oddOf b B) ≤ 2 ^ b
-  unfolding oddOf
+  pub odd-small : natAbs (oddNumber b B) ≤ 2 ^ b
+  unfolding oddNumber
   odd-small = difference-small (2 * B + 1) (2 ^ b) (omega arith)
 
-  pub product-small : slopes * natAbs (oddOf b B) * 2 ^ p ≤ 2 ^ 39
+  pub product-small : slopes * natAbs (oddNumber b B) * 2 ^ p ≤ 2 ^ 39
   product-small =
       le-trans (mul-le-mul-right (2 ^ p) (mul-le-mul-left slopes odd-small)) (rw (mul-assoc, ← pow-add 2 b p) (fit .small))
 
-  pub half-product-small : slopes * natAbs (oddOf b B) ≤ 2 ^ 39
+  pub half-product-small : slopes * natAbs (oddNumber b B) ≤ 2 ^ 39
   half-product-small =
-      omega (arith, product-small, mul-le-mul-left (slopes * natAbs (oddOf b B)) (pow-pos p))
+      omega (arith, product-small, mul-le-mul-left (slopes * natAbs (oddNumber b B)) (pow-pos p))
 
-  pub magnitude-small : slopes * natAbs (oddOf b B) * 2 ^ p / 2 ^ 18 < 2 ^ 31
+  pub magnitude-small : slopes * natAbs (oddNumber b B) * 2 ^ p / 2 ^ 18 < 2 ^ 31
   magnitude-small = omega (arith, shr-mono 18 product-small)
 
 -- What the calls of the values ask, at a legal design

@@ -8,8 +8,7 @@ use borrow.Author.Tests.{ltb-true, ltb-false, le-leb}
 use lib.Dec.{ltb, T}
 use lib.IntN.{ℤ, pos, negsuc, subℕ, natAbs, _-ℤ_}
 use lib.Signed.{mag, leZ, nonNeg}
-use Rattle.tables.specs.Entries.{sameSign}
-use Rattle.filling.specs.Offset.{signed}
+use Rattle.tables.specs.Entries.{sameSign, signed}
 
 -- The difference of two numbers as a signed number
 pub minus-is : (a b : ℕ) → 0 < b → pos a -ℤ pos b ≡ subℕ a b

@@ -12,17 +12,17 @@ use lib.Pow.{high, low, pow-add}
 use Rattle.design.specs.declared.Design.{Design}
 use Rattle.design.specs.Cut.{aOf, bOf, row, sumBelow, position, offsetCount, tableStart, offsetTotal}
 use Rattle.design.proofs.Sums.{sum-mono, sum-step, sum-next}
-use Rattle.tables.specs.Entries.{oddNumber, magnitude, offsetAt, hiAt, loAt}
+use Rattle.tables.specs.Entries.{oddNumber, magnitude, offsetAt, hiAt, loAt, signed, offsetOf}
 use Rattle.tables.specs.Fill.{listBelow, tableEntries, offsetsBelow}
 use Rattle.tables.proofs.EntryLaws.{list-length, offsets-length}
-use Rattle.filling.specs.Offset.{oddOf, magnitudeOf, signed, offsetOf, segmentOffsets}
+use Rattle.filling.specs.Segment.{segmentOffsets}
 use Rattle.filling.specs.Writing.{over}
 use Rattle.filling.proofs.WritingLaws.{over-none, over-more, list-add, list-congruence}
 
 module _ (d : Design) (i : ℕ) where
   -- An offset by the numbers that it is made of
   offset-parts : (A B : ℕ) → offsetAt d i A B ≡ offsetOf (hiAt d i A + loAt d i A) (bOf d i) (position d i) (row d .rising) B
-  unfolding offsetAt oddNumber magnitude offsetOf oddOf magnitudeOf signed
+  unfolding offsetAt
   offset-parts A B = refl
 
   -- The offsets of the first n segments

@@ -1,4 +1,4 @@
 -- What a reader has to believe of the calls that `fill` is made of.
-pub mod Offset
+pub mod Segment
 pub mod Writing
 pub mod Inputs

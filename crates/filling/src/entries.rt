@@ -5,8 +5,7 @@ ghost use lib.IntN.{natAbs};
 ghost use Rattle.values.specs.Inputs.{InRange};
 ghost use Rattle.design.specs.Cut.{aOf, initialCount};
 ghost use Rattle.design.specs.Legal.{Legal};
-ghost use Rattle.tables.specs.Entries.{valueAt, initialAt, hiAt, loAt};
-ghost use Rattle.filling.specs.Offset.{oddOf, signed, offsetOf};
+ghost use Rattle.tables.specs.Entries.{valueAt, initialAt, hiAt, loAt, oddNumber, signed, offsetOf};
 ghost use Rattle.filling.specs.Inputs.{OffsetInput};
 use design::Design;
 use design::legal::pair_at;
@@ -56,7 +55,7 @@ pub fn slope_sum(d: Design, i: u32, segment: u64) -> u64
 // j, an odd number of either sign.
 fn odd_number(b: u32, word: u64) -> i64
     requires { ⌜ (b < 32) × (word < 2 ^ b) ⌝ }
-    ensures { λ r. ⌜ r ≡ oddOf b word ⌝ }
+    ensures { λ r. ⌜ r ≡ oddNumber b word ⌝ }
 {
     (2 * word + 1) as i64 - pow2(b) as i64
 }

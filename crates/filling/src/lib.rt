@@ -8,7 +8,7 @@ ghost use Rattle.design.specs.Legal.{Legal};
 ghost use Rattle.tables.specs.Fill.{fillVerdict, initialEntries, tableEntries, offsetEntries, initialAfter, offsetsAfter};
 ghost use Rattle.filling.specs.Writing.{over};
 ghost use Rattle.filling.specs.Inputs.{OffsetInput, TableInput};
-ghost use Rattle.filling.specs.Offset.{segmentOffsets};
+ghost use Rattle.filling.specs.Segment.{segmentOffsets};
 
 pub mod entries;
 

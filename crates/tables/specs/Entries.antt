@@ -28,17 +28,25 @@ unfoldable pub loAt : Design → ℕ → ℕ → ℕ
 loAt d i A = lo (row d) (d .w) (fractionBits d) (segmentEnd (d .w) (aOf d i) A)
 
 -- "j = 2·B_i + 1 - 2^(b_i), an odd number of either sign"
-unfoldable pub oddNumber : Design → ℕ → ℕ → ℤ
-oddNumber d i B = subℕ (2 * B + 1) (2 ^ bOf d i)
+unfoldable pub oddNumber : ℕ → ℕ → ℤ
+oddNumber b B = subℕ (2 * B + 1) (2 ^ b)
 
--- "T = floor((Hi+Lo)·|j|·2^(p_i) / 2^18)"
-unfoldable pub magnitude : Design → ℕ → ℕ → ℕ → ℕ
-magnitude d i A B = (hiAt d i A + loAt d i A) * natAbs (oddNumber d i B) * 2 ^ position d i / 2 ^ 18
+-- "T = floor((Hi+Lo)·|j|·2^(p_i) / 2^18)", `slopes` being Hi + Lo
+unfoldable pub magnitude : ℕ → ℕ → ℤ → ℕ
+magnitude slopes p j = slopes * natAbs j * 2 ^ p / 2 ^ 18
 
 -- "where j has the function's sign"; j is odd, since b_i is not 0, so it is never 0
 unfoldable pub sameSign : Bool → ℤ → Bool
 sameSign rising j = cond rising (nonNeg j) (not (nonNeg j))
 
 -- "The entry is T where j has the function's sign, and -1 - T where it has the other." (`negsuc T` is -1 - T.)
+unfoldable pub signed : Bool → ℤ → ℕ → ℤ
+signed rising j T = cond (sameSign rising j) (pos T) (negsuc T)
+
+-- The offset of B, by Hi + Lo of its segment, b and p of its table and the function's sign
+unfoldable pub offsetOf : ℕ → ℕ → ℕ → Bool → ℕ → ℤ
+offsetOf slopes b p rising B = signed rising (oddNumber b B) (magnitude slopes p (oddNumber b B))
+
+-- The offset of A_i = A and B_i = B in table i
 unfoldable pub offsetAt : Design → ℕ → ℕ → ℕ → ℤ
-offsetAt d i A B = cond (sameSign (row d .rising) (oddNumber d i B)) (pos (magnitude d i A B)) (negsuc (magnitude d i A B))
+offsetAt d i A B = offsetOf (hiAt d i A + loAt d i A) (bOf d i) (position d i) (row d .rising) B

@@ -8,7 +8,8 @@ use lib.ListN.{length, length-set}
 use mir.Syntax.{w32}
 use mir.ValLaws.{toZ-ofZ}
 use Rattle.tables.specs.Fill.{listBelow}
-use Rattle.filling.specs.Offset.{offsetOf, segmentOffsets}
+use Rattle.filling.specs.Segment.{segmentOffsets}
+use Rattle.tables.specs.Entries.{offsetOf}
 use Rattle.filling.specs.Writing.{over}
 use Rattle.filling.proofs.WritingLaws.{run-none, run-one}
 use Rattle.filling.proofs.fill_segment.Statement.{statement}

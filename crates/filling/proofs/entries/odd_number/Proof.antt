@@ -8,7 +8,7 @@ use lib.Pow.{pow-mono, pow-pos}
 use mir.Syntax.{w64}
 use mir.Val.{SFits, toZ, ofZ}
 use mir.ValLaws.{toZ-pos, toZ-ofZ}
-use Rattle.filling.specs.Offset.{oddOf}
+use Rattle.tables.specs.Entries.{oddNumber}
 use Rattle.filling.proofs.SignLaws.{minus-is, difference-mag}
 use Rattle.filling.proofs.entries.odd_number.Statement.{statement}
 use Rattle.filling.proofs.entries.odd_number.Tie as tie
@@ -49,7 +49,7 @@ sub-result : tie.Need-sub-result
 sub-result c = difference-fits _ _ (cast-result (c .before)) (cast-result-2 c) (one-pos c)
 
 returns : tie.Need-returns
-unfolding oddOf
+unfolding oddNumber
 returns c =
     difference-is _ _ (cast-result (c .before)) (cast-result-2 c) (one-pos c) ∙ ap (subℕ (2 * c .before .args .word + 1)) (c .pow2 .ensures)
 

@@ -7,7 +7,7 @@ use lib.Pow.{pow-mono}
 use mir.Syntax.{w32, w64}
 use mir.Val.{toZ, ofZ}
 use mir.ValLaws.{toZ-ofZ}
-use Rattle.filling.specs.Offset.{oddOf, magnitudeOf, offsetOf}
+use Rattle.tables.specs.Entries.{oddNumber, magnitude, offsetOf}
 use Rattle.filling.proofs.EntryBounds.{odd-small, half-product-small, product-small, magnitude-small}
 use Rattle.filling.proofs.entries.offset_of.Statement.{statement}
 use Rattle.filling.proofs.entries.offset_of.Tie as tie
@@ -16,7 +16,7 @@ odd-number-requires : tie.Need-odd-number-requires
 odd-number-requires c κs = search needs
 
 -- j, as its bits are read
-odd-is : (c : tie.After-odd-number) → toZ w64 (ofZ w64 (c .odd-number .result)) ≡ oddOf (c .before .args .b) (c .before .args .word)
+odd-is : (c : tie.After-odd-number) → toZ w64 (ofZ w64 (c .odd-number .result)) ≡ oddNumber (c .before .args .b) (c .before .args .word)
 odd-is c = toZ-ofZ w64 _ (record { sfits = c .odd-number .ok }) ∙ c .odd-number .ensures
 
 size-requires : tie.Need-size-requires
@@ -26,7 +26,7 @@ size-requires c κs =
     rw (odd-is c) (omega (arith, small, pow-mono {i = a .b} {j = 16} (omega arith)))
 
 -- |j|
-size-is : (c : tie.After-size) → c .size .result ≡ natAbs (oddOf (c .before .before .args .b) (c .before .before .args .word))
+size-is : (c : tie.After-size) → c .size .result ≡ natAbs (oddNumber (c .before .before .args .b) (c .before .before .args .word))
 size-is c = c .size .ensures ∙ rw (odd-is (c .before))
 
 mul-t : tie.Need-mul-t
@@ -49,7 +49,7 @@ with-sign-requires c κs =
     rw (size-is (c .before), c .pow2 .ensures) (magnitude-small _ _ _ _ (s .pre .0) (s .pre .1))
 
 returns : tie.Need-returns
-unfolding offsetOf magnitudeOf
+unfolding offsetOf magnitude
 returns c =
     let b = c .before in
     toZ-ofZ w32 _ (record { sfits = c .with-sign .ok }) ∙ c .with-sign .ensures

@@ -8,7 +8,7 @@ use lib.Signed.{leZ}
 use mir.Syntax.{w32, w64}
 use mir.Val.{SFits, toZ, ofZ}
 use mir.ValLaws.{toZ-pos, toZ-ofZ}
-use Rattle.filling.specs.Offset.{signed}
+use Rattle.tables.specs.Entries.{signed}
 use Rattle.filling.proofs.SignLaws.{minus-one-minus, signed-by}
 use Rattle.filling.proofs.entries.with_sign.Statement.{statement}
 use Rattle.filling.proofs.entries.with_sign.Tie as tie
