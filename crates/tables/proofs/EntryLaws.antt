@@ -1,21 +1,21 @@
 -- The entries that the fill writes: how many there are, which stands where, and that an accepted fill leaves filled tables.
-use mathlib.Core.Path.{_≡_, refl, _∙_}
+use mathlib.Core.Path.{_≡_, refl, sym, _∙_}
 use mathlib.Core.List.{List, [], _∷_, _++_}
 use Prim.Native.Nat.{ℕ, zero, suc, _+_, _*_, _^_, _≤_, _<_}
 use native.Mathlib.Nat.{not-suc-le-zero}
 use native.Mathlib.Numerals.{add-one}
 use native.Mathlib.Omega.{arith}
 use lib.Arith.{digits-lt}
-use lib.ListN.{length, getD, drop, length-append, length-drop, List·getD-append}
+use lib.ListN.{length, getD, take, drop, length-append, length-drop, List·getD-append}
 use lib.Pow.{high, low, pow-add}
-use lib.Seq.{getD-at, getD-append-add}
+use lib.Seq.{getD-at, getD-append-add, getD-take, length-take-le, ext-getD}
 use lib.IntN.{ℤ, pos}
 use Rattle.refusal.specs.declared.Verdict.{Verdict}
 use Rattle.refusal.proofs.Checks.{passed-append}
 use Rattle.design.specs.declared.Design.{Design}
 use Rattle.design.specs.Cut.{bOf, sumBelow, initialCount, offsetCount, tableStart, offsetTotal, offsetPlace}
 use Rattle.design.proofs.Sums.{below-suc}
-use Rattle.design.proofs.CutLaws.{Entry, place-below}
+use Rattle.design.proofs.CutLaws.{Entry, EntryAt, place-below, entry-at}
 use Rattle.tables.specs.Inputs.{Usable}
 use Rattle.tables.specs.Entries.{initialAt, offsetAt}
 use Rattle.tables.specs.Fill.{
@@ -111,3 +111,23 @@ module _ (d : Design) (initial : List ℕ) (offsets : List ℤ) where
             List·getD-append (offsetsBelow d (d .m)) _ (pos 0) _ (rw (offsets-length d (d .m)) (place-below d (d .m) i A B h entry))
             ∙ offset-at d (d .m) i A B (pos 0) h entry;
       })
+
+-- `Filled` says that the tables begin with the entries the fill writes: as lists,
+module _ (d : Design) (initial : List ℕ) (offsets : List ℤ) where
+  pub filled-begins : Filled d initial offsets
+      → (take (initialCount d) initial ≡ initialEntries d) × (take (offsetTotal d) offsets ≡ offsetEntries d)
+  unfolding offsetEntries offsetTotal
+  filled-begins f = (
+    ext-getD 0 _ _ (length-take-le _ initial (f .initial-long) ∙ sym (initial-length d))
+        (λ A h.
+        let A-lt : A < initialCount d = omega (arith, length-take-le (initialCount d) initial (f .initial-long)) in
+        getD-take (initialCount d) initial A 0 A-lt ∙ f .initial-entry A A-lt ∙ sym (initial-at d A A-lt)),
+    ext-getD (pos 0) _ _ (length-take-le _ offsets (f .offsets-long) ∙ sym (offsets-length d (d .m)))
+        (λ p h.
+        let p-lt : p < tableStart d (d .m) = omega (arith, length-take-le (tableStart d (d .m)) offsets (f .offsets-long)) in
+        let at = entry-at d (d .m) p p-lt in
+        getD-take (tableStart d (d .m)) offsets p (pos 0) p-lt
+        ∙ rw (← at .place)
+        (f .offset-entry (at .i) (at .A) (at .B) (at .i-lt) (at .entry .A-lt) (at .entry .B-lt)
+        ∙ sym (offset-at d (d .m) (at .i) (at .A) (at .B) (pos 0) (at .i-lt) (at .entry)))),
+  )
