@@ -1,10 +1,11 @@
 -- Pairs beyond m are not read: two designs that differ only there get equal answers.
-use mathlib.Core.Path.{_≡_, sym, _∙_, fun-ext}
+use mathlib.Core.Path.{_≡_, sym, ap, _∙_, fun-ext}
 use mathlib.Core.List.{List}
 use Prim.Native.Nat.{ℕ, _<_}
 use native.Mathlib.Omega.{arith}
 use lib.ListN.{length, getD, take, length-take}
 use lib.Seq.{ext-getD, getD-take}
+use Rattle.refusal.specs.Checks.{verdict}
 use Rattle.design.specs.declared.Pair.{Pair}
 use Rattle.design.specs.declared.Design.{Design}
 use Rattle.design.specs.declared.legal.TableRule.{TableRule}
@@ -65,7 +66,7 @@ module _ (d e : Design) (s : Same d e) where
   b-same : bOf d ≡ bOf e
   b-same = fun-ext (λ i. cc (pair-same i))
 
-  count-same : offsetCount d ≡ offsetCount e
+  pub count-same : offsetCount d ≡ offsetCount e
   unfolding offsetCount
   count-same = fun-ext (λ i. cc (pair-same i))
 
@@ -119,9 +120,13 @@ module _ (d e : Design) (s : Same d e) where
   offset-total-same = cc (table-start-same (d .m))
 
   -- what turns a design down,
+  pub checks-same : designChecks d ≡ designChecks e
+  unfolding designChecks cutChecks
+  checks-same = cc (breaks-same TableRule.SegmentBits, breaks-same TableRule.OffsetBits, position-same (d .m))
+
   pub verdict-same : designVerdict d ≡ designVerdict e
-  unfolding designVerdict designChecks cutChecks
-  verdict-same = cc (breaks-same TableRule.SegmentBits, breaks-same TableRule.OffsetBits, position-same (d .m))
+  unfolding designVerdict
+  verdict-same = ap verdict checks-same
 
   -- the budget
   pub budget-same : budget d ≡ budget e

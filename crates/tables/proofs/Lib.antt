@@ -8,3 +8,4 @@ pub mod WordLaws
 pub mod BatchLaws
 pub mod Opened
 pub mod BatchNumber
+pub mod Unread
