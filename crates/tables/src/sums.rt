@@ -21,7 +21,8 @@ fn segment_word(d: Design, i: u32, x: u32) -> u64
     ensures { λ r. ⌜ r ≡ segmentWord d i x ⌝ }
 {
     let pair = pair_at(d, i);
-    (x >> (d.w - pair.a)) as u64
+    let below = d.w - pair.a;
+    (x >> below) as u64
 }
 
 // B_i, the b_i bits of x that begin at p_i.
@@ -80,6 +81,7 @@ pub fn word_of(d: Design, sum: TableUnits) -> OutputUnits
     requires { ⌜ sumOutside d (sum .0) ≡ false ⌝ }
     ensures { λ r. ⌜ r ≡ record { 0 = wordOf d (sum .0) } ⌝ }
 {
-    let word = (sum.count() >> d.g) as u32;
+    let g = d.g;
+    let word = (sum.count() >> g) as u32;
     OutputUnits(word)
 }

@@ -183,7 +183,7 @@ add-position c =
     let b = c .before .before .before .before .before .before in
     let l = limits _ (b .before .before .before .before .before .pre .0 .legal) in
     rw (c .before .before .before .pair-at .ensures, b .before .loop .inv .place)
-    (omega (arith, bits-end _ l _ (more b), l .widths .w-high))
+    (omega (arith, bits-end _ l _ (more b), l .table _ (more b), l .widths .w-high))
 
 add-i : tie.Need-add-i Inv-loop μ-loop
 add-i c =
