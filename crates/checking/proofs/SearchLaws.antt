@@ -2,10 +2,10 @@
 use mathlib.Core.Path.{_≡_, refl, sym, _∙_}
 use mathlib.Core.Bool.{Bool, true, false}
 use Prim.Native.Nat.{ℕ, _+_, _-_, _*_, _^_, _≤_, _<_}
-use native.Mathlib.Nat.{add-sub-of-le, le-of-lt, mul-le-mul-right, not-suc-le-zero, one-le-mul}
+use native.Mathlib.Nat.{add-sub-of-le, le-of-lt, mul-le-mul-right, not-suc-le-zero}
 use native.Mathlib.Numerals.{add-one}
 use native.Mathlib.Omega.{arith}
-use lib.Pow.{pow-add, pow-mono, pow-pos}
+use lib.Pow.{pow-add, pow-mono}
 use Rattle.design.specs.declared.Design.{Design}
 use Rattle.design.proofs.LegalLaws.{Limits}
 use Rattle.design.proofs.Sums.{below-suc}

@@ -72,6 +72,7 @@ fn search(d: Design, initial: &[u32], offsets: &[i32]) -> Checked
     answer
 }
 
+// Refusals 1 to 10 first, then the search.
 pub fn check(d: Design, initial: &[u32], offsets: &[i32]) -> Checked
     ensures answer { λ r. ⌜ r ≡ checkAnswer d (now (initial .entry)) (now (offsets .entry)) ⌝ }
     ensures number { λ r. ⌜ refusalOf r ≡ verdictNumber (checkVerdict d (now (initial .entry)) (now (offsets .entry))) ⌝ }

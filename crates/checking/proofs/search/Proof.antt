@@ -1,13 +1,26 @@
 -- `checking::search` meets its contract: up to here every word is faithful, over whole intervals and then within one.
-use mathlib.Core.Path.{_≡_, sym, _∙_}
+use mathlib.Core.Path.{_≡_}
 use Prim.Native.Nat.{_+_, _-_, _*_, _^_, _≤_, _<_}
 use native.Mathlib.Nat.{zero-mul, add-zero, add-assoc}
 use native.Mathlib.Omega.{arith}
 use borrow.Author.Tests.{not-true, not-false}
 use Rattle.refusal.proofs.Checks.{tested}
-use Rattle.design.proofs.LegalLaws.{Limits, limits}
+use Rattle.design.proofs.LegalLaws.{limits}
 use Rattle.tables.specs.Check.{faithfulAt}
-use Rattle.checking.proofs.SearchLaws.{Searched, searched-none, searched-more, searched-all, searched-found, next-interval, Counts, intervals-fit, rests-fit, counts, start-inside, word-inside}
+use Rattle.checking.proofs.SearchLaws.{
+  Searched,
+  searched-none,
+  searched-more,
+  searched-all,
+  searched-found,
+  next-interval,
+  Counts,
+  intervals-fit,
+  rests-fit,
+  counts,
+  start-inside,
+  word-inside,
+}
 use Rattle.checking.proofs.search.Statement.{statement}
 use Rattle.checking.proofs.search.Tie as tie
 

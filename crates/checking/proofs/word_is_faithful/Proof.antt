@@ -1,11 +1,11 @@
 -- `checking::word_is_faithful` meets its contract: a sum out of range settles it, and else the word, of at most 18 bits, is tried.
-use mathlib.Core.Path.{_≡_, ap, sym, _∙_}
+use mathlib.Core.Path.{_≡_, _∙_}
 use mathlib.Core.Bool.{Bool, true, false}
 use mathlib.Core.List.{List}
-use Prim.Native.Nat.{ℕ, _+_, _*_, _^_, _<_, _≤_}
+use Prim.Native.Nat.{ℕ, _+_, _^_, _<_, _≤_}
 use native.Mathlib.Nat.{lt-of-lt-of-le}
 use native.Mathlib.Omega.{arith}
-use lib.IntN.{ℤ, natAbs}
+use lib.IntN.{ℤ}
 use lib.Pow.{pow-mono, shr-lt}
 use borrow.Author.Needs.{needs}
 use Rattle.refusal.proofs.Checks.{tested}
