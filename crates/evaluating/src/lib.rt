@@ -4,7 +4,7 @@ ghost use mathlib.Core.List.{_++_, map};
 ghost use Prim.Native.Nat.{ℕ, _<_, _≤_};
 ghost use lib.ListN.{length, drop};
 ghost use Rattle.refusal.specs.Numbers.{verdictNumber};
-ghost use Rattle.refusal.specs.Checks as Checks;
+ghost use Rattle.refusal.specs.Checks.{verdict};
 ghost use Rattle.tables.specs.Inputs.{Usable};
 ghost use Rattle.tables.specs.Sum.{wordAt};
 ghost use Rattle.tables.specs.Evaluate.{wordChecks, evaluated, evaluateVerdict, evaluateAnswer};
@@ -26,7 +26,7 @@ use values::floor::pow2;
 // Refusals 12 and 13 of a word, or the word itself: one sum, m + 1 lookups.
 fn word_answer(d: Design, initial: &[u32], offsets: &[i32], x: u32) -> Evaluated
     requires { ⌜ Usable d (length (now initial)) (length (now offsets)) ⌝ }
-    ensures { λ r. ⌜ r ≡ evaluated (Checks.verdict (wordChecks d (now (initial .entry)) (now (offsets .entry)) x))
+    ensures { λ r. ⌜ r ≡ evaluated (verdict (wordChecks d (now (initial .entry)) (now (offsets .entry)) x))
         (wordAt d (now (initial .entry)) (now (offsets .entry)) x) ⌝ }
 {
     if pow2(d.w) <= x as u64 {
@@ -80,7 +80,7 @@ fn words_verdict(d: Design, initial: &[u32], offsets: &[i32], words: &[u32]) -> 
 // A word that is known to pass.
 fn word(d: Design, initial: &[u32], offsets: &[i32], x: u32) -> OutputUnits
     requires { ⌜ Usable d (length (now initial)) (length (now offsets)) ⌝ }
-    requires { ⌜ Checks.verdict (wordChecks d (now initial) (now offsets) x) ≡ Verdict.Passed ⌝ }
+    requires { ⌜ verdict (wordChecks d (now initial) (now offsets) x) ≡ Verdict.Passed ⌝ }
     ensures { λ r. ⌜ r ≡ record { 0 = wordAt d (now (initial .entry)) (now (offsets .entry)) x } ⌝ }
 {
     word_of(d, sum_of(d, initial, offsets, x))
