@@ -31,8 +31,8 @@ fn fill_initial(d: Design, initial: &mut [u32])
     requires { ⌜ initialCount d ≤ length (now initial) ⌝ }
     ensures { λ _. ⌜ now (initial .exit) ≡ over (now (initial .entry)) 0 (initialEntries d) ⌝ }
 {
-    let count = pow2(d.alpha);
-    for word in 0..count {
+    let words = pow2(d.alpha);
+    for word in 0..words {
         initial[word as usize] = initial_at(d, word);
     }
 }
@@ -72,9 +72,9 @@ fn fill_table(d: Design, i: u32, p: u32, start: usize, offsets: &mut [i32]) -> u
 {
     let pair = pair_at(d, i);
     let rising = row_of(d.kind).rising;
-    let count = pow2(pair.a);
+    let segments = pow2(pair.a);
     let mut at = start;
-    for segment in 0..count {
+    for segment in 0..segments {
         let slopes = slope_sum(d, i, segment);
         at = fill_segment(slopes, pair.b, p, rising, at, offsets);
     }

@@ -22,10 +22,10 @@ record Inv (d : Design) (before table : List ℕ) (end n : ℕ) : Type 0 where
   within : n ≤ end
 
 abbrev Inv-loop : tie.InvT-loop
-Inv-loop d initial₀ count word₀ initial word = Inv d initial₀ initial count word
+Inv-loop d initial₀ words word₀ initial word = Inv d initial₀ initial words word
 
 abbrev μ-loop : tie.MeasureT-loop
-μ-loop d initial₀ count word₀ initial word = count - word
+μ-loop d initial₀ words word₀ initial word = words - word
 
 pow2-requires : tie.Need-pow2-requires Inv-loop μ-loop
 pow2-requires c κs = omega (arith, limits _ (c .before .pre .0))

@@ -14,11 +14,11 @@ use Rattle.filling.proofs.fill_table.Statement.{statement}
 use Rattle.filling.proofs.fill_table.Tie as tie
 
 abbrev Inv-loop : tie.InvT-loop
-Inv-loop d i p start offsets₀ pair rising count at₀ segment₀ offsets at segment =
-    Segments d i offsets₀ offsets at segment × (segment ≤ count)
+Inv-loop d i p start offsets₀ pair rising segments at₀ segment₀ offsets at segment =
+    Segments d i offsets₀ offsets at segment × (segment ≤ segments)
 
 abbrev μ-loop : tie.MeasureT-loop
-μ-loop d i p start offsets₀ pair rising count at₀ segment₀ offsets at segment = count - segment
+μ-loop d i p start offsets₀ pair rising segments at₀ segment₀ offsets at segment = segments - segment
 
 pair-at-requires : tie.Need-pair-at-requires Inv-loop μ-loop
 pair-at-requires c κs = (c .pre .0 .i-lt, limits _ (c .pre .0 .legal) .m-high)
