@@ -21,16 +21,19 @@ module _ (slopes b p B : ℕ) (fit : OffsetInput slopes b p) (B-lt : B < 2 ^ b) 
   unfolding oddNumber
   odd-small = difference-small (2 * B + 1) (2 ^ b) (omega arith)
 
-  pub product-small : slopes * natAbs (oddNumber b B) * 2 ^ p ≤ 2 ^ 39
-  product-small =
-      le-trans (mul-le-mul-right (2 ^ p) (mul-le-mul-left slopes odd-small)) (rw (mul-assoc, ← pow-add 2 b p) (fit .small))
+  whole : slopes * natAbs (oddNumber b B) * 2 ^ p ≤ 2 ^ 39
+  whole = le-trans (mul-le-mul-right (2 ^ p) (mul-le-mul-left slopes odd-small)) (rw (mul-assoc, ← pow-add 2 b p) (fit .small))
 
+  -- the product with |j|, alone and with 2^p or less
   pub half-product-small : slopes * natAbs (oddNumber b B) ≤ 2 ^ 39
-  half-product-small =
-      omega (arith, product-small, mul-le-mul-left (slopes * natAbs (oddNumber b B)) (pow-pos p))
+  half-product-small = omega (arith, whole, mul-le-mul-left (slopes * natAbs (oddNumber b B)) (pow-pos p))
 
-  pub magnitude-small : slopes * natAbs (oddNumber b B) * 2 ^ p / 2 ^ 18 < 2 ^ 31
-  magnitude-small = omega (arith, shr-mono 18 product-small)
+  module _ (unit : ℕ) (unit-le : unit ≤ 2 ^ p) where
+    pub product-small : slopes * natAbs (oddNumber b B) * unit ≤ 2 ^ 39
+    product-small = le-trans (mul-le-mul-left (slopes * natAbs (oddNumber b B)) unit-le) whole
+
+    pub magnitude-small : slopes * natAbs (oddNumber b B) * unit / 2 ^ 18 < 2 ^ 31
+    magnitude-small = omega (arith, shr-mono 18 product-small)
 
 -- What the calls of the values ask, at a legal design
 module _ (d : Design) (l : Limits d) where

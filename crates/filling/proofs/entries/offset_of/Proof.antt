@@ -1,5 +1,6 @@
 -- `filling::entries::offset_of` meets its contract: |j| is at most 2^b, so the product is at most 2^39 and T below 2^31.
 use mathlib.Core.Path.{_≡_, _∙_}
+use Prim.Native.Nat.{_^_, _≤_}
 use native.Mathlib.Omega.{arith}
 use borrow.Author.Needs.{needs}
 use lib.IntN.{natAbs}
@@ -35,10 +36,13 @@ mul-t c = rw (size-is c) (omega (arith, half-product-small _ _ _ _ (c .before .b
 pow2-requires : tie.Need-pow2-requires
 pow2-requires c κs = search needs
 
+unit-le : (c : tie.After-pow2) → c .pow2 .result ≤ 2 ^ c .before .before .before .args .p
+unit-le c = rw (c .pow2 .ensures) (pow-mono {j = c .before .before .before .args .p} (omega arith))
+
 mul-t-2 : tie.Need-mul-t-2
 mul-t-2 c =
     let s = c .before .before .before in
-    rw (size-is (c .before), c .pow2 .ensures) (omega (arith, product-small _ _ _ _ (s .pre .0) (s .pre .1)))
+    rw (size-is (c .before)) (omega (arith, product-small _ _ _ _ (s .pre .0) (s .pre .1) _ (unit-le c)))
 
 div-t : tie.Need-div-t
 div-t c = search needs
@@ -46,7 +50,7 @@ div-t c = search needs
 with-sign-requires : tie.Need-with-sign-requires
 with-sign-requires c κs =
     let s = c .before .before .before in
-    rw (size-is (c .before), c .pow2 .ensures) (magnitude-small _ _ _ _ (s .pre .0) (s .pre .1))
+    rw (size-is (c .before)) (magnitude-small _ _ _ _ (s .pre .0) (s .pre .1) _ (unit-le c))
 
 returns : tie.Need-returns
 unfolding offsetOf magnitude

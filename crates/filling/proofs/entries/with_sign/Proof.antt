@@ -28,12 +28,6 @@ module _ (n : ℕ) (small : n < 2 ^ 31) where
       → cond answer (pos n) (negsuc n) ≡ signed rising j n
   by-test rising j fits answer e = sym (signed-by rising j n answer (rw (toZ-ofZ w64 j fits) at e))
 
-cast-count : tie.Need-cast-count
-cast-count c = search needs
-
-sub-result : tie.Need-sub-result
-sub-result c = other-fits _ (c .before .pre)
-
 returns : tie.Need-returns
 returns c =
     let s = c .before in
@@ -43,6 +37,12 @@ returns-2 : tie.Need-returns-2
 returns-2 c =
     let s = c .before in
     other-is _ (s .pre) ∙ by-test _ (s .pre) _ _ (s .fits .j) false (c .if1 .left)
+
+cast-count : tie.Need-cast-count
+cast-count c = search needs
+
+sub-result : tie.Need-sub-result
+sub-result c = other-fits _ (c .before .pre)
 
 pub with-sign-spec : {M : Type 1} → statement M
 with-sign-spec = tie.close (tie.spec cast-count sub-result returns returns-2)
