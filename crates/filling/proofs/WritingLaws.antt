@@ -67,7 +67,7 @@ module _ {A : Type 0} (f : ℕ → A) where
   list-congruence g (suc n) same =
       ap₂ (λ (l : List A) (v : A). l ++ (v ∷ [])) (list-congruence g n (λ j h. same j (le-step h))) (same n (le-refl _))
 
--- The list of f over the numbers below n, written from a place on: not yet, its length, and one entry more
+-- The list of f over the numbers below n, written from a place on: not yet, and one entry more
 module _ {A : Type 0} (f : ℕ → A) (table : List A) (start : ℕ) where
   pub run-none : table ≡ over table start (listBelow 0 f)
   unfolding listBelow
@@ -76,9 +76,6 @@ module _ {A : Type 0} (f : ℕ → A) (table : List A) (start : ℕ) where
   module _ (n : ℕ) where
     run-room : start + n ≤ length table → start + length (listBelow n f) ≤ length table
     run-room h = rw (list-length f n) h
-
-    pub run-length : start + n ≤ length table → length (over table start (listBelow n f)) ≡ length table
-    run-length h = over-length table start (listBelow n f) (run-room h)
 
     pub run-one : (at : ℕ) (v : A) {now : List A} → now ≡ over table start (listBelow n f) → at ≡ start + n → v ≡ f n → at < length table
         → set now at v ≡ over table start (listBelow (n + 1) f)

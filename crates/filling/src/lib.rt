@@ -99,7 +99,8 @@ fn fill_offsets(d: Design, offsets: &mut [i32])
 // Fills both tables for an admitted design (document 01, "Filling"). Nothing is written before every check has passed.
 pub fn fill(d: Design, initial: &mut [u32], offsets: &mut [i32]) -> Verdict
     ensures answer { λ r. ⌜ r ≡ fillVerdict d (length (now (initial .entry))) (length (now (offsets .entry))) ⌝ }
-    ensures number { λ r. ⌜ verdictNumber r ≡ verdictNumber (fillVerdict d (length (now (initial .entry))) (length (now (offsets .entry)))) ⌝ }
+    ensures number { λ r.
+        ⌜ verdictNumber r ≡ verdictNumber (fillVerdict d (length (now (initial .entry))) (length (now (offsets .entry)))) ⌝ }
     ensures initial_table { λ r. ⌜ now (initial .exit) ≡ initialAfter d (now (initial .entry)) (now (offsets .entry)) ⌝ }
     ensures offset_tables { λ r. ⌜ now (offsets .exit) ≡ offsetsAfter d (now (initial .entry)) (now (offsets .entry)) ⌝ }
 {

@@ -4,7 +4,7 @@ use Prim.Native.Nat.{_^_, _≤_}
 use native.Mathlib.Omega.{arith}
 use borrow.Author.Needs.{needs}
 use lib.IntN.{natAbs}
-use lib.Pow.{pow-mono}
+use lib.Pow.{pow-mono, pow-pos}
 use mir.Syntax.{w32, w64}
 use mir.Val.{toZ, ofZ}
 use mir.ValLaws.{toZ-ofZ}
@@ -37,7 +37,7 @@ pow2-requires : tie.Need-pow2-requires
 pow2-requires c κs = search needs
 
 unit-le : (c : tie.After-pow2) → c .pow2 .result ≤ 2 ^ c .before .before .before .args .p
-unit-le c = rw (c .pow2 .ensures) (pow-mono {j = c .before .before .before .args .p} (omega arith))
+unit-le c = omega (arith, pow-pos (c .before .before .before .args .p))
 
 mul-t-2 : tie.Need-mul-t-2
 mul-t-2 c =
