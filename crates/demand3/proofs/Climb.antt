@@ -1,8 +1,8 @@
 -- Many steps on one interval, a table at a time, each table with its own slope.
-use mathlib.Core.Path.{_≡_, refl, sym}
+use mathlib.Core.Path.{_≡_, refl}
 use mathlib.Core.Bool.{Bool, true, false}
 use Prim.Native.Nat.{ℕ, zero, suc, _+_, _*_, _≤_, _<_}
-use native.Mathlib.Nat.{add-zero, add-assoc, le-refl, le-step, le-trans}
+use native.Mathlib.Nat.{add-zero, add-assoc, le-refl, le-step}
 use native.Mathlib.Omega.{arith}
 use Rattle.design.specs.Cut.{sumBelow}
 use Rattle.demand3.proofs.Steps.{Rises}

@@ -7,7 +7,7 @@ use native.Mathlib.Nat.{le-refl, le-step, le-of-suc-le-suc, not-suc-le-zero}
 use native.Mathlib.Omega.{arith}
 use lib.ListN.{length, getD, drop, length-map, List·getD-append}
 use lib.IntN.{ℤ, pos, _+ℤ_}
-use lib.Pow.{pow-add, pow-pos}
+use lib.Pow.{pow-add}
 use borrow.Author.Tests.{le-ltb, lt-leb}
 use Rattle.refusal.specs.declared.Verdict.{Verdict}
 use Rattle.refusal.specs.Checks.{verdict}
@@ -16,7 +16,7 @@ use Rattle.values.specs.Inputs.{InRange}
 use Rattle.values.specs.Value.{wordCheck}
 use Rattle.values.proofs.ExactLaws.{value-low}
 use Rattle.design.specs.declared.Design.{Design}
-use Rattle.design.specs.Cut.{aOf, bOf, row, fractionBits, sumBelow, initialWord, segmentWord, offsetWord, initialCount}
+use Rattle.design.specs.Cut.{row, fractionBits, sumBelow, initialWord, segmentWord, offsetWord}
 use Rattle.design.specs.Budget.{budget, limit, Admitted}
 use Rattle.design.proofs.LegalLaws.{Limits, limits, lawful}
 use Rattle.design.proofs.CutLaws.{initial-word-lt, segment-word-lt, offset-word-lt}
@@ -33,7 +33,7 @@ use Rattle.tables.specs.Check.{checkVerdict, checkAnswer}
 use Rattle.demand3.specs.Demand.{margin, scaledWord, Word3, Batch3, Demand3}
 use Rattle.tables.proofs.SetLaws.{set-passed}
 use Rattle.demand3.proofs.Offsets.{added, taken}
-use Rattle.demand3.proofs.Totals.{Balance, total-balance, not-negative}
+use Rattle.demand3.proofs.Totals.{total-balance, not-negative}
 use Rattle.demand3.proofs.ErrorBound.{offsetFrom, sum-low, sum-high}
 use Rattle.demand3.proofs.WordBound.{Near, GoodWord, sum-in-range, good-word}
 use Rattle.demand3.proofs.Said.{said}

@@ -1,14 +1,13 @@
 -- The sum over filled tables lies within the budget of the exact value, for every legal design and input word. In units of 2^-18 table
 -- units; 2^(g-1) of the sum is the half unit that the initial entry adds so that the word can be cut off.
-use mathlib.Core.Path.{_≡_, refl, sym, _∙_}
+use mathlib.Core.Path.{_≡_, refl, sym}
 use mathlib.Core.Bool.{Bool, true, false, cond}
 use Prim.Native.Nat.{ℕ, zero, suc, _+_, _-_, _*_, _/_, _^_, _≤_, _<_}
-use native.Mathlib.Nat.{le-refl, le-step, le-trans, mul-le-mul-left, mul-le-mul-right, add-sub-of-le}
+use native.Mathlib.Nat.{le-refl, le-step, mul-le-mul-left, add-sub-of-le}
 use native.Mathlib.Omega.{arith}
 use lib.IntN.{ℤ}
-use Rattle.values.specs.Slopes.{segmentStart, segmentEnd, spread}
+use Rattle.values.specs.Slopes.{spread}
 use Rattle.values.specs.Exact.{AtMost, MoreThan}
-use Rattle.values.specs.Floor.{floorValue}
 use Rattle.values.proofs.Bounds.{ordered}
 use Rattle.design.specs.declared.Design.{Design}
 use Rattle.design.specs.Cut.{aOf, row, fractionBits, sumBelow, segmentWord, offsetWord, initialWord}
@@ -19,7 +18,7 @@ use Rattle.design.proofs.BudgetLaws.{spread-le-largest}
 use Rattle.tables.specs.Entries.{valueAt, endValues, initialAt, hiAt, loAt, offsetAt}
 use Rattle.demand3.proofs.Enclosed.{above-start, above-end, below-start, below-end}
 use Rattle.demand3.proofs.Path.{first, last, done, left, done-left, course, intervalStart, intervalEnd, slopes-hold}
-use Rattle.demand3.proofs.Offsets.{added, taken, Stands, offset-stands}
+use Rattle.demand3.proofs.Offsets.{added, taken, offset-stands}
 
 -- What one table contributes, an offset that adds `plus` and takes `minus`, and `share` of the budget.
 record Table (high low done left plus minus share : ℕ) : Type 0 where

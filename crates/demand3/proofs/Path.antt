@@ -2,16 +2,16 @@
 use mathlib.Core.Path.{_≡_, sym}
 use mathlib.Core.Bool.{Bool, true, false, cond}
 use Prim.Native.Nat.{ℕ, zero, suc, _+_, _-_, _*_, _^_, _≤_, _<_}
-use native.Mathlib.Nat.{add-comm, le-refl, le-step, le-of-lt, pow-zero}
+use native.Mathlib.Nat.{le-refl, le-of-lt, pow-zero}
 use native.Mathlib.Omega.{arith}
 use lib.Pow.{pow-add, pow-pos}
 use Rattle.values.specs.Slopes.{segmentStart, segmentEnd}
-use Rattle.values.proofs.SlopeLaws.{OnSegment, start-on, end-on, on-range, hi-steeper, lo-flatter}
+use Rattle.values.proofs.SlopeLaws.{OnSegment, on-range, hi-steeper, lo-flatter}
 use Rattle.design.specs.declared.Design.{Design}
 use Rattle.design.specs.Cut.{aOf, bOf, row, fractionBits, sumBelow, position, initialWord, segmentWord, offsetWord, initialCount}
 use Rattle.design.specs.Budget.{reach}
 use Rattle.design.proofs.LegalLaws.{Limits, lawful}
-use Rattle.design.proofs.CutLaws.{offset-word-lt, cut-word, initial-word-lt, segment-word-lt, word-on-segment, segment-within}
+use Rattle.design.proofs.CutLaws.{offset-word-lt, cut-word, initial-word-lt, segment-word-lt, segment-within}
 use Rattle.tables.specs.Entries.{hiAt, loAt}
 use Rattle.demand3.proofs.Steps.{Rises}
 use Rattle.demand3.proofs.Climb.{Inside}

@@ -1,7 +1,7 @@
 -- The one inequality between a number and the exact value reads, for each kind, as document 01 writes it.
 use mathlib.Core.Path.{_≡_, subst, sym}
 use mathlib.Core.Logic.{⊎-elim}
-use Prim.Native.Nat.{ℕ, _+_, _*_, _^_}
+use Prim.Native.Nat.{ℕ, _*_, _^_}
 use Rattle.values.specs.Rows.{rows, rowOf}
 use Rattle.values.specs.Exact.{numberSide, valueSide}
 use Rattle.values.proofs.Document.{Reads, reads}

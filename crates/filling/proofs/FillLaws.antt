@@ -21,8 +21,8 @@ use Rattle.tables.specs.Fill.{
   initialAfter,
   offsetsAfter,
 }
-use Rattle.filling.specs.Writing.{over}
-use Rattle.filling.proofs.WritingLaws.{over-start}
+use Rattle.tables.specs.Writing.{over}
+use Rattle.tables.proofs.WritingLaws.{over-start}
 
 -- "fill 1 to 11"
 module _ (d : Design) (initial offsets : ℕ) where

@@ -1,6 +1,5 @@
 -- Laws of the fill, one file a subject.
 pub mod SignLaws
 pub mod EntryBounds
-pub mod WritingLaws
 pub mod TableLaws
 pub mod FillLaws

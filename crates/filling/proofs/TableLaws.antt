@@ -12,12 +12,12 @@ use lib.Pow.{high, low, pow-add}
 use Rattle.design.specs.declared.Design.{Design}
 use Rattle.design.specs.Cut.{aOf, bOf, row, sumBelow, position, offsetCount, tableStart, offsetTotal}
 use Rattle.design.proofs.Sums.{sum-mono, sum-step, sum-next}
-use Rattle.tables.specs.Entries.{oddNumber, magnitude, offsetAt, hiAt, loAt, signed, offsetOf}
+use Rattle.tables.specs.Entries.{offsetAt, hiAt, loAt, offsetOf}
 use Rattle.tables.specs.Fill.{listBelow, tableEntries, offsetsBelow}
 use Rattle.tables.proofs.EntryLaws.{list-length, offsets-length}
 use Rattle.filling.specs.Segment.{segmentOffsets}
-use Rattle.filling.specs.Writing.{over}
-use Rattle.filling.proofs.WritingLaws.{over-none, over-more, list-add, list-congruence}
+use Rattle.tables.specs.Writing.{over}
+use Rattle.tables.proofs.WritingLaws.{over-none, over-more, list-add, list-congruence}
 
 module _ (d : Design) (i : ℕ) where
   -- An offset by the numbers that it is made of

@@ -1,4 +1,3 @@
 -- What a reader has to believe of the calls that `fill` is made of.
 pub mod Segment
-pub mod Writing
 pub mod Inputs

@@ -6,7 +6,7 @@ ghost use Rattle.refusal.specs.Numbers.{verdictNumber};
 ghost use Rattle.design.specs.Cut.{initialCount, tableStart, offsetTotal};
 ghost use Rattle.design.specs.Legal.{Legal};
 ghost use Rattle.tables.specs.Fill.{fillVerdict, initialEntries, tableEntries, offsetEntries, initialAfter, offsetsAfter};
-ghost use Rattle.filling.specs.Writing.{over};
+ghost use Rattle.tables.specs.Writing.{over};
 ghost use Rattle.filling.specs.Inputs.{OffsetInput, TableInput};
 ghost use Rattle.filling.specs.Segment.{segmentOffsets};
 

@@ -1,13 +1,13 @@
 -- What a batch comes to, by the verdicts of its words, and how its output is written word by word.
-use mathlib.Core.Path.{_≡_, refl, sym, subst, _∙_}
+use mathlib.Core.Path.{_≡_, refl, sym, subst}
 use mathlib.Core.List.{List, [], _∷_, _++_, map}
 use Prim.Native.Nat.{ℕ, zero, suc, _+_, _≤_, _<_}
-use native.Mathlib.Nat.{le-of-eq, le-of-lt, le-refl, le-step, le-trans, lt-of-lt-of-le, not-suc-le-zero}
-use native.Mathlib.Numerals.{add-one}
+use native.Mathlib.Nat.{le-of-eq, le-refl, le-step, not-suc-le-zero}
+use native.Mathlib.Omega.{arith}
 use borrow.Author.Tests.{ltb-false}
 use lib.IntN.{ℤ}
 use lib.ListN.{length, getD, take, drop, set, length-map, List·getD-map}
-use lib.Seq.{append-snoc, drop-cons, length-front, length-take-le, set-at, take-all, take-suc}
+use lib.Seq.{length-take-le, take-all}
 use Rattle.refusal.specs.declared.Cause.{Cause}
 use Rattle.refusal.specs.declared.Verdict.{Verdict}
 use Rattle.refusal.proofs.Checks.{passed-append, none-fails}
@@ -17,7 +17,9 @@ use Rattle.tables.specs.declared.Batched.{Batched}
 use Rattle.tables.specs.Inputs.{Usable}
 use Rattle.tables.specs.Fill.{setChecks}
 use Rattle.tables.specs.Batch.{outputCheck, roomVerdict, oneMore, wordsBelow}
+use Rattle.tables.specs.Writing.{over}
 use Rattle.tables.proofs.SetLaws.{usable}
+use Rattle.tables.proofs.WritingLaws.{over-start, over-length, over-next}
 
 -- Words that all pass are counted,
 pub batch-all : (n : ℕ) (word : ℕ → Verdict) → ((i : ℕ) → i < n → word i ≡ Verdict.Passed) → wordsBelow n word ≡ Batched.Count n
@@ -66,31 +68,19 @@ room-tells d initial offsets words output e =
     let lists = passed-append (setChecks d (length initial) (length offsets)) last e in
     (usable _ _ _ (lists .0), ltb-false _ _ (none-fails last (lists .1) .0))
 
--- A batch's output once the first i words have been written: their images under f, then what was there.
+-- A batch's output once the first i words have been written: their images under f over what was there.
 abbrev pub written : (ℕ → ℕ) → List ℕ → List ℕ → ℕ → List ℕ
-written f words before i = take i (map f words) ++ drop i before
+written f words before i = over before 0 (take i (map f words))
 
 module _ (f : ℕ → ℕ) (words before : List ℕ) (room : length words ≤ length before) where
   images : length (map f words) ≡ length words
   images = length-map words f
 
   pub written-length : (i : ℕ) → i ≤ length words → length (written f words before i) ≡ length before
-  written-length i h =
-      length-front before (take i (map f words)) i
-      (length-take-le i (map f words) (rw images h) ∙ sym (length-take-le i before (le-trans h room)))
+  written-length i h = over-length before 0 (take i (map f words)) (omega (arith, length-take-le i (map f words) (rw images h)))
 
   pub written-more : (i : ℕ) → i < length words → set (written f words before i) i (f (getD words i 0)) ≡ written f words before (i + 1)
-  written-more i h =
-      let front = take i (map f words) in
-      rw (
-        add-one,
-        take-suc (map f words) i (f 0) (rw images h),
-        List·getD-map f words i 0,
-        append-snoc,
-        drop-cons before i 0 (lt-of-lt-of-le h room),
-      )
-      (set-at front (getD before i 0) (drop (suc i) before) (f (getD words i 0)) i
-      (length-take-le i (map f words) (rw images (le-of-lt h))))
+  written-more i h = rw (← List·getD-map f words i 0) (over-next before (map f words) i (f 0) (rw images h) (rw images room))
 
   pub written-all : written f words before (length words) ≡ map f words ++ drop (length words) before
-  written-all = rw (take-all (length words) (map f words) (le-of-eq images))
+  written-all = rw (take-all (length words) (map f words) (le-of-eq images), over-start before (map f words), images)

@@ -3,7 +3,7 @@ use mathlib.Core.Path.{_≡_, refl, sym, ap, _∙_}
 use mathlib.Core.Bool.{Bool, true, false, not, _&&_, true≢false}
 use mathlib.Core.List.{List}
 use mathlib.Core.Logic.{_⊎_, inl, inr, ⊎-elim}
-use Prim.Native.Nat.{ℕ, zero, suc, _+_, _^_, _<_}
+use Prim.Native.Nat.{ℕ, zero, suc, _^_, _<_}
 use native.Mathlib.Nat.{le-step, le-refl, not-suc-le-zero}
 use native.Mathlib.Omega.{arith}
 use lib.IntN.{ℤ}
@@ -14,7 +14,6 @@ use Rattle.design.specs.declared.Design.{Design}
 use Rattle.design.specs.Cut.{row}
 use Rattle.design.proofs.Sums.{below-suc}
 use Rattle.tables.specs.declared.Checked.{Checked}
-use Rattle.tables.specs.Sum.{sumAt, sumOutside, wordAt}
 use Rattle.tables.specs.Faithful.{Faithful, isFaithful}
 use Rattle.tables.specs.Check.{faithfulAt, wordsBelow, checkVerdict, checkAnswer, refusalOf, FaithfulWord, CheckMeans}
 

@@ -15,7 +15,7 @@ use Rattle.refusal.proofs.Checks.{passed-append}
 use Rattle.design.specs.declared.Design.{Design}
 use Rattle.design.specs.Cut.{bOf, sumBelow, initialCount, offsetCount, tableStart, offsetTotal, offsetPlace}
 use Rattle.design.proofs.Sums.{below-suc}
-use Rattle.design.proofs.CutLaws.{Entry, EntryAt, place-below, entry-at}
+use Rattle.design.proofs.CutLaws.{Entry, place-below, entry-at}
 use Rattle.tables.specs.Inputs.{Usable}
 use Rattle.tables.specs.Entries.{initialAt, offsetAt}
 use Rattle.tables.specs.Fill.{

@@ -9,3 +9,4 @@ pub mod BatchLaws
 pub mod Opened
 pub mod BatchNumber
 pub mod Unread
+pub mod WritingLaws

@@ -7,3 +7,4 @@ pub mod Fill
 pub mod Evaluate
 pub mod Batch
 pub mod Check
+pub mod Writing

@@ -1,6 +1,6 @@
 // The floor value L(X).
 ghost use mathlib.Core.Path.{_≡_};
-ghost use Prim.Native.Nat.{_+_, _*_, _^_, _<_, _≤_};
+ghost use Prim.Native.Nat.{_+_, _^_, _<_, _≤_};
 ghost use lib.IntN.{pos};
 ghost use Rattle.values.specs.Floor.{rootFrom, floorValue};
 ghost use Rattle.values.specs.Floor as Floor;

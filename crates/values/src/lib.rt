@@ -1,6 +1,6 @@
 // Exact values of document 01's functions, rounded down, and bounds of their slopes.
 ghost use mathlib.Core.Path.{_≡_};
-ghost use Prim.Native.Nat.{_+_, _<_};
+ghost use Prim.Native.Nat.{_+_};
 ghost use lib.Dec.{T};
 ghost use Rattle.refusal.specs.Numbers.{verdictNumber};
 ghost use lib.IntN.{natAbs};

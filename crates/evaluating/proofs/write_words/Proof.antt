@@ -1,5 +1,5 @@
 -- `evaluating::write_words` meets its contract: after n turns the output is `written .. n`.
-use mathlib.Core.Path.{_≡_, refl, ap, ap₂, _∙_}
+use mathlib.Core.Path.{_≡_, ap, ap₂, _∙_}
 use mathlib.Core.List.{List}
 use Prim.Native.Nat.{ℕ, _-_, _≤_}
 use native.Mathlib.Omega.{arith}
@@ -8,6 +8,7 @@ use Rattle.values.specs.declared.OutputUnits.{OutputUnits}
 use Rattle.tables.specs.Sum.{wordAt}
 use Rattle.tables.specs.Batch.{placeVerdict}
 use Rattle.tables.proofs.BatchLaws.{written, written-length, written-more, written-all}
+use Rattle.tables.proofs.WritingLaws.{over-none}
 use Rattle.evaluating.proofs.write_words.Statement.{statement}
 use Rattle.evaluating.proofs.write_words.Tie as tie
 
@@ -19,7 +20,7 @@ abbrev μ-loop : tie.MeasureT-loop
 μ-loop d initial offsets words output₀ n₀ n-end output n = n-end - n
 
 loop-holds : tie.Need-loop-holds Inv-loop μ-loop
-loop-holds c = (omega arith, refl)
+loop-holds c = (omega arith, over-none _ 0)
 
 mul-word : tie.Need-mul-word Inv-loop μ-loop
 mul-word c = omega arith

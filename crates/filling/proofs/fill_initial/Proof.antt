@@ -11,8 +11,8 @@ use Rattle.design.proofs.LegalLaws.{limits}
 use Rattle.design.proofs.CutLaws.{initial-count-small}
 use Rattle.tables.specs.Entries.{initialAt}
 use Rattle.tables.specs.Fill.{listBelow, initialEntries}
-use Rattle.filling.specs.Writing.{over}
-use Rattle.filling.proofs.WritingLaws.{run-none, run-one}
+use Rattle.tables.specs.Writing.{over}
+use Rattle.tables.proofs.WritingLaws.{run-none, run-one}
 use Rattle.filling.proofs.fill_initial.Statement.{statement}
 use Rattle.filling.proofs.fill_initial.Tie as tie
 

@@ -10,8 +10,8 @@ use mir.ValLaws.{toZ-ofZ}
 use Rattle.tables.specs.Fill.{listBelow}
 use Rattle.filling.specs.Segment.{segmentOffsets}
 use Rattle.tables.specs.Entries.{offsetOf}
-use Rattle.filling.specs.Writing.{over}
-use Rattle.filling.proofs.WritingLaws.{run-none, run-one}
+use Rattle.tables.specs.Writing.{over}
+use Rattle.tables.proofs.WritingLaws.{run-none, run-one}
 use Rattle.filling.proofs.fill_segment.Statement.{statement}
 use Rattle.filling.proofs.fill_segment.Tie as tie
 

@@ -1,7 +1,7 @@
 -- `design::measure::table_budget` meets its contract. The product of the two powers is D_i, below 2^14, and the slopes spread by at
 -- most 2^38.
 use mathlib.Core.Path.{_≡_}
-use Prim.Native.Nat.{ℕ, _-_, _*_, _^_, _<_}
+use Prim.Native.Nat.{ℕ, _-_, _*_, _^_}
 use native.Mathlib.Nat.{lt-trans, lt-of-le-of-lt}
 use native.Mathlib.Omega.{arith}
 use lib.Dec.{lit<}

@@ -5,11 +5,11 @@ use Prim.Native.Nat.{ℕ, zero, suc, _+_, _≤_, _<_}
 use native.Mathlib.Nat.{add-assoc, add-suc, add-zero, zero-add, le-refl, le-step}
 use native.Mathlib.Numerals.{add-one}
 use native.Mathlib.Omega.{arith}
-use lib.ListN.{length, take, drop, set, length-append, length-drop, take-append-drop}
-use lib.Seq.{drop-drop, append-snoc, set-split, take-at, drop-at, length-take-le}
+use lib.ListN.{length, getD, take, drop, set, length-append, length-drop, take-append-drop}
+use lib.Seq.{drop-drop, append-snoc, set-split, take-at, drop-at, take-suc, length-take-le}
 use Rattle.tables.specs.Fill.{listBelow}
 use Rattle.tables.proofs.EntryLaws.{list-length}
-use Rattle.filling.specs.Writing.{over}
+use Rattle.tables.specs.Writing.{over}
 
 module _ {A : Type 0} where
   pub over-none : (table : List A) (n : ℕ) → table ≡ over table n []
@@ -53,6 +53,14 @@ module _ {A : Type 0} where
     pub over-one : (v : A) → n + length entries < length table
         → set (over table n entries) (n + length entries) v ≡ over table n (entries ++ (v ∷ []))
     over-one v h = store (over table n entries) (n + length entries) v (rw over-length h) ∙ over-more (v ∷ [])
+
+  -- The first n of the entries stand in front of what the table held, and then one more does.
+  pub over-next : (table entries : List A) (n : ℕ) (z : A) → n < length entries → length entries ≤ length table
+      → set (over table 0 (take n entries)) n (getD entries n z) ≡ over table 0 (take (n + 1) entries)
+  over-next table entries n z h room =
+      let e = length-take-le n entries (omega arith) in
+      let one = over-one table 0 (take n entries) (omega arith) (getD entries n z) (omega arith) in
+      rw (add-one, take-suc entries n z h) (rw (zero-add, e) at one)
 
 -- The list of f over the numbers below n + k is that below n, then k more; and it goes by what f is there.
 module _ {A : Type 0} (f : ℕ → A) where
