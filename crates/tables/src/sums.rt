@@ -1,49 +1,46 @@
 // The sum Y of an input word over any tables, whoever filled them, and the word that it comes to.
 ghost use mathlib.Core.Path.{_≡_};
 ghost use mathlib.Core.Bool.{false};
-ghost use Prim.Native.Nat.{_^_, _<_};
+ghost use Prim.Native.Nat.{_-_, _/_, _%_, _^_, _≤_, _<_};
 ghost use lib.ListN.{length};
-ghost use Rattle.design.specs.Cut.{segmentWord, offsetWord, tableStart, offsetPlace, offsetTotal};
-ghost use Rattle.design.specs.Cut as Cut;
+ghost use Rattle.design.specs.Cut.{segmentWord, offsetWord, offsetPlace, offsetTotal};
 ghost use Rattle.design.specs.Legal.{Legal};
-ghost use Rattle.tables.specs.Inputs.{Usable};
+ghost use Rattle.tables.specs.Inputs.{Usable, TableAt};
 ghost use Rattle.tables.specs.Sum.{sumAt, sumOutside, wordOf};
 use design::Design;
+use design::Pair;
 use design::legal::pair_at;
 use values::OutputUnits;
 use values::TableUnits;
 use values::floor::pow2;
 
-// A_i, the top a_i bits of x.
-fn segment_word(d: Design, i: u32, x: u32) -> u64
-    requires { ⌜ Legal d ⌝ }
-    requires { ⌜ i < d .m ⌝ }
-    ensures { λ r. ⌜ r ≡ segmentWord d i x ⌝ }
+// A_i, the top a bits of x.
+fn segment_word(w: u32, pair: Pair, x: u32) -> u64
+    requires { ⌜ (pair .a ≤ w) × (w ≤ 16) ⌝ }
+    ensures { λ r. ⌜ r ≡ x / 2 ^ (w - pair .a) ⌝ }
 {
-    let pair = pair_at(d, i);
-    let below = d.w - pair.a;
+    let below = w - pair.a;
     (x >> below) as u64
 }
 
-// B_i, the b_i bits of x that begin at p_i.
-fn offset_word(d: Design, i: u32, position: u32, x: u32) -> u64
-    requires { ⌜ Legal d ⌝ }
-    requires { ⌜ (i < d .m) × (position ≡ Cut.position d i) ⌝ }
-    ensures { λ r. ⌜ r ≡ offsetWord d i x ⌝ }
+// B_i, the b bits of x that begin at the position.
+fn offset_word(pair: Pair, position: u32, x: u32) -> u64
+    requires { ⌜ (pair .b ≤ 16) × (position ≤ 16) ⌝ }
+    ensures { λ r. ⌜ r ≡ x / 2 ^ position % 2 ^ pair .b ⌝ }
 {
-    let pair = pair_at(d, i);
     (x >> position) as u64 % pow2(pair.b)
 }
 
-// Where x's offset of table i lies among all offsets, for a table that begins at `start` and whose bits of x begin at `position`.
-fn offset_place(d: Design, i: u32, start: u64, position: u32, x: u32) -> u64
+// Where x's offset of table i lies among all offsets, for a table of this pair that begins at `start` and whose bits of x begin at
+// `position`.
+fn offset_place(d: Design, i: u32, pair: Pair, start: u64, position: u32, x: u32) -> u64
     requires { ⌜ Legal d ⌝ }
-    requires { ⌜ (i < d .m) × (start ≡ tableStart d i) × (position ≡ Cut.position d i) × (x < 2 ^ d .w) ⌝ }
+    requires { ⌜ TableAt d i pair start position ⌝ }
+    requires { ⌜ x < 2 ^ d .w ⌝ }
     ensures { λ r. ⌜ (r ≡ offsetPlace d i (segmentWord d i x) (offsetWord d i x)) × (r < offsetTotal d) ⌝ }
 {
-    let pair = pair_at(d, i);
-    let segment = segment_word(d, i, x);
-    start + (segment * pow2(pair.b) + offset_word(d, i, position, x))
+    let segment = segment_word(d.w, pair, x);
+    start + (segment * pow2(pair.b) + offset_word(pair, position, x))
 }
 
 // inner: Y, summed from the tables: m + 1 lookups, shifts and adds.
@@ -57,9 +54,9 @@ pub fn sum_of(d: Design, initial: &[u32], offsets: &[i32], x: u32) -> TableUnits
     let mut start = 0;
     let mut position = 0;
     for i in 0..m {
-        let offset = offsets[offset_place(d, i, start, position, x) as usize];
-        sum += offset as i64;
         let pair = pair_at(d, i);
+        let offset = offsets[offset_place(d, i, pair, start, position, x) as usize];
+        sum += offset as i64;
         start += pow2(pair.a + pair.b);
         position += pair.b;
     }

@@ -113,18 +113,29 @@ loop-holds c =
 more : (c : tie.In-loop Inv-loop μ-loop) → c .before .loop .i < c .before .before .before .before .before .args .d .m
 more c = omega arith
 
+pair-at-requires : tie.Need-pair-at-requires Inv-loop μ-loop
+pair-at-requires c κs = (more c, limits _ (c .before .before .before .before .before .pre .0 .legal) .m-high)
+
+-- the bits of this turn's table
+few-bits : (c : tie.After-pair-at Inv-loop μ-loop) → c .pair-at .result .a + c .pair-at .result .b ≤ 12
+few-bits c =
+    rw (c .pair-at .ensures)
+    (limits _ (c .before .before .before .before .before .before .pre .0 .legal) .table _ (more (c .before)) .sum-high)
+
 offset-place-requires : tie.Need-offset-place-requires Inv-loop μ-loop
 offset-place-requires c κs =
-    let e = c .before .before .before .before .before .pre in
-    let inv = c .before .loop .inv in
-    (e .0 .legal, (more c, inv .start-is, inv .place, e .1))
+    let e = c .before .before .before .before .before .before .pre in
+    let inv = c .before .before .loop .inv in (
+      e .0 .legal,
+      (record { i-lt = more (c .before); pair-is = c .pair-at .ensures; start-is = inv .start-is; position-is = inv .place }, e .1),
+    )
 
 -- the place lies within the offsets
 place-lt : (c : tie.After-offset-place Inv-loop μ-loop) →
-    (c .offset-place .result < length (c .before .before .before .before .before .before .args .offsets .now))
+    (c .offset-place .result < length (c .before .before .before .before .before .before .before .args .offsets .now))
     × (c .offset-place .result < 16384)
 place-lt c =
-    let e = c .before .before .before .before .before .before .pre in (
+    let e = c .before .before .before .before .before .before .before .pre in (
       lt-of-lt-of-le (c .offset-place .ensures .1) (e .0 .offsets-long),
       lt-of-lt-of-le (c .offset-place .ensures .1) (offset-total-small _ (limits _ (e .0 .legal))),
     )
@@ -138,39 +149,28 @@ shared-slice-copy-out-offset c = place-lt c .0
 -- the offset of this turn
 abbrev offset-read : tie.After-offset Inv-loop μ-loop → ℤ
 offset-read c =
-    getD (c .before .before .before .before .before .before .before .args .offsets .now) (c .before .offset-place .result) (pos 0)
+    getD (c .before .before .before .before .before .before .before .before .args .offsets .now) (c .before .offset-place .result) (pos 0)
 
 cast-sum-3 : tie.Need-cast-sum-3 Inv-loop μ-loop
 cast-sum-3 c = narrow-fits (offset-read c) (c .offset .given)
 
 -- the sum before this turn's offset
-low-sum : (c : tie.After-offset Inv-loop μ-loop) → mag (toZ w64 (c .before .before .before .loop .sum)) ≤ 2 ^ 40
+low-sum : (c : tie.After-offset Inv-loop μ-loop) → mag (toZ w64 (c .before .before .before .before .loop .sum)) ≤ 2 ^ 40
 low-sum c =
-    let b = c .before .before .before in
+    let b = c .before .before .before .before in
     omega (arith, b .loop .inv .small, b .loop .inv .within, limits _ (b .before .before .before .before .pre .0 .legal) .m-high)
 
 add-sum : tie.Need-add-sum Inv-loop μ-loop
-add-sum c = wide-fits (toZ w64 (c .before .before .before .loop .sum)) (offset-read c) (low-sum c) (c .offset .given)
-
-pair-at-requires : tie.Need-pair-at-requires Inv-loop μ-loop
-pair-at-requires c κs =
-    (more (c .before .before), limits _ (c .before .before .before .before .before .before .before .pre .0 .legal) .m-high)
-
--- the bits of this turn's table
-few-bits : (c : tie.After-pair-at Inv-loop μ-loop) → c .pair-at .result .a + c .pair-at .result .b ≤ 12
-few-bits c =
-    rw (c .pair-at .ensures)
-    (limits _ (c .before .before .before .before .before .before .before .before .pre .0 .legal) .table _
-    (more (c .before .before .before)) .sum-high)
+add-sum c = wide-fits (toZ w64 (c .before .before .before .before .loop .sum)) (offset-read c) (low-sum c) (c .offset .given)
 
 add-pow2 : tie.Need-add-pow2 Inv-loop μ-loop
-add-pow2 c = omega (arith, few-bits (c .before))
+add-pow2 c = omega (arith, few-bits (c .before .before .before))
 
 pow2-requires : tie.Need-pow2-requires Inv-loop μ-loop
-pow2-requires c κs = omega (arith, few-bits (c .before))
+pow2-requires c κs = omega (arith, few-bits (c .before .before .before))
 
 few-entries : (c : tie.After-pow2 Inv-loop μ-loop) → c .pow2 .result ≤ 2 ^ 12
-few-entries c = rw (c .pow2 .ensures) (pow-mono {j = 12} (few-bits (c .before .before)))
+few-entries c = rw (c .pow2 .ensures) (pow-mono {j = 12} (few-bits (c .before .before .before .before)))
 
 add-start : tie.Need-add-start Inv-loop μ-loop
 add-start c =
@@ -180,9 +180,10 @@ add-start c =
 
 add-position : tie.Need-add-position Inv-loop μ-loop
 add-position c =
-    let b = c .before .before .before .before .before .before in
+    let t = c .before .before .before .before .before in
+    let b = t .before in
     let l = limits _ (b .before .before .before .before .before .pre .0 .legal) in
-    rw (c .before .before .before .pair-at .ensures, b .before .loop .inv .place)
+    rw (t .pair-at .ensures, b .before .loop .inv .place)
     (omega (arith, bits-end _ l _ (more b), l .table _ (more b), l .widths .w-high))
 
 add-i : tie.Need-add-i Inv-loop μ-loop
@@ -195,10 +196,11 @@ loop-less c = omega arith
 
 loop-again : tie.Need-loop-again Inv-loop μ-loop
 loop-again c =
-    let b = c .before .before .before .before in
-    let l = b .before .before .before .loop in
-    turn (l .sum) (b .before .offset-place .result) (l .inv) (low-sum b) (more (b .before .before))
-    (b .before .offset-place .ensures .0) (b .offset .given) _ _ (c .before .before .before .pair-at .ensures) (c .before .pow2 .ensures)
+    let b = c .before .before .before in
+    let t = b .before .before in
+    let l = t .before .before .loop in
+    turn (l .sum) (b .before .offset-place .result) (l .inv) (low-sum b) (more (t .before)) (b .before .offset-place .ensures .0)
+    (b .offset .given) _ _ (t .pair-at .ensures) (c .before .pow2 .ensures)
 
 returns : tie.Need-returns Inv-loop μ-loop
 unfolding units
@@ -219,12 +221,12 @@ sum-of-spec =
     shared-slice-read-sum
     cast-sum-2
     loop-holds
+    pair-at-requires
     offset-place-requires
     mul-offset
     shared-slice-copy-out-offset
     cast-sum-3
     add-sum
-    pair-at-requires
     add-pow2
     pow2-requires
     add-start
