@@ -4,6 +4,7 @@ ghost use Prim.Native.Nat.{_^_, _<_};
 ghost use lib.ListN.{length};
 ghost use Rattle.refusal.specs.Numbers.{verdictNumber};
 ghost use Rattle.values.specs.Inputs.{FloorInput};
+ghost use Rattle.design.specs.Cut as Cut;
 ghost use Rattle.tables.specs.Inputs.{Usable};
 ghost use Rattle.tables.specs.Faithful.{isFaithful};
 ghost use Rattle.tables.specs.Check.{faithfulAt, wordsBelow, checkVerdict, checkAnswer, refusalOf};
@@ -33,27 +34,22 @@ fn is_faithful(row: Row, w: u32, q: u32, x: u64, y: OutputUnits) -> bool
 }
 
 // A word whose sum is refused counts as unfaithful.
-fn word_is_faithful(d: Design, initial: &[u32], offsets: &[i32], x: u32) -> bool
+fn word_is_faithful(d: Design, row: Row, initial: &[u32], offsets: &[i32], x: u32) -> bool
     requires { ⌜ Usable d (length (now initial)) (length (now offsets)) ⌝ }
-    requires { ⌜ x < 2 ^ d .w ⌝ }
+    requires { ⌜ (row ≡ Cut.row d) × (x < 2 ^ d .w) ⌝ }
     ensures { λ r. ⌜ r ≡ faithfulAt d (now (initial .entry)) (now (offsets .entry)) x ⌝ }
 {
     let sum = sum_of(d, initial, offsets, x);
     if sum_outside(d, sum) {
         return false;
     }
-    is_faithful(
-        row_of(d.kind),
-        d.w,
-        d.q,
-        pow2(d.w) + x as u64,
-        word_of(d, sum),
-    )
+    is_faithful(row, d.w, d.q, pow2(d.w) + x as u64, word_of(d, sum))
 }
 
 // From 0 upwards, over each interval A and the rest of x, to the lowest unfaithful word.
-fn search(d: Design, initial: &[u32], offsets: &[i32]) -> Checked
+fn search(d: Design, row: Row, initial: &[u32], offsets: &[i32]) -> Checked
     requires { ⌜ Usable d (length (now initial)) (length (now offsets)) ⌝ }
+    requires { ⌜ row ≡ Cut.row d ⌝ }
     ensures { λ r. ⌜ r ≡ wordsBelow (2 ^ d .w) (faithfulAt d (now (initial .entry)) (now (offsets .entry))) ⌝ }
 {
     let intervals = pow2(d.alpha) as u32;
@@ -63,7 +59,7 @@ fn search(d: Design, initial: &[u32], offsets: &[i32]) -> Checked
         let start = interval * rests;
         for rest in 0..rests {
             let x = start + rest;
-            if !word_is_faithful(d, initial, offsets, x) {
+            if !word_is_faithful(d, row, initial, offsets, x) {
                 answer = Checked::Unfaithful(x);
                 break 'words;
             }
@@ -80,5 +76,5 @@ pub fn check(d: Design, initial: &[u32], offsets: &[i32]) -> Checked
     if let Verdict::Refused(cause) = set_verdict(d, initial.len(), offsets.len()) {
         return Checked::Refused(cause);
     }
-    search(d, initial, offsets)
+    search(d, row_of(d.kind), initial, offsets)
 }

@@ -2,13 +2,17 @@
 use mathlib.Core.Path.{_≡_, sym, _∙_}
 use mathlib.Core.List.{List}
 use Prim.Native.Nat.{ℕ, _^_}
+use native.Mathlib.Omega.{arith}
 use lib.IntN.{ℤ}
+use lib.ListN.{length}
 use borrow.Author.Needs.{needs}
 use Rattle.refusal.specs.declared.Cause.{Cause}
 use Rattle.refusal.specs.declared.Verdict.{Verdict}
 use Rattle.refusal.specs.Numbers.{verdictNumber}
 use Rattle.design.specs.declared.Design.{Design}
+use Rattle.design.proofs.LegalLaws.{limits}
 use Rattle.tables.specs.declared.Checked.{Checked}
+use Rattle.tables.specs.Inputs.{Usable}
 use Rattle.tables.specs.Check.{faithfulAt, wordsBelow, checkVerdict, checkAnswer, refusalOf}
 use Rattle.tables.proofs.SetLaws.{usable}
 use Rattle.tables.proofs.CheckLaws.{check-searches, search-unrefused}
@@ -41,16 +45,24 @@ returns c = refused _ _ _ _ (sym (c .before .before .before .set-verdict .ensure
 enum-told : tie.Need-enum-told
 enum-told c = search needs
 
+-- where the set's verdict passed
+set : (c : tie.After-enum-told) → let a = c .before .before .before .before .args in
+    Usable (a .d) (length (a .initial .now)) (length (a .offsets .now))
+set c = usable _ _ _ (sym (c .before .before .set-verdict .ensures) ∙ c .enum-told .given .1)
+
+row-of-requires : tie.Need-row-of-requires
+row-of-requires c κs = omega (arith, limits _ (set c .legal) .widths .kind-high)
+
 search-requires : tie.Need-search-requires
-search-requires c κs = usable _ _ _ (sym (c .before .before .set-verdict .ensures) ∙ c .enum-told .given .1)
+search-requires c κs = (set (c .before), c .row-of .ensures)
 
 returns-2 : tie.Need-returns-2
 unfolding checkVerdict
 returns-2 c =
-    let b = c .before in
+    let b = c .before .before in
     searched _ _ _ (sym (b .before .before .set-verdict .ensures) ∙ b .enum-told .given .1) _ (c .search .ensures)
 
 pub check-spec : {M : Type 1} → statement M
 check-spec =
     tie.close
-    (tie.spec set-verdict-requires enum-known-cause returns enum-told search-requires returns-2)
+    (tie.spec set-verdict-requires enum-known-cause returns enum-told row-of-requires search-requires returns-2)

@@ -25,33 +25,33 @@ use Rattle.checking.proofs.search.Statement.{statement}
 use Rattle.checking.proofs.search.Tie as tie
 
 abbrev Inv-loop : tie.InvT-loop
-Inv-loop d initial offsets intervals rests answer₀ interval start rest₀ answer rest =
+Inv-loop d row initial offsets intervals rests answer₀ interval start rest₀ answer rest =
     Searched (faithfulAt d initial offsets) answer (start + rest) × (rest ≤ rests)
 
 abbrev μ-loop : tie.MeasureT-loop
-μ-loop d initial offsets intervals rests answer₀ interval start rest₀ answer rest = rests - rest
+μ-loop d row initial offsets intervals rests answer₀ interval start rest₀ answer rest = rests - rest
 
 abbrev Inv-words : tie.InvT-words
-Inv-words d initial offsets intervals rests answer₀ interval₀ answer interval =
+Inv-words d row initial offsets intervals rests answer₀ interval₀ answer interval =
     Searched (faithfulAt d initial offsets) answer (interval * rests) × (interval ≤ intervals)
 
 abbrev μ-words : tie.MeasureT-words
-μ-words d initial offsets intervals rests answer₀ interval₀ answer interval = intervals - interval
+μ-words d row initial offsets intervals rests answer₀ interval₀ answer interval = intervals - interval
 
 pow2-requires : tie.Need-pow2-requires Inv-loop μ-loop Inv-words μ-words
-pow2-requires c κs = omega (arith, limits _ (c .before .pre .legal) .alpha-high)
+pow2-requires c κs = omega (arith, limits _ (c .before .pre .0 .legal) .alpha-high)
 
 cast-intervals : tie.Need-cast-intervals Inv-loop μ-loop Inv-words μ-words
-cast-intervals c = omega (arith, c .pow2 .ensures, intervals-fit _ (limits _ (c .before .before .pre .legal)))
+cast-intervals c = omega (arith, c .pow2 .ensures, intervals-fit _ (limits _ (c .before .before .pre .0 .legal)))
 
 sub-pow2 : tie.Need-sub-pow2 Inv-loop μ-loop Inv-words μ-words
-sub-pow2 c = omega (arith, limits _ (c .before .before .before .pre .legal) .alpha-below)
+sub-pow2 c = omega (arith, limits _ (c .before .before .before .pre .0 .legal) .alpha-below)
 
 pow2-requires-2 : tie.Need-pow2-requires-2 Inv-loop μ-loop Inv-words μ-words
-pow2-requires-2 c κs = omega (arith, limits _ (c .before .before .before .pre .legal) .widths .w-high)
+pow2-requires-2 c κs = omega (arith, limits _ (c .before .before .before .pre .0 .legal) .widths .w-high)
 
 cast-rests : tie.Need-cast-rests Inv-loop μ-loop Inv-words μ-words
-cast-rests c = omega (arith, c .pow22 .ensures, rests-fit _ (limits _ (c .before .before .before .before .pre .legal)))
+cast-rests c = omega (arith, c .pow22 .ensures, rests-fit _ (limits _ (c .before .before .before .before .pre .0 .legal)))
 
 words-holds : tie.Need-words-holds Inv-loop μ-loop Inv-words μ-words
 words-holds c = (rw zero-mul (searched-none _), omega arith)
@@ -60,7 +60,7 @@ words-holds c = (rw zero-mul (searched-none _), omega arith)
 counted : (c : tie.After-pow22 Inv-loop μ-loop Inv-words μ-words)
     → Counts (c .before .before .before .before .args .d) (c .before .before .pow2 .result) (c .pow22 .result)
 counted c =
-    counts _ (limits _ (c .before .before .before .before .pre .legal)) (c .before .before .pow2 .ensures) (c .pow22 .ensures)
+    counts _ (limits _ (c .before .before .before .before .pre .0 .legal)) (c .before .before .pow2 .ensures) (c .pow22 .ensures)
 
 mul-start : tie.Need-mul-start Inv-loop μ-loop Inv-words μ-words
 mul-start c =
@@ -80,7 +80,9 @@ add-x : tie.Need-add-x Inv-loop μ-loop Inv-words μ-words
 add-x c = omega (arith, inside c, counted (c .before .before .before .before) .words-small)
 
 word-is-faithful-requires : tie.Need-word-is-faithful-requires Inv-loop μ-loop Inv-words μ-words
-word-is-faithful-requires c κs = (c .before .before .before .before .before .before .before .before .pre, inside c)
+word-is-faithful-requires c κs =
+    let p = c .before .before .before .before .before .before .before .before .pre in
+    (p .0, (p .1, inside c))
 
 add-rest : tie.Need-add-rest Inv-loop μ-loop Inv-words μ-words
 add-rest c = omega (arith, counted (c .before .before .before .before .before .before) .rests-small)

@@ -66,37 +66,34 @@ returns : tie.Need-returns
 returns c =
     no-word _ _ _ _ _ _ (c .before .before .sum-of .ensures) (c .before .sum-outside .ensures) (c .if1 .taken)
 
-row-of-requires : tie.Need-row-of-requires
-row-of-requires c κs = omega (arith, limits _ (c .before .before .before .before .pre .0 .legal) .widths .kind-high)
-
 pow2-requires : tie.Need-pow2-requires
-pow2-requires c κs = omega (arith, limits _ (c .before .before .before .before .before .pre .0 .legal) .widths .w-high)
+pow2-requires c κs = omega (arith, limits _ (c .before .before .before .before .pre .0 .legal) .widths .w-high)
 
 add-is-faithful : tie.Need-add-is-faithful
 add-is-faithful c =
-    let p = c .before .before .before .before .before .before .pre in
-    omega (arith, width-small _ (limits _ (p .0 .legal)), c .pow2 .ensures, p .1)
+    let p = c .before .before .before .before .before .pre in
+    omega (arith, width-small _ (limits _ (p .0 .legal)), c .pow2 .ensures, p .1 .1)
 
 word-of-requires : tie.Need-word-of-requires
 word-of-requires c κs =
-    let b = c .before .before in
+    let b = c .before in
     (b .before .before .before .before .pre .0 .legal, tested (b .before .sum-outside .ensures) (b .if1 .left))
 
 is-faithful-requires : tie.Need-is-faithful-requires
 is-faithful-requires c κs =
-    let b = c .before .before .before in
+    let b = c .before .before in
     let p = b .before .before .before .before .pre in
     let l = limits _ (p .0 .legal) in (
-      rw (c .before .before .row-of .ensures, c .before .pow2 .ensures) (exact-at _ l _ (p .1)),
+      rw (p .1 .0, c .before .pow2 .ensures) (exact-at _ l _ (p .1 .1)),
       rw (c .word-of .ensures) (word-small _ l _ (tested (b .before .sum-outside .ensures) (b .if1 .left))),
     )
 
 returns-2 : tie.Need-returns-2
 returns-2 c =
-    let b = c .before .before .before .before in
+    let b = c .before .before .before in
     c .is-faithful .ensures
     ∙ by-word _ _ _ _ _ _ (b .before .before .sum-of .ensures) (b .before .sum-outside .ensures) (b .if1 .left) _ _ _
-    (c .before .before .before .row-of .ensures) (c .before .before .pow2 .ensures) (c .before .word-of .ensures)
+    (b .before .before .before .before .pre .1 .0) (c .before .before .pow2 .ensures) (c .before .word-of .ensures)
 
 pub word-is-faithful-spec : {M : Type 1} → statement M
 word-is-faithful-spec =
@@ -105,7 +102,6 @@ word-is-faithful-spec =
     sum-of-requires
     sum-outside-requires
     returns
-    row-of-requires
     pow2-requires
     add-is-faithful
     word-of-requires
