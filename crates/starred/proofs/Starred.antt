@@ -17,6 +17,8 @@ use Rattle.tables.specs.Sum.{sumAt}
 use Rattle.tables.specs.Fill.{fillVerdict, initialEntries, offsetEntries}
 use Rattle.tables.specs.Evaluate.{evaluateAnswer}
 use Rattle.tables.proofs.Opened.{tables-opened}
+use Rattle.demand3.specs.Demand.{Holds}
+use Rattle.demand3.proofs.Demand3.{demand3}
 
 -- "G is kind 0, w 8, q 8, g 4, alpha 5, m 1, (3,3)", here with the guard bits and the first pair given
 abbrev G-with : ℕ → ℕ → ℕ → Design
@@ -88,3 +90,7 @@ starred =
       word-7 = refl;
       word-255 = refl;
     }
+
+-- So demand 3 holds for G: whoever fills G's tables, every word is right.
+pub G-right : Holds G
+G-right = demand3 G (starred .G-admitted)
