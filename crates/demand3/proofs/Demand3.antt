@@ -85,7 +85,8 @@ module _ (d : Design) (admitted : Admitted d) (x : ℕ) (x-lt : x < 2 ^ d .w) wh
         arith,
         within,
         half-is,
-        sum-high d l x x-lt (2 ^ (fractionBits d + 17)) (rw e at (value-low (row d) (lawful d l) (d .w) (2 ^ d .w + x) range (fractionBits d + 17))),
+        sum-high d l x x-lt (2 ^ (fractionBits d + 17))
+            (rw e at (value-low (row d) (lawful d l) (d .w) (2 ^ d .w + x) range (fractionBits d + 17))),
       )
 
   pub near : Near (row d) (d .w) (fractionBits d) (2 ^ d .w + x) (plus - minus) (2 ^ (d .g + 17)) (budget d)
@@ -188,7 +189,8 @@ module _ (d : Design) (admitted : Admitted d) (initial : List ℕ) (offsets : Li
           contents = output-is;
           at-place = λ n h.
               rw output-is
-              (List·getD-append (map (wordAt d initial offsets) words) _ 0 n (rw (length-map words (wordAt d initial offsets)) h) ∙ map-at (wordAt d initial offsets) words n h);
+              (List·getD-append (map (wordAt d initial offsets) words) _ 0 n (rw (length-map words (wordAt d initial offsets)) h)
+              ∙ map-at (wordAt d initial offsets) words n h);
         }
 
 -- The whole of it

@@ -111,4 +111,5 @@ mirror d i A B b-pos h =
     let e : b - 1 + 1 ≡ b = omega arith in
     let even : 2 ^ b ≡ 2 * 2 ^ (b - 1) = omega (arith, rw e at (pow-add 2 (b - 1) 1)) in
     let o = opposite B (2 ^ (b - 1)) (2 ^ b) even h in
-    rw (o .size, o .sign, turn-sign) (minus-one (cond (row d .rising) (nonNeg (subℕ (2 * B + 1) (2 ^ b))) (not (nonNeg (subℕ (2 * B + 1) (2 ^ b))))) _)
+    let up = nonNeg (subℕ (2 * B + 1) (2 ^ b)) in
+    rw (o .size, o .sign, turn-sign) (minus-one (cond (row d .rising) up (not up)) _)

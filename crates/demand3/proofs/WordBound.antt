@@ -140,7 +140,8 @@ module _ (row : Row) (lawful : Lawful row) (w q g X Y budget : ℕ) (range : InR
           high = more-than-coarser row w X q (18 + g) (y + 1)
               (rw (← fine)
               (more-than-or row lawful w (q + g + 18) X range _
-              (λ h. not-below-word (2 ^ g) Y y (2 ^ (g + 17)) budget word-low word-high half-is within _ (scaled (y + 1)) (near .high _ h))));
+              (λ h. not-below-word (2 ^ g) Y y (2 ^ (g + 17)) budget word-low word-high half-is within
+              _ (scaled (y + 1)) (near .high _ h))));
         }
 
     pub good-word : GoodWord row w q g X y budget
@@ -149,7 +150,9 @@ module _ (row : Row) (lawful : Lawful row) (w q g X Y budget : ℕ) (range : InR
           faithful = word-faithful;
           above-zero = above;
           low = at-most-or row lawful w (q + g + 18) X range _
-              (λ h. not-above-bound (2 ^ g) Y y (2 ^ (g + 17)) budget word-low word-high half-is within _ (omega (arith, above, scaled y)) (near .low _ h));
+              (λ h. not-above-bound (2 ^ g) Y y (2 ^ (g + 17)) budget word-low word-high half-is within
+              _ (omega (arith, above, scaled y)) (near .low _ h));
           high = le-of-lt (more-than-or row lawful w (q + g + 18) X range _
-              (λ h. not-below-bound (2 ^ g) Y y (2 ^ (g + 17)) budget word-low word-high half-is within _ (omega (arith, scaled y)) (near .high _ h)));
+              (λ h. not-below-bound (2 ^ g) Y y (2 ^ (g + 17)) budget word-low word-high half-is within
+              _ (omega (arith, scaled y)) (near .high _ h)));
         }

@@ -38,7 +38,8 @@ returns : tie.Need-returns Inv-loop μ-loop
 unfolding placeVerdict
 returns c =
     let b = c .before .before .before .before .before in
-    sym (batch-bad _ _ _ _ (b .loop-test .taken) (b .before .loop .inv .1)
+    let here : b .before .loop .i < length (b .before .before .before .before .args .words .now) = omega arith in
+    sym (batch-bad _ _ _ _ here (b .before .loop .inv .1)
     (evaluated-refused _ _ (sym (c .before .before .before .word-answer .ensures) ∙ c .before .cause .given .1)))
 
 enum-told : tie.Need-enum-told Inv-loop μ-loop
@@ -54,7 +55,8 @@ loop-again : tie.Need-loop-again Inv-loop μ-loop
 unfolding placeVerdict
 loop-again c =
     let b = c .before .before .before .before .before in
-    (omega arith, below-more _ _ (b .loop .inv .1) (evaluated-word _ _ (sym (c .before .before .word-answer .ensures) ∙ c .enum-told .given .1)))
+    let passed = evaluated-word _ _ (sym (c .before .before .word-answer .ensures) ∙ c .enum-told .given .1) in
+    (omega arith, below-more _ _ (b .loop .inv .1) passed)
 
 returns-2 : tie.Need-returns-2 Inv-loop μ-loop
 returns-2 c =
