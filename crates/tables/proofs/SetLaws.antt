@@ -1,5 +1,5 @@
 -- What refusals 1 to 10 come to, and what a set that passes them tells.
-use mathlib.Core.Path.{_≡_}
+use mathlib.Core.Path.{_≡_, _∙_}
 use mathlib.Core.Bool.{Bool, true, false, _||_}
 use mathlib.Core.List.{[], _∷_}
 use Prim.Native.Nat.{ℕ, _≤_, _<_}
@@ -21,20 +21,22 @@ module _ (d : Design) (initial offsets : ℕ) where
   set-refused cause e = rw (verdict-append, e)
 
   -- what a legal design's tables are tried for
-  too-short : (short : Bool) → Legal d → ltb initial (initialCount d) || ltb offsets (offsetTotal d) ≡ short
+  pub set-lengths : (short : Bool) → Legal d → tablesCheck d initial offsets .fails ≡ short
       → verdict (setChecks d initial offsets) ≡ refuses short Cause.TablesShort Verdict.Passed
   unfolding setChecks designVerdict tablesCheck
-  too-short short legal e = rw (verdict-append, legal, e)
+  set-lengths short legal e = rw (verdict-append, legal, e)
 
-  pub initial-short : Legal d → initial < initialCount d → verdict (setChecks d initial offsets) ≡ Verdict.Refused Cause.TablesShort
-  initial-short legal h = too-short true legal (rw (lt-ltb _ _ h))
+  -- either length decides it
+  pub initial-short : initial < initialCount d → tablesCheck d initial offsets .fails ≡ true
+  unfolding tablesCheck
+  initial-short h = rw (lt-ltb _ _ h)
 
-  pub offsets-short : Legal d → initialCount d ≤ initial → offsets < offsetTotal d
-      → verdict (setChecks d initial offsets) ≡ Verdict.Refused Cause.TablesShort
-  offsets-short legal h k = too-short true legal (rw (le-ltb _ _ h, lt-ltb _ _ k))
+  pub offsets-tried : initialCount d ≤ initial → tablesCheck d initial offsets .fails ≡ ltb offsets (offsetTotal d)
+  unfolding tablesCheck
+  offsets-tried h = rw (le-ltb _ _ h)
 
   pub set-passed : Usable d initial offsets → verdict (setChecks d initial offsets) ≡ Verdict.Passed
-  set-passed u = too-short false (u .legal) (rw (le-ltb _ _ (u .initial-long), le-ltb _ _ (u .offsets-long)))
+  set-passed u = set-lengths false (u .legal) (offsets-tried (u .initial-long) ∙ le-ltb _ _ (u .offsets-long))
 
   pub usable : verdict (setChecks d initial offsets) ≡ Verdict.Passed → Usable d initial offsets
   unfolding setChecks designVerdict tablesCheck

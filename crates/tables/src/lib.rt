@@ -1,7 +1,8 @@
 // Table sets: what the calls over them answer, and the refusals 1 to 10 that they share.
 ghost use mathlib.Core.Path.{_≡_};
 ghost use Rattle.refusal.specs.Checks.{verdict};
-ghost use Rattle.tables.specs.Fill.{setChecks};
+ghost use Rattle.design.specs.Legal.{Legal};
+ghost use Rattle.tables.specs.Fill.{tablesCheck, setChecks};
 
 pub mod sums;
 
@@ -32,6 +33,17 @@ pub enum Checked {
     Refused(Cause),
 }
 
+// inner: whether either table is shorter than the set, by their lengths.
+pub fn tables_short(d: Design, initial: usize, offsets: usize) -> bool
+    requires { ⌜ Legal d ⌝ }
+    ensures { λ r. ⌜ r ≡ tablesCheck d initial offsets .fails ⌝ }
+{
+    if (initial as u64) < pow2(d.alpha) {
+        return true;
+    }
+    (offsets as u64) < offset_total(d)
+}
+
 // Refusals 1 to 10 of any call that takes a set, by the lengths of its tables.
 pub fn set_verdict(d: Design, initial: usize, offsets: usize) -> Verdict
     ensures { λ r. ⌜ r ≡ verdict (setChecks d initial offsets) ⌝ }
@@ -39,10 +51,7 @@ pub fn set_verdict(d: Design, initial: usize, offsets: usize) -> Verdict
     if let Verdict::Refused(cause) = design_verdict(d) {
         return Verdict::Refused(cause);
     }
-    if (initial as u64) < pow2(d.alpha) {
-        return Verdict::Refused(Cause::TablesShort);
-    }
-    if (offsets as u64) < offset_total(d) {
+    if tables_short(d, initial, offsets) {
         return Verdict::Refused(Cause::TablesShort);
     }
     Verdict::Passed

@@ -1,12 +1,10 @@
 -- `tables::set_verdict` meets its contract: the design's verdict, then the two lengths.
 use mathlib.Core.Path.{sym, _∙_}
-use Prim.Native.Nat.{_≤_}
-use native.Mathlib.Omega.{arith}
+use mathlib.Core.Bool.{true, false}
 use borrow.Author.Needs.{needs}
-use Rattle.design.specs.Cut.{initialCount}
 use Rattle.design.specs.Legal.{Legal}
-use Rattle.design.proofs.LegalLaws.{limits}
-use Rattle.tables.proofs.SetLaws.{set-refused, initial-short, offsets-short, set-passed}
+use Rattle.refusal.proofs.Checks.{tested}
+use Rattle.tables.proofs.SetLaws.{set-refused, set-lengths}
 use Rattle.tables.proofs.set_verdict.Statement.{statement}
 use Rattle.tables.proofs.set_verdict.Tie as tie
 
@@ -26,34 +24,16 @@ enum-told c = search needs
 legal : (c : tie.After-enum-told) → Legal (c .before .before .before .args .d)
 legal c = sym (c .before .before .design-verdict .ensures) ∙ c .enum-told .given .1
 
-pow2-requires : tie.Need-pow2-requires
-pow2-requires c κs = omega (arith, limits _ (legal c))
+tables-short-requires : tie.Need-tables-short-requires
+tables-short-requires c κs = legal c
 
 returns-2 : tie.Need-returns-2
-unfolding initialCount
 returns-2 c =
-    sym (initial-short _ _ _ (legal (c .before .before)) (omega arith))
-
-offset-total-requires : tie.Need-offset-total-requires
-offset-total-requires c κs = legal (c .before .before)
-
--- where the initial table is long enough
-initial-long : (c : tie.Else1) → initialCount (c .before .before .before .before .before .args .d) ≤ c .before .before .before .before .before .args .initial
-unfolding initialCount
-initial-long c = rw (c .before .pow2 .ensures) at (c .if1 .left)
+    sym (set-lengths _ _ _ true (legal (c .before .before)) (tested (c .before .tables-short .ensures) (c .if1 .taken)))
 
 returns-3 : tie.Need-returns-3
 returns-3 c =
-    sym (offsets-short _ _ _ (legal (c .before .before .before .before)) (initial-long (c .before .before))
-    (omega arith))
-
-returns-4 : tie.Need-returns-4
-returns-4 c =
-    sym (set-passed _ _ _ (record {
-      legal = legal (c .before .before .before .before);
-      initial-long = initial-long (c .before .before);
-      offsets-long = rw (c .before .offset-total .ensures) at (c .if2 .left);
-    }))
+    sym (set-lengths _ _ _ false (legal (c .before .before)) (tested (c .before .tables-short .ensures) (c .if1 .left)))
 
 pub set-verdict-spec : {M : Type 1} → statement M
 set-verdict-spec =
@@ -63,8 +43,6 @@ set-verdict-spec =
     enum-known-cause
     returns
     enum-told
-    pow2-requires
+    tables-short-requires
     returns-2
-    offset-total-requires
-    returns-3
-    returns-4)
+    returns-3)

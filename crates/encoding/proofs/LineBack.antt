@@ -1,0 +1,97 @@
+-- A frame and its line: each is got back from the other.
+use mathlib.Core.Path.{_≡_, sym, ap, _∙_}
+use mathlib.Core.Bool.{false, true}
+use mathlib.Core.List.{List, [], _∷_, _++_}
+use Prim.Native.Nat.{ℕ, suc, _+_, _-_, _*_, _/_, _%_, _≤_}
+use native.Mathlib.Omega.{arith}
+use lib.Dec.{ltb, eqb}
+use lib.ListN.{length, take, getD, length-append}
+use lib.Seq.{take-all, take-suc, length-take-le}
+use borrow.Author.Tests.{eqb-false, ne-eqb, le-ltb, not-false}
+use Rattle.refusal.proofs.Checks.{neither}
+use Rattle.frames.specs.Hex.{allDigits, bytesOf}
+use Rattle.frames.specs.Line.{sumFails, lengthFails, lineFails}
+use Rattle.frames.proofs.LineLaws.{sound-length}
+use Rattle.encoding.specs.Encode.{hexOf, sumByte, withSum, lineOf}
+use Rattle.encoding.proofs.HexBack.{Bytes, hex-length, hex-digits, hex-back, bytes-small, bytes-length, hex-again}
+use Rattle.encoding.proofs.HexBack.{bytes-append, bytes-parts}
+use Rattle.encoding.proofs.SumBack.{sum-byte-lt, sum-back, sum-again}
+
+-- A frame with its sum byte is one byte longer, and still bytes.
+pub with-sum-length : (f : List ℕ) → length (withSum f) ≡ length f + 1
+unfolding withSum
+with-sum-length f = length-append f (sumByte f ∷ [])
+
+with-sum-small : (f : List ℕ) → Bytes f → Bytes (withSum f)
+unfolding withSum
+with-sum-small f small = bytes-append f (sumByte f ∷ []) small (sum-byte-lt f, tt)
+
+-- An even number of digits, some and not too many, is sound.
+even-passes : (n : ℕ) → 1 ≤ n → n ≤ 16 → lengthFails (2 * n) ≡ false
+even-passes n low high =
+    rw (ne-eqb (2 * n) 0 (omega arith), ne-eqb (2 * n % 2) 1 (omega arith), le-ltb 32 (2 * n) (omega arith))
+
+module _ (f : List ℕ) where
+  -- A line has two digits for each byte of the frame and for the sum byte.
+  pub line-length : length (lineOf f) ≡ 2 * (length f + 1)
+  unfolding lineOf
+  line-length = hex-length (withSum f) ∙ ap (λ n. 2 * n) (with-sum-length f)
+
+  -- The line of a frame is read as the frame with its sum byte.
+  pub line-back : Bytes f → bytesOf (lineOf f) ≡ withSum f
+  unfolding lineOf
+  line-back small = hex-back (withSum f) (with-sum-small f small)
+
+  line-digits : Bytes f → allDigits (lineOf f) ≡ true
+  unfolding lineOf
+  line-digits small = hex-digits (withSum f) (with-sum-small f small)
+
+  -- The line of a frame that is not too long is sound.
+  pub line-sound : Bytes f → length f ≤ 15 → lineFails (lineOf f) ≡ false
+  unfolding lineFails
+  line-sound small short =
+      rw (line-length, even-passes (length f + 1) (omega arith) (omega arith), line-digits small, line-back small, sum-back f)
+
+-- What a sound line is the line of
+pub record Front (digits : List ℕ) : Type 0 where
+  pub frame : List ℕ
+  pub small : Bytes frame
+  pub short : length frame ≤ 15
+  pub bytes : bytesOf digits ≡ withSum frame
+  pub line : lineOf frame ≡ digits
+
+-- A sound line has digits.
+not-empty : (digits : ℕ) → lengthFails digits ≡ false → 1 ≤ digits
+not-empty digits e =
+    let empty = eqb-false digits 0 (neither _ (eqb (digits % 2) 1) (neither _ (ltb 32 digits) e .0) .0) in
+    omega arith
+
+-- Some bytes of which the sum is right are a frame with its sum byte.
+before-sum : (n : ℕ) (bs : List ℕ) → length bs ≡ suc n → Bytes bs → sumFails bs ≡ false
+    → Bytes (take n bs) × (bs ≡ withSum (take n bs))
+unfolding withSum
+before-sum n bs e small sum =
+    let split : bs ≡ take n bs ++ (getD bs n 0 ∷ []) = sym (take-all (suc n) bs (omega arith)) ∙ take-suc bs n 0 (omega arith) in
+    let parts = bytes-parts (take n bs) (getD bs n 0 ∷ []) (rw split at small) in
+    let last = sum-again (take n bs) (getD bs n 0) (parts .1 .0) (rw split at sum) in
+    (parts .0, split ∙ ap (λ b. take n bs ++ (b ∷ [])) last)
+
+-- A sound line is the line of the frame that is left of its bytes without the last.
+pub front : (line : List ℕ) → lineFails line ≡ false → Front line
+unfolding lineFails lineOf
+front line sound =
+    let tests = neither _ (sumFails (bytesOf line)) sound in
+    let shape = neither (lengthFails (length line)) _ (tests .0) in
+    let digits : allDigits line ≡ true = not-false _ (shape .1) in
+    let even = sound-length (length line) (shape .0) in
+    let full = not-empty (length line) (shape .0) in
+    let n = length line / 2 - 1 in
+    let count : length (bytesOf line) ≡ suc n = bytes-length (length line / 2) line (even .even) ∙ omega arith in
+    let split = before-sum n (bytesOf line) count (bytes-small line digits) (tests .1) in
+    record {
+      frame = take n (bytesOf line);
+      small = split .0;
+      short = rw (length-take-le n (bytesOf line) (omega arith)) (omega arith);
+      bytes = split .1;
+      line = ap hexOf (sym (split .1)) ∙ hex-again (length line / 2) line (even .even) digits;
+    }

@@ -1,0 +1,70 @@
+-- `encoding::numbers::number_in` meets its contract: after i turns it is the number in the first i of the bytes.
+use mathlib.Core.Path.{_≡_}
+use Prim.Native.Nat.{_+_, _-_}
+use native.Mathlib.Omega.{arith}
+use borrow.Author.Needs.{needs}
+use lib.ListN.{length, getD}
+use mir.Syntax.{w8}
+use mir.Val.{Fits}
+use Rattle.encoding.proofs.NumberBytes.{Counting, counted-none, counted-more, counted-all, counted-small}
+use Rattle.encoding.proofs.numbers.number_in.Statement.{statement}
+use Rattle.encoding.proofs.numbers.number_in.Tie as tie
+
+abbrev Inv-loop : tie.InvT-loop
+Inv-loop from width bytes number₀ i₀ number i = Counting bytes from width number i
+
+abbrev μ-loop : tie.MeasureT-loop
+μ-loop from width bytes number₀ i₀ number i = width - i
+
+loop-holds : tie.Need-loop-holds Inv-loop μ-loop
+loop-holds c =
+    let full : length (c .args .t1) ≡ 16 = search needs in
+    counted-none full (c .pre .room) (c .pre .narrow)
+
+mul-number : tie.Need-mul-number Inv-loop μ-loop
+mul-number c = record { fits = omega (arith, counted-small (c .before .loop .inv) (omega arith)) }
+
+add-number : tie.Need-add-number Inv-loop μ-loop
+add-number c = omega arith
+
+array-read-number : tie.Need-array-read-number Inv-loop μ-loop
+array-read-number c = omega arith
+
+cast-number : tie.Need-cast-number Inv-loop μ-loop
+cast-number c = search needs
+
+-- the byte that a turn reads
+byte-small : (c : tie.In-loop Inv-loop μ-loop) → Fits w8 (getD (c .before .before .args .t1) (c .before .before .args .from + c .before .loop .i) 0)
+byte-small c = search needs
+
+add-number-2 : tie.Need-add-number-2 Inv-loop μ-loop
+add-number-2 c = record { fits = omega (arith, counted-small (c .before .loop .inv) (omega arith), byte-small c) }
+
+add-i : tie.Need-add-i Inv-loop μ-loop
+add-i c = omega arith
+
+loop-less : tie.Need-loop-less Inv-loop μ-loop
+loop-less c = omega arith
+
+loop-again : tie.Need-loop-again Inv-loop μ-loop
+loop-again c = counted-more (c .before .loop .inv) (omega arith) (byte-small c .fits)
+
+returns : tie.Need-returns Inv-loop μ-loop
+returns c = counted-all (c .before .loop .inv) (omega arith)
+
+pub number-in-spec : {M : Type 1} → statement M
+number-in-spec =
+    tie.close
+    (tie.spec
+    Inv-loop
+    μ-loop
+    loop-holds
+    mul-number
+    add-number
+    array-read-number
+    cast-number
+    add-number-2
+    add-i
+    loop-less
+    loop-again
+    returns)

@@ -1,0 +1,19 @@
+-- What inner calls may count on. Their callers are proved to see to it.
+use mathlib.Core.List.{List}
+use Prim.Native.Nat.{ℕ, _+_, _*_, _≤_}
+use lib.ListN.{take}
+use Rattle.encoding.specs.declared.Frame.{Frame}
+
+-- The bytes that a frame has so far
+abbrev pub held : Frame → List ℕ
+held frame = take (frame .count) (frame .bytes)
+
+-- A frame of so many bytes has room for a number of `width` more, at most 4.
+pub record Room (count width : ℕ) : Type 0 where
+  pub narrow : width ≤ 4
+  pub room : count + width ≤ 16
+
+-- A frame of so many bytes, without its sum byte, and a line buffer that is long enough for it
+pub record LineInput (count buffer : ℕ) : Type 0 where
+  pub short : count ≤ 15
+  pub long : 2 * (count + 1) ≤ buffer

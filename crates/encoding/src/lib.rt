@@ -1,0 +1,127 @@
+// Frames and lines as they are written: numbers as bytes, the sum byte, hexadecimal digits, and the frame that holds a design.
+ghost use mathlib.Core.Path.{_≡_};
+ghost use mathlib.Core.List.{[], _∷_, _++_};
+ghost use Prim.Native.Nat.{_+_, _≤_, _<_};
+ghost use lib.ListN.{length};
+ghost use Rattle.design.specs.Legal.{Legal};
+ghost use Rattle.tables.specs.Writing.{over};
+ghost use Rattle.encoding.specs.Bytes.{bigEndian};
+ghost use Rattle.encoding.specs.Encode.{digitOf, hexOf, lineOf};
+ghost use Rattle.encoding.specs.DesignBytes.{designBytes};
+ghost use Rattle.encoding.specs.Inputs.{held, Room, LineInput};
+
+pub mod numbers;
+
+use design::Design;
+use design::legal::pair_at;
+
+// A frame while it is put together: its first `count` bytes are there.
+pub struct Frame {
+    pub bytes: [u8; 16],
+    pub count: usize,
+}
+
+impl Frame {
+    // The frame's first byte.
+    pub fn of_kind(kind: u8) -> Frame
+        ensures { λ r. ⌜ held r ≡ kind ∷ [] ⌝ }
+        ensures { λ r. ⌜ r .count ≡ 1 ⌝ }
+    {
+        Frame {
+            bytes: [kind; 16],
+            count: 1,
+        }
+    }
+
+    // inner: the frame with a number of `width` bytes behind what it has.
+    pub fn with(self, width: usize, number: u32) -> Frame
+        requires { ⌜ Room (self .count) width ⌝ }
+        ensures { λ r. ⌜ held r ≡ held self ++ bigEndian width number ⌝ }
+        ensures { λ r. ⌜ r .count ≡ self .count + width ⌝ }
+    {
+        let mut bytes = self.bytes;
+        let mut at = self.count;
+        let mut left = width;
+        while 0 < left {
+            left -= 1;
+            bytes[at] = ((number >> (8 * left)) % 256) as u8;
+            at += 1;
+        }
+        Frame { bytes, count: at }
+    }
+}
+
+// inner: the frame 01 of a legal design, each of whose numbers fits a byte.
+pub fn design_frame(d: Design) -> Frame
+    requires { ⌜ Legal d ⌝ }
+    ensures { λ r. ⌜ held r ≡ designBytes d ⌝ }
+    ensures { λ r. ⌜ r .count ≡ length (designBytes d) ⌝ }
+{
+    let m = d.m;
+    let kind = d.kind as u8;
+    let alpha = d.alpha as u8;
+    let mut frame = Frame {
+        bytes: [
+            1,
+            kind,
+            d.w as u8,
+            d.q as u8,
+            d.g as u8,
+            alpha,
+            m as u8,
+            0,
+            0,
+            0,
+            0,
+            0,
+            0,
+            0,
+            0,
+            0,
+        ],
+        count: 7,
+    };
+    for i in 0..m {
+        let pair = pair_at(d, i);
+        frame = frame.with(1, pair.a).with(1, pair.b);
+    }
+    frame
+}
+
+fn digit_of(n: u8) -> u8
+    requires { ⌜ n < 16 ⌝ }
+    ensures { λ r. ⌜ r ≡ digitOf n ⌝ }
+{
+    if n < 10 {
+        return 48 + n;
+    }
+    55 + n
+}
+
+// The two digits of a byte, from their place in the line on.
+fn put_byte(byte: u8, at: usize, line: &mut [u8])
+    requires { ⌜ at + 2 ≤ length (now line) ⌝ }
+    ensures { λ _. ⌜ now (line .exit) ≡ over (now (line .entry)) at (hexOf (byte ∷ [])) ⌝ }
+{
+    line[at] = digit_of(byte / 16);
+    line[at + 1] = digit_of(byte % 16);
+}
+
+// inner: puts the line of a frame, which is given without its sum byte, at the start of the line buffer. The sum of 15 bytes is far
+// below 2^32, so it is reduced only once, at the end.
+pub fn put_line(frame: Frame, line: &mut [u8])
+    requires { ⌜ LineInput (frame .count) (length (now line)) ⌝ }
+    ensures { λ _. ⌜ now (line .exit) ≡ over (now (line .entry)) 0 (lineOf (held frame)) ⌝ }
+{
+    let bytes = frame.bytes;
+    let count = frame.count;
+    let mut sum: u32 = 0;
+    let mut i = 0;
+    while i < count {
+        let byte = bytes[i];
+        put_byte(byte, 2 * i, line);
+        sum += byte as u32;
+        i += 1;
+    }
+    put_byte(((256 - sum % 256) % 256) as u8, 2 * count, line);
+}

@@ -1,0 +1,118 @@
+// The lines of a set: which line holds what, and the bytes before its entry.
+ghost use mathlib.Core.Path.{_≡_};
+ghost use Prim.Native.Nat.{_<_};
+ghost use lib.ListN.{length};
+ghost use Rattle.design.specs.Cut.{offsetCount};
+ghost use Rattle.design.specs.Legal.{Legal};
+ghost use Rattle.encoding.specs.Inputs.{held};
+ghost use Rattle.lines.specs.Slots.{lineCount, offsetSlot, slotOf};
+ghost use Rattle.lines.specs.Lines.{frameHead, entryWidth};
+ghost use Rattle.lines.specs.Inputs.{LineInput, PlaceInput};
+use design::Design;
+use design::legal::pair_at;
+use design::measure::offset_total;
+use encoding::Frame;
+use encoding::design_frame;
+use values::floor::pow2;
+
+// What a line of a set holds: the design, an initial entry, an offset of a table, which lies at a place among all offsets, or the
+// number of lines before the last.
+pub enum Slot {
+    Design,
+    Initial(u32),
+    Offset { table: u32, index: u32, place: u32 },
+    End(u32),
+}
+
+// inner: how many lines a set has.
+pub fn line_count(d: Design) -> u64
+    requires { ⌜ Legal d ⌝ }
+    ensures { λ r. ⌜ r ≡ lineCount d ⌝ }
+{
+    pow2(d.alpha) + offset_total(d) + 2
+}
+
+// How many offsets table i has.
+fn table_size(d: Design, i: u32) -> u64
+    requires { ⌜ Legal d ⌝ }
+    requires { ⌜ i < d .m ⌝ }
+    ensures { λ r. ⌜ r ≡ offsetCount d i ⌝ }
+{
+    let pair = pair_at(d, i);
+    pow2(pair.a + pair.b)
+}
+
+// The table and the index in it of the offset at a place: at most four tables are looked at.
+fn offset_slot(d: Design, place: u32) -> Slot
+    requires { ⌜ PlaceInput d place ⌝ }
+    ensures { λ r. ⌜ r ≡ offsetSlot d place ⌝ }
+{
+    let at = place as u64;
+    let mut table = 0;
+    let mut start = 0;
+    let mut end = table_size(d, 0);
+    while end <= at {
+        table += 1;
+        start = end;
+        end += table_size(d, table);
+    }
+    let index = (at - start) as u32;
+    Slot::Offset {
+        table,
+        index,
+        place,
+    }
+}
+
+// inner: what line n of a set holds.
+pub fn slot_of(d: Design, n: usize) -> Slot
+    requires { ⌜ LineInput d n ⌝ }
+    ensures { λ r. ⌜ r ≡ slotOf d n ⌝ }
+{
+    if n == 0 {
+        return Slot::Design;
+    }
+    let line = n as u32;
+    let entries = pow2(d.alpha) as u32;
+    if line <= entries {
+        return Slot::Initial(line - 1);
+    }
+    if line as u64 <= entries as u64 + offset_total(d) {
+        return offset_slot(d, line - 1 - entries);
+    }
+    Slot::End(line)
+}
+
+// inner: the frame of a line up to its entry.
+pub fn head_of(d: Design, slot: Slot) -> Frame
+    requires { ⌜ Legal d ⌝ }
+    ensures { λ r. ⌜ held r ≡ frameHead d slot ⌝ }
+    ensures { λ r. ⌜ r .count ≡ length (frameHead d slot) ⌝ }
+{
+    match slot {
+        Slot::Design => design_frame(d),
+        Slot::Initial(index) => Frame::of_kind(2).with(2, index),
+        Slot::Offset {
+            table,
+            index,
+            place: _,
+        } => Frame::of_kind(3).with(1, table).with(2, index),
+        Slot::End(before) => Frame::of_kind(4).with(2, before),
+    }
+}
+
+// inner: how many bytes the entry of a line takes.
+pub fn entry_width(slot: Slot) -> usize
+    ensures { λ r. ⌜ r ≡ entryWidth slot ⌝ }
+{
+    match slot {
+        Slot::Design => 0,
+        Slot::Initial(_) => 3,
+        Slot::Offset {
+            table: _,
+            index: _,
+            place: _,
+        } => 3,
+        Slot::End(_) => 0,
+    }
+}
