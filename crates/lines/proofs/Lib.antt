@@ -3,3 +3,4 @@ pub mod SlotLaws
 pub mod TableLaws
 pub mod HeadLaws
 pub mod FrameLaws
+pub mod Unread

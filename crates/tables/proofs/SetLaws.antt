@@ -35,8 +35,11 @@ module _ (d : Design) (initial offsets : ℕ) where
   unfolding tablesCheck
   offsets-tried h = rw (le-ltb _ _ h)
 
+  pub tables-long : Usable d initial offsets → tablesCheck d initial offsets .fails ≡ false
+  tables-long u = offsets-tried (u .initial-long) ∙ le-ltb _ _ (u .offsets-long)
+
   pub set-passed : Usable d initial offsets → verdict (setChecks d initial offsets) ≡ Verdict.Passed
-  set-passed u = set-lengths false (u .legal) (offsets-tried (u .initial-long) ∙ le-ltb _ _ (u .offsets-long))
+  set-passed u = set-lengths false (u .legal) (tables-long u)
 
   pub usable : verdict (setChecks d initial offsets) ≡ Verdict.Passed → Usable d initial offsets
   unfolding setChecks designVerdict tablesCheck

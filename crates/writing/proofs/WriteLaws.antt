@@ -1,0 +1,127 @@
+-- What the checks of the writer come to, what it finds out about the asked line, and what its answer promises of the line buffer.
+use mathlib.Core.Path.{_≡_, refl, ap, _∙_}
+use mathlib.Core.Bool.{Bool, true}
+use mathlib.Core.List.{List, _++_}
+use Prim.Native.Nat.{ℕ, _+_, _*_, _≤_, _<_}
+use lib.IntN.{ℤ}
+use lib.ListN.{length}
+use borrow.Author.Tests.{le-leb, lt-leb, ltb-false, not-false}
+use Rattle.refusal.specs.declared.Cause.{Cause}
+use Rattle.refusal.specs.declared.Verdict.{Verdict}
+use Rattle.refusal.specs.Numbers.{verdictNumber}
+use Rattle.refusal.specs.Checks.{verdict}
+use Rattle.refusal.proofs.Checks.{verdict-append, none-fails}
+use Rattle.design.specs.declared.Design.{Design}
+use Rattle.tables.specs.Inputs.{Usable}
+use Rattle.tables.specs.Fill.{setChecks}
+use Rattle.tables.specs.Writing.{over}
+use Rattle.tables.proofs.SetLaws.{set-passed}
+use Rattle.tables.proofs.WritingLaws.{over-start}
+use Rattle.encoding.specs.declared.Frame.{Frame}
+use Rattle.encoding.specs.Bytes.{bigEndian}
+use Rattle.encoding.specs.Encode.{lineOf}
+use Rattle.encoding.specs.Inputs.{held}
+use Rattle.encoding.proofs.LineBack.{line-length}
+use Rattle.lines.specs.declared.Slot.{Slot}
+use Rattle.lines.specs.Slots.{lineCount, slotOf}
+use Rattle.lines.specs.Lines.{frameHead, entryWidth, entryNumber, entryFits, frameOf, lineAt}
+use Rattle.lines.specs.Inputs.{SlotIn}
+use Rattle.lines.proofs.SlotLaws.{slot-in}
+use Rattle.lines.proofs.FrameLaws.{frame-length, frame-short, entry-short}
+use Rattle.writing.specs.declared.Written.{Written}
+use Rattle.writing.specs.Write.{numberCheck, lineChecks, writeVerdict, writeAnswer, bufferAfter, refusalOf}
+
+-- "writer 1 to 10, 19, 18, 14"
+module _ (d : Design) (initial : List ℕ) (offsets : List ℤ) (n buffer : ℕ) where
+  -- A set that is refused by 1 to 10 is refused,
+  pub refused-before : {cause : Cause} → verdict (setChecks d (length initial) (length offsets)) ≡ Verdict.Refused cause
+      → writeVerdict d initial offsets n buffer ≡ Verdict.Refused cause
+  unfolding writeVerdict
+  refused-before e = rw (verdict-append, e)
+
+  module _ (u : Usable d (length initial) (length offsets)) where
+    -- a number past the set is refused by 19,
+    pub past-set : lineCount d ≤ n → writeVerdict d initial offsets n buffer ≡ Verdict.Refused Cause.LineNumber
+    unfolding writeVerdict numberCheck
+    past-set h = rw (verdict-append, set-passed _ _ _ u, le-leb _ _ h)
+
+    -- and for one within it 18 and 14 are left.
+    pub within-set : n < lineCount d
+        → writeVerdict d initial offsets n buffer
+        ≡ verdict (lineChecks (entryFits (slotOf d n) initial offsets) (length (lineAt d initial offsets n)) buffer)
+    unfolding writeVerdict numberCheck
+    within-set h = rw (verdict-append, set-passed _ _ _ u, lt-leb _ _ h)
+
+-- What a line that passes 18 and 14 tells: its entry fits, and the line buffer is long enough.
+pub line-passed : (fits : Bool) (line buffer : ℕ) → verdict (lineChecks fits line buffer) ≡ Verdict.Passed
+    → (fits ≡ true) × (line ≤ buffer)
+unfolding lineChecks
+line-passed fits line buffer e =
+    let tests = none-fails (lineChecks fits line buffer) e in
+    (not-false fits (tests .0), ltb-false buffer line (tests .1 .0))
+
+-- The asked line of a set whose tables are long enough: what it holds, its frame up to the entry, and how many bytes the entry takes
+pub record Asked (d : Design) (initial : List ℕ) (offsets : List ℤ) (n : ℕ) (slot : Slot) (head : Frame) (width : ℕ) : Type 0 where
+  pub set : Usable d (length initial) (length offsets)
+  pub within : n < lineCount d
+  pub slot-is : slot ≡ slotOf d n
+  pub head-is : held head ≡ frameHead d slot
+  pub count-is : head .count ≡ length (frameHead d slot)
+  pub width-is : width ≡ entryWidth slot
+
+module _ {d : Design} {initial : List ℕ} {offsets : List ℤ} {n : ℕ} {slot : Slot} {head : Frame} {width : ℕ}
+    (asked : Asked d initial offsets n slot head width) where
+  -- Its entry lies within the tables,
+  pub asked-in : SlotIn slot (length initial) (length offsets)
+  asked-in = rw (asked .slot-is) (slot-in d (length initial) (length offsets) n (asked .set) (asked .within))
+
+  -- it takes at most 3 bytes,
+  pub asked-narrow : width ≤ 3
+  asked-narrow = rw (asked .width-is) (entry-short slot)
+
+  -- and the frame has at most 15, without its sum byte.
+  pub asked-short : head .count + width ≤ 15
+  asked-short = rw (asked .count-is, asked .width-is) (frame-short d (asked .set .legal) slot)
+
+  -- The line has two digits for each byte of the frame and for the sum byte.
+  pub asked-length : length (lineAt d initial offsets n) ≡ 2 * (head .count + width + 1)
+  unfolding lineAt
+  asked-length =
+      rw (asked .count-is, asked .width-is, asked .slot-is)
+      (line-length (frameOf d (slotOf d n) initial offsets)
+      ∙ ap (λ count. 2 * (count + 1)) (frame-length d (slotOf d n) initial offsets))
+
+  -- The writer's verdict is that of 18 and 14,
+  pub asked-verdict : (fits : Bool) (buffer : ℕ) → fits ≡ entryFits slot initial offsets
+      → writeVerdict d initial offsets n buffer ≡ verdict (lineChecks fits (2 * (head .count + width + 1)) buffer)
+  asked-verdict fits buffer fits-is =
+      rw (fits-is, ← asked-length, asked .slot-is) (within-set d initial offsets n buffer (asked .set) (asked .within))
+
+  -- and the line is that of the frame with the entry behind what it has.
+  pub asked-line : {frame : List ℕ} {number : ℕ} → frame ≡ held head ++ bigEndian width number
+      → number ≡ entryNumber slot initial offsets → lineOf frame ≡ lineAt d initial offsets n
+  unfolding lineAt frameOf
+  asked-line frame-is number-is = rw (frame-is, asked .head-is, number-is, asked .width-is, asked .slot-is)
+
+-- The answer and the line buffer, by the verdict
+module _ (d : Design) (initial : List ℕ) (offsets : List ℤ) (n : ℕ) (buffer : List ℕ) where
+  -- What is promised of an answer and of what the line buffer is left with
+  abbrev pub Promised : Written → List ℕ → Type 0
+  Promised r left =
+      (r ≡ writeAnswer d initial offsets n (length buffer))
+      × ((refusalOf r ≡ verdictNumber (writeVerdict d initial offsets n (length buffer)))
+      × (left ≡ bufferAfter d initial offsets n buffer))
+
+  -- A refusal leaves the line buffer as it was,
+  pub refuses : {cause : Cause} → writeVerdict d initial offsets n (length buffer) ≡ Verdict.Refused cause
+      → Promised (Written.Refused cause) buffer
+  unfolding writeAnswer bufferAfter
+  refuses e = rw e (refl, (refl, refl))
+
+  -- and otherwise the line stands at its start.
+  pub writes : {count : ℕ} {left : List ℕ} → writeVerdict d initial offsets n (length buffer) ≡ Verdict.Passed
+      → length (lineAt d initial offsets n) ≡ count → left ≡ over buffer 0 (lineAt d initial offsets n)
+      → Promised (Written.Length count) left
+  unfolding writeAnswer bufferAfter
+  writes e count-is left-is =
+      rw e (rw count-is refl, (refl, left-is ∙ over-start buffer (lineAt d initial offsets n)))

@@ -1,0 +1,185 @@
+-- `writing::write_line` meets its contract: the verdict of the set, then the number, then the line's own checks, then the line.
+use mathlib.Core.Path.{_≡_, sym, ap, _∙_}
+use mathlib.Core.Bool.{true}
+use Prim.Native.Nat.{_+_, _*_, _≤_, _<_}
+use native.Mathlib.Omega.{arith}
+use borrow.Author.Needs.{needs}
+use lib.ListN.{length}
+use Rattle.tables.specs.Inputs.{Usable}
+use Rattle.tables.specs.Writing.{over}
+use Rattle.tables.proofs.SetLaws.{usable}
+use Rattle.lines.specs.Slots.{lineCount}
+use Rattle.writing.specs.Write.{writeVerdict}
+use Rattle.writing.proofs.WriteLaws.{
+  refused-before,
+  past-set,
+  line-passed,
+  Asked,
+  asked-in,
+  asked-narrow,
+  asked-short,
+  asked-length,
+  asked-verdict,
+  asked-line,
+  refuses,
+  writes,
+}
+use Rattle.writing.proofs.write_line.Statement.{statement}
+use Rattle.writing.proofs.write_line.Tie as tie
+
+set-verdict-requires : tie.Need-set-verdict-requires
+set-verdict-requires c κs = search needs
+
+enum-known-cause : tie.Need-enum-known-cause
+enum-known-cause c = search needs
+
+returns : tie.Need-returns
+returns c =
+    let b = c .before in
+    refuses _ _ _ _ _ (refused-before _ _ _ _ _ (sym (b .before .before .set-verdict .ensures) ∙ b .cause .given .1))
+
+enum-told : tie.Need-enum-told
+enum-told c = search needs
+
+-- where the set's verdict passed
+set : (c : tie.After-enum-told) →
+    let a = c .before .before .before .before .before .args in
+    Usable (a .d) (length (a .initial .now)) (length (a .offsets .now))
+set c = usable _ _ _ (sym (c .before .before .set-verdict .ensures) ∙ c .enum-told .given .1)
+
+line-count-requires : tie.Need-line-count-requires
+line-count-requires c κs = set c .legal
+
+returns-2 : tie.Need-returns-2
+returns-2 c =
+    let b = c .before in
+    refuses _ _ _ _ _ (past-set _ _ _ _ _ (set (b .before)) (omega (arith, b .line-count .ensures, c .if1 .taken)))
+
+-- where the number is within the set
+within : (c : tie.Else1) → let a = c .before .before .before .before .before .before .before .args in a .number < lineCount (a .d)
+within c = omega (arith, c .before .line-count .ensures, c .if1 .left)
+
+slot-of-requires : tie.Need-slot-of-requires
+slot-of-requires c κs = record { legal = set (c .before .before) .legal; within = within c }
+
+head-of-requires : tie.Need-head-of-requires
+head-of-requires c κs = set (c .before .before .before) .legal
+
+entry-width-requires : tie.Need-entry-width-requires
+entry-width-requires c κs = search needs
+
+-- what is known of the asked line
+asked : (c : tie.After-entry-width) →
+    let h = c .before in
+    let a = h .before .before .before .before .before .before .before .before .before .args in
+    Asked (a .d) (a .initial .now) (a .offsets .now) (a .number) (h .before .slot-of .result) (h .head-of .result) (c .entry-width .result)
+asked c =
+    let h = c .before in
+    let s = h .before in
+    record {
+      set = set (s .before .before .before);
+      within = within (s .before);
+      slot-is = s .slot-of .ensures;
+      head-is = h .head-of .ensures .0;
+      count-is = h .head-of .ensures .1;
+      width-is = c .entry-width .ensures;
+    }
+
+add-length : tie.Need-add-length
+add-length c = omega (arith, asked-short (asked (c .before)))
+
+add-length-2 : tie.Need-add-length-2
+add-length-2 c = omega (arith, asked-short (asked (c .before)))
+
+mul-length : tie.Need-mul-length
+mul-length c = omega (arith, asked-short (asked (c .before)))
+
+entry-fits-requires : tie.Need-entry-fits-requires
+entry-fits-requires c κs = asked-in (asked (c .before))
+
+line-verdict-requires : tie.Need-line-verdict-requires
+line-verdict-requires c κs = search needs
+
+enum-known-cause-2 : tie.Need-enum-known-cause-2
+enum-known-cause-2 c = search needs
+
+-- the writer's verdict is that of the line
+line-settles : (c : tie.After-line-verdict) →
+    let a = c .before .before .before .before .before .before .before .before .before .before .before .before .before .args in
+    writeVerdict (a .d) (a .initial .now) (a .offsets .now) (a .number) (length (a .line .now)) ≡ c .line-verdict .result
+line-settles c =
+    let e = c .before in
+    asked-verdict (asked (e .before .before)) _ _ (e .entry-fits .ensures) ∙ sym (c .line-verdict .ensures)
+
+returns-3 : tie.Need-returns-3
+returns-3 c =
+    let b = c .before in
+    refuses _ _ _ _ _ (line-settles (b .before .before) ∙ b .cause2 .given .1)
+
+enum-told-2 : tie.Need-enum-told-2
+enum-told-2 c = search needs
+
+-- where the line's verdict passed
+line-good : (c : tie.After-enum-told2) →
+    let e = c .before .before .before in
+    let w = e .before .before in
+    (e .entry-fits .result ≡ true)
+    × (2 * (w .before .head-of .result .count + w .entry-width .result + 1)
+    ≤ length (w .before .before .before .before .before .before .before .before .before .before .args .line .now))
+line-good c = line-passed _ _ _ (sym (c .before .before .line-verdict .ensures) ∙ c .enum-told2 .given .1)
+
+entry-number-requires : tie.Need-entry-number-requires
+entry-number-requires c κs =
+    let e = c .before .before .before in
+    (asked-in (asked (e .before .before)), sym (e .entry-fits .ensures) ∙ line-good c .0)
+
+with-requires : tie.Need-with-requires
+with-requires c κs =
+    let a = asked (c .before .before .before .before .before .before) in
+    record { narrow = omega (arith, asked-narrow a); room = omega (arith, asked-short a) }
+
+put-line-requires : tie.Need-put-line-requires
+put-line-requires c κs =
+    let w = c .before in
+    let told = w .before .before in
+    let a = asked (told .before .before .before .before .before) in
+    record { short = omega (arith, w .with .ensures .1, asked-short a); long = omega (arith, w .with .ensures .1, line-good told .1) }
+
+same-length : tie.Need-same-length
+same-length c = search needs
+
+returns-4 : tie.Need-returns-4
+returns-4 c =
+    let p = c .before .before in
+    let w = p .before .before in
+    let l = w .before .before .before .before in
+    let a = asked (l .before .before .before) in
+    writes _ _ _ _ _ (line-settles l ∙ w .before .before .enum-told2 .given .1) (asked-length a)
+    (p .put-line .ensures ∙ ap (over _ 0) (asked-line a (w .with .ensures .0) (w .before .entry-number .ensures)))
+
+pub write-line-spec : {M : Type 1} → statement M
+write-line-spec =
+    tie.close
+    (tie.spec
+    set-verdict-requires
+    enum-known-cause
+    returns
+    enum-told
+    line-count-requires
+    returns-2
+    slot-of-requires
+    head-of-requires
+    entry-width-requires
+    add-length
+    add-length-2
+    mul-length
+    entry-fits-requires
+    line-verdict-requires
+    enum-known-cause-2
+    returns-3
+    enum-told-2
+    entry-number-requires
+    with-requires
+    put-line-requires
+    same-length
+    returns-4)

@@ -1,0 +1,48 @@
+-- What the call `write_line` answers, "writer 1 to 10, 19, 18, 14", and what it leaves in the line buffer.
+use mathlib.Core.Bool.{Bool, not}
+use mathlib.Core.List.{List, [], _∷_, _++_}
+use Prim.Native.Nat.{ℕ}
+use lib.Dec.{leb, ltb}
+use lib.ListN.{length}
+use lib.IntN.{ℤ}
+use Rattle.refusal.specs.declared.Cause.{Cause}
+use Rattle.refusal.specs.declared.Verdict.{Verdict}
+use Rattle.refusal.specs.Numbers.{numberOf}
+use Rattle.refusal.specs.Checks.{Check, _↝_, verdict}
+use Rattle.design.specs.declared.Design.{Design}
+use Rattle.tables.specs.Fill.{setChecks, leaves}
+use Rattle.lines.specs.Slots.{lineCount, slotOf}
+use Rattle.lines.specs.Lines.{entryFits, lineAt}
+use Rattle.writing.specs.declared.Written.{Written}
+
+-- 19, "line number past the set (lines count from 0)"
+unfoldable pub numberCheck : Design → ℕ → Check
+numberCheck d n = leb (lineCount d) n ↝ Cause.LineNumber
+
+-- 18, "entry does not fit its 3 bytes", then 14, "line buffer shorter than the line"; both concern the asked line only
+unfoldable pub lineChecks : Bool → ℕ → ℕ → List Check
+lineChecks fits line buffer = not fits ↝ Cause.EntryWidth ∷ ltb buffer line ↝ Cause.OutputShort ∷ []
+
+unfoldable pub writeVerdict : Design → List ℕ → List ℤ → ℕ → ℕ → Verdict
+writeVerdict d initial offsets n buffer =
+    verdict (setChecks d (length initial) (length offsets) ++ numberCheck d n
+    ∷ lineChecks (entryFits (slotOf d n) initial offsets) (length (lineAt d initial offsets n)) buffer)
+
+abbrev pub written : Verdict → ℕ → Written
+written Verdict.Passed length = Written.Length length
+written (Verdict.Refused cause) length = Written.Refused cause
+
+-- The writer "returns its length"; n is the asked number, `buffer` the length of the line buffer.
+unfoldable pub writeAnswer : Design → List ℕ → List ℤ → ℕ → ℕ → Written
+writeAnswer d initial offsets n buffer = written (writeVerdict d initial offsets n buffer) (length (lineAt d initial offsets n))
+
+-- "puts the line with the asked number at the start of the line buffer .. and leaves the rest untouched"; a refusal "leaves every
+-- buffer untouched".
+unfoldable pub bufferAfter : Design → List ℕ → List ℤ → ℕ → List ℕ → List ℕ
+bufferAfter d initial offsets n buffer =
+    leaves (writeVerdict d initial offsets n (length buffer)) (lineAt d initial offsets n) buffer
+
+-- Document 01's number of an answer: 0 for a length.
+abbrev pub refusalOf : Written → ℕ
+refusalOf (Written.Length length) = 0
+refusalOf (Written.Refused cause) = numberOf cause

@@ -1,0 +1,111 @@
+// The writer: one line of a set a call, by its number.
+ghost use mathlib.Core.Path.{_≡_};
+ghost use mathlib.Core.Bool.{true};
+ghost use lib.ListN.{length};
+ghost use Rattle.refusal.specs.Numbers.{verdictNumber};
+ghost use Rattle.refusal.specs.Checks.{verdict};
+ghost use Rattle.lines.specs.Lines.{entryFits, entryNumber};
+ghost use Rattle.lines.specs.Inputs.{SlotIn};
+ghost use Rattle.writing.specs.Write.{lineChecks, writeVerdict, writeAnswer, bufferAfter, refusalOf};
+use design::Design;
+use encoding::numbers::complement;
+use encoding::numbers::fits_signed;
+use encoding::put_line;
+use lines::Slot;
+use lines::entry_width;
+use lines::head_of;
+use lines::line_count;
+use lines::slot_of;
+use refusal::Cause;
+use refusal::Verdict;
+use tables::set_verdict;
+
+// What `write_line` answers: how many digits the line has.
+pub enum Written {
+    Length(usize),
+    Refused(Cause),
+}
+
+// Whether the entry of a line fits its 3 bytes.
+fn entry_fits(slot: Slot, initial: &[u32], offsets: &[i32]) -> bool
+    requires { ⌜ SlotIn slot (length (now initial)) (length (now offsets)) ⌝ }
+    ensures { λ r. ⌜ r ≡ entryFits slot (now (initial .entry)) (now (offsets .entry)) ⌝ }
+{
+    match slot {
+        Slot::Design => true,
+        Slot::Initial(index) => initial[index as usize] < 16777216,
+        Slot::Offset {
+            table: _,
+            index: _,
+            place,
+        } => fits_signed(offsets[place as usize]),
+        Slot::End(_) => true,
+    }
+}
+
+// The entry of a line as it is written.
+fn entry_number(slot: Slot, initial: &[u32], offsets: &[i32]) -> u32
+    requires { ⌜ SlotIn slot (length (now initial)) (length (now offsets)) ⌝ }
+    requires { ⌜ entryFits slot (now initial) (now offsets) ≡ true ⌝ }
+    ensures { λ r. ⌜ r ≡ entryNumber slot (now (initial .entry)) (now (offsets .entry)) ⌝ }
+{
+    match slot {
+        Slot::Design => 0,
+        Slot::Initial(index) => initial[index as usize],
+        Slot::Offset {
+            table: _,
+            index: _,
+            place,
+        } => complement(offsets[place as usize]),
+        Slot::End(_) => 0,
+    }
+}
+
+// 18 and 14 of the asked line, by its length and that of the line buffer.
+fn line_verdict(fits: bool, line: usize, buffer: usize) -> Verdict
+    ensures { λ r. ⌜ r ≡ verdict (lineChecks fits line buffer) ⌝ }
+{
+    if !fits {
+        return Verdict::Refused(Cause::EntryWidth);
+    }
+    if buffer < line {
+        return Verdict::Refused(Cause::OutputShort);
+    }
+    Verdict::Passed
+}
+
+// Puts line `number` of the set at the start of the line buffer (document 01, "Bits, lines and the report"). Nothing is written before
+// every check has passed.
+pub fn write_line(
+    d: Design,
+    initial: &[u32],
+    offsets: &[i32],
+    number: usize,
+    line: &mut [u8],
+) -> Written
+    ensures answer { λ r.
+        ⌜ r ≡ writeAnswer d (now (initial .entry)) (now (offsets .entry)) number (length (now (line .entry))) ⌝ }
+    ensures number { λ r.
+        ⌜ refusalOf r
+        ≡ verdictNumber (writeVerdict d (now (initial .entry)) (now (offsets .entry)) number (length (now (line .entry)))) ⌝ }
+    ensures line_buffer { λ r.
+        ⌜ now (line .exit) ≡ bufferAfter d (now (initial .entry)) (now (offsets .entry)) number (now (line .entry)) ⌝ }
+{
+    if let Verdict::Refused(cause) = set_verdict(d, initial.len(), offsets.len()) {
+        return Written::Refused(cause);
+    }
+    if line_count(d) <= number as u64 {
+        return Written::Refused(Cause::LineNumber);
+    }
+    let slot = slot_of(d, number);
+    let head = head_of(d, slot);
+    let width = entry_width(slot);
+    let length = 2 * (head.count + width + 1);
+    let fits = entry_fits(slot, initial, offsets);
+    if let Verdict::Refused(cause) = line_verdict(fits, length, line.len()) {
+        return Written::Refused(cause);
+    }
+    let frame = head.with(width, entry_number(slot, initial, offsets));
+    put_line(frame, line);
+    Written::Length(length)
+}
