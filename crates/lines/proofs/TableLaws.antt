@@ -24,7 +24,7 @@ lines-small d legal = omega (arith, initial-count-small d (limits d legal), offs
 
 module _ (d : Design) where
   -- Tables begin one after another,
-  starts-rise : (i n : ℕ) → i ≤ n → tableStart d i ≤ tableStart d n
+  pub starts-rise : (i n : ℕ) → i ≤ n → tableStart d i ≤ tableStart d n
   unfolding tableStart
   starts-rise = sum-mono (offsetCount d)
 

@@ -1,0 +1,199 @@
+-- What a sound line comes to: the answer, and the tables after it. The line is given as `decode` does, as its bytes with zeros behind
+-- them and their number.
+use mathlib.Core.Path.{_≡_, refl, sym, ap, _∙_}
+use mathlib.Core.Bool.{Bool, true, false, not, _||_, or-true}
+use mathlib.Core.List.{List, [], _∷_}
+use Prim.Native.Nat.{ℕ, zero, suc, _+_, _≤_, _<_}
+use native.Mathlib.Omega.{arith}
+use lib.Dec.{leb, eqb}
+use lib.IntN.{ℤ}
+use lib.ListN.{length, take, drop}
+use lib.Seq.{take-take, take-nil, length-take-le}
+use borrow.Author.Tests.{eqb-true, le-leb, lt-leb, not-false}
+use Rattle.refusal.specs.declared.Cause.{Cause}
+use Rattle.refusal.specs.declared.Verdict.{Verdict}
+use Rattle.refusal.specs.Checks.{_↝_, verdict}
+use Rattle.refusal.proofs.Checks.{after, verdict-append, neither}
+use Rattle.design.specs.declared.Design.{Design}
+use Rattle.tables.specs.Fill.{tablesCheck, setChecks}
+use Rattle.frames.specs.DesignFrame.{frameFails, frameDesign}
+use Rattle.frames.specs.DesignFrame as DesignFrame
+use Rattle.frames.proofs.FrameLaws.{frameFails-padded, frameDesign-padded}
+use Rattle.encoding.specs.Bytes.{numberIn}
+use Rattle.lines.specs.declared.Slot.{Slot}
+use Rattle.lines.specs.Slots.{lineCount, slotOf}
+use Rattle.lines.specs.Lines.{frameHead, entryWidth}
+use Rattle.reading.specs.declared.Reading.{Reading}
+use Rattle.reading.specs.declared.Read.{Read}
+use Rattle.reading.specs.Inputs.{Sound, Begun}
+use Rattle.reading.specs.ReadLine.{
+  headFails,
+  frameVerdict,
+  answerIf,
+  entryIn,
+  initialStored,
+  offsetsStored,
+  session,
+  afterFrame,
+}
+use Rattle.reading.proofs.BeginsLaws.{begins-front}
+use Rattle.reading.proofs.ReadLaws.{first-design, later-design, first-checks, later-checks}
+
+-- Bytes within the first `count` are the same among these as among all.
+within-front : (bytes : List ℕ) (count from n : ℕ) → from + n ≤ count → take n (drop from (take count bytes)) ≡ take n (drop from bytes)
+within-front bytes count zero n h = take-take n count bytes (omega arith)
+within-front [] count (suc from) n h = rw (take-nil {A = ℕ} count)
+within-front (byte ∷ bytes) zero (suc from) n h = absurd (omega arith)
+within-front (byte ∷ bytes) (suc count) (suc from) n h = within-front bytes count from n (omega arith)
+
+-- A frame of the right number of bytes has the head that is due where all bytes have it; one of another number is not due at all.
+heads-same : (head : List ℕ) (width : ℕ) (bytes : List ℕ) (count : ℕ)
+    → headFails head width (take count bytes) count ≡ headFails head width bytes count
+unfolding headFails
+heads-same head width bytes count = go (eqb count (length head + width + 1)) refl
+  where
+    go : (right : Bool) → eqb count (length head + width + 1) ≡ right
+        → headFails head width (take count bytes) count ≡ headFails head width bytes count
+    go true e = rw (begins-front bytes head count (omega (arith, eqb-true count (length head + width + 1) e)))
+    go false e = rw e
+
+-- The answer to a refused line: the state stands.
+abbrev pub refusedAnswer : Reading → Cause → Read
+refusedAnswer state cause = record { verdict = Verdict.Refused cause; state = state }
+
+module _ (bytes : List ℕ) (count : ℕ) (full : length bytes ≡ 16) (sound : Sound bytes count) where
+  frame-length : length (take count bytes) ≡ count
+  frame-length = length-take-le count bytes (omega (arith, sound .short))
+
+  -- The zeros behind a frame change nothing of the design in it.
+  fails-same : frameFails (take count bytes) count ≡ frameFails bytes count
+  fails-same = sym (frameFails-padded (take count bytes) count) ∙ ap (λ (l : List ℕ). frameFails l count) (sym (sound .zeros))
+
+  design-same : frameDesign (take count bytes) ≡ frameDesign bytes
+  design-same = sym (frameDesign-padded (take count bytes)) ∙ ap frameDesign (sym (sound .zeros))
+
+  -- The first line is tried as a frame 01, and then for its design and for the tables' lengths.
+  module _ (state : Reading) (none : state .taken ≡ 0) (initial offsets : ℕ) where
+    first-verdict : frameVerdict state initial offsets (take count bytes)
+        ≡ after (verdict (DesignFrame.frameChecks bytes count)) (verdict (setChecks (frameDesign bytes) initial offsets))
+    unfolding frameVerdict DesignFrame.frameChecks
+    first-verdict =
+        rw (first-checks state initial offsets (take count bytes) none, frame-length, fails-same, design-same)
+        (verdict-append (DesignFrame.frameChecks bytes count) (setChecks (frameDesign bytes) initial offsets))
+
+    pub first-not-due : (cause : Cause) → verdict (DesignFrame.frameChecks bytes count) ≡ Verdict.Refused cause
+        → refusedAnswer state cause ≡ answerIf (frameVerdict state initial offsets (take count bytes)) state (take count bytes)
+    first-not-due cause e = rw (first-verdict, e)
+
+    module _ (due : verdict (DesignFrame.frameChecks bytes count) ≡ Verdict.Passed) where
+      pub first-refused : (cause : Cause) → verdict (setChecks (frameDesign bytes) initial offsets) ≡ Verdict.Refused cause
+          → refusedAnswer state cause ≡ answerIf (frameVerdict state initial offsets (take count bytes)) state (take count bytes)
+      first-refused cause e = rw (first-verdict, due, e)
+
+      pub first-accepted : verdict (setChecks (frameDesign bytes) initial offsets) ≡ Verdict.Passed
+          → _≡_ {A = Read} (record { verdict = Verdict.Passed; state = record { design = frameDesign bytes; taken = 1 } })
+          (answerIf (frameVerdict state initial offsets (take count bytes)) state (take count bytes))
+      first-accepted e = rw (first-verdict, due, e, first-design state (take count bytes) none, design-same, none)
+
+-- A later frame is not the one due, by its bytes and their number.
+abbrev pub notDue : Reading → List ℕ → ℕ → Bool
+notDue state bytes count =
+    let slot = slotOf (state .design) (state .taken) in
+    headFails (frameHead (state .design) slot) (entryWidth slot) bytes count
+
+-- The number in the 3 bytes behind a head
+abbrev pub behind : ℕ → List ℕ → ℕ
+behind from bytes = numberIn (take 3 (drop from bytes))
+
+-- What the reading of a frame has to come to: this answer, and these tables
+abbrev pub Outcome : Reading → List ℕ → List ℤ → List ℕ → Read → List ℕ → List ℤ → Type 0
+Outcome state initial offsets frame answer initial-after offsets-after =
+    let next = afterFrame (session state initial offsets) frame in
+    (answer ≡ answerIf (frameVerdict state (length initial) (length offsets) frame) state frame)
+    × ((initial-after ≡ next .initial) × (offsets-after ≡ next .offsets))
+
+module _ (state : Reading) (initial : List ℕ) (offsets : List ℤ) (frame : List ℕ) where
+  pub refused-outcome : (cause : Cause) (answer : Read) → answer ≡ refusedAnswer state cause
+      → frameVerdict state (length initial) (length offsets) frame ≡ Verdict.Refused cause
+      → Outcome state initial offsets frame answer initial offsets
+  unfolding afterFrame
+  refused-outcome cause answer is e = rw (is, e) (refl, (refl, refl))
+
+-- A later line is tried for the frame that is due, and then for the tables' lengths.
+module _ (bytes : List ℕ) (count : ℕ) (full : length bytes ≡ 16) (sound : Sound bytes count) (state : Reading) (begun : Begun state)
+    (initial offsets : ℕ) where
+  later-verdict : frameVerdict state initial offsets (take count bytes)
+      ≡ verdict
+      ((leb (lineCount (state .design)) (state .taken) || notDue state bytes count) ↝ Cause.Frame
+      ∷ tablesCheck (state .design) initial offsets ∷ [])
+  unfolding frameVerdict
+  later-verdict =
+      let slot = slotOf (state .design) (state .taken) in
+      rw (
+        later-checks state initial offsets (take count bytes) (begun .some),
+        frame-length bytes count full sound,
+        heads-same (frameHead (state .design) slot) (entryWidth slot) bytes count,
+      )
+
+  pub nothing-due : lineCount (state .design) ≤ state .taken
+      → frameVerdict state initial offsets (take count bytes) ≡ Verdict.Refused Cause.Frame
+  nothing-due h = later-verdict ∙ rw (le-leb _ _ h)
+
+  pub other-due : notDue state bytes count ≡ true → frameVerdict state initial offsets (take count bytes) ≡ Verdict.Refused Cause.Frame
+  other-due e = later-verdict ∙ rw (e, or-true)
+
+  module _ (within : state .taken < lineCount (state .design)) (due : notDue state bytes count ≡ false) where
+    pub later-short : tablesCheck (state .design) initial offsets .fails ≡ true
+        → frameVerdict state initial offsets (take count bytes) ≡ Verdict.Refused Cause.TablesShort
+    unfolding tablesCheck
+    later-short e = later-verdict ∙ rw (lt-leb _ _ within, due, e)
+
+    pub later-accepted : tablesCheck (state .design) initial offsets .fails ≡ false
+        → frameVerdict state initial offsets (take count bytes) ≡ Verdict.Passed
+    later-accepted e = later-verdict ∙ rw (lt-leb _ _ within, due, e)
+
+-- The number that is stored: where there is an entry, its 3 bytes lie within the frame.
+module _ (d : Design) (bytes : List ℕ) (count : ℕ) where
+  initial-same : (slot : Slot) (initial : List ℕ) → length (frameHead d slot) + entryWidth slot ≤ count
+      → initialStored slot (behind (length (frameHead d slot)) bytes) initial
+      ≡ initialStored slot (entryIn d slot (take count bytes)) initial
+  unfolding initialStored entryIn entryWidth
+  initial-same Slot.Design initial h = refl
+  initial-same (Slot.Initial index) initial h = rw (within-front bytes count (length (frameHead d (Slot.Initial index))) 3 h)
+  initial-same (Slot.Offset table index place) initial h = refl
+  initial-same (Slot.End before) initial h = refl
+
+  offsets-same : (slot : Slot) (offsets : List ℤ) → length (frameHead d slot) + entryWidth slot ≤ count
+      → offsetsStored slot (behind (length (frameHead d slot)) bytes) offsets
+      ≡ offsetsStored slot (entryIn d slot (take count bytes)) offsets
+  unfolding offsetsStored entryIn entryWidth
+  offsets-same Slot.Design offsets h = refl
+  offsets-same (Slot.Initial index) offsets h = refl
+  offsets-same (Slot.Offset table index place) offsets h =
+      rw (within-front bytes count (length (frameHead d (Slot.Offset table index place))) 3 h)
+  offsets-same (Slot.End before) offsets h = refl
+
+-- A frame that is due has room for its entry.
+due-long : (head : List ℕ) (width : ℕ) (bytes : List ℕ) (count : ℕ) → headFails head width bytes count ≡ false
+    → length head + width ≤ count
+unfolding headFails
+due-long head width bytes count e =
+    let due = length head + width + 1 in
+    omega (arith, eqb-true count due (not-false (eqb count due) (neither (not (eqb count due)) _ e .0)))
+
+-- The answer to a frame that is accepted, and the tables after it
+module _ (state : Reading) (begun : Begun state) (initial : List ℕ) (offsets : List ℤ) (bytes : List ℕ) (count : ℕ) where
+  pub accepted-outcome : notDue state bytes count ≡ false
+      → frameVerdict state (length initial) (length offsets) (take count bytes) ≡ Verdict.Passed
+      → let slot = slotOf (state .design) (state .taken) in
+      let number = behind (length (frameHead (state .design) slot)) bytes in
+      Outcome state initial offsets (take count bytes)
+      (record { verdict = Verdict.Passed; state = record { design = state .design; taken = state .taken + 1 } })
+      (initialStored slot number initial)
+      (offsetsStored slot number offsets)
+  unfolding afterFrame
+  accepted-outcome due e =
+      let slot = slotOf (state .design) (state .taken) in
+      let long = due-long (frameHead (state .design) slot) (entryWidth slot) bytes count due in
+      rw (e, later-design state (take count bytes) (begun .some))
+      (refl, (initial-same (state .design) bytes count slot initial long, offsets-same (state .design) bytes count slot offsets long))

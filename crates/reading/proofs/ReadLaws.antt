@@ -1,0 +1,143 @@
+-- What is tried on a first line and on a later one, and what a line that passes tells.
+use mathlib.Core.Path.{_≡_, refl, sym, ap, _∙_}
+use mathlib.Core.Bool.{Bool, true, false, _||_, _&&_, true≢false}
+use mathlib.Core.List.{List, [], _∷_}
+use Prim.Native.Nat.{ℕ, _<_}
+use native.Mathlib.Omega.{arith}
+use lib.Dec.{leb}
+use lib.ListN.{length}
+use borrow.Author.Tests.{leb-true, leb-false, le-leb, lt-leb, ne-eqb, not-false}
+use Rattle.refusal.specs.declared.Cause.{Cause}
+use Rattle.refusal.specs.declared.Verdict.{Verdict}
+use Rattle.refusal.specs.Checks.{Check, _↝_, verdict}
+use Rattle.refusal.proofs.Checks.{neither, none-fails, passed-append}
+use Rattle.design.specs.Legal.{designVerdict}
+use Rattle.tables.specs.Inputs.{Usable}
+use Rattle.tables.specs.Fill.{tablesCheck, setChecks}
+use Rattle.tables.proofs.SetLaws.{usable, set-passed}
+use Rattle.tables.proofs.CheckLaws.{both}
+use Rattle.frames.specs.Hex.{bytesOf}
+use Rattle.frames.specs.Line.{lineFails, lineChecks}
+use Rattle.frames.specs.DesignFrame.{frameFails, frameDesign}
+use Rattle.lines.specs.Slots.{lineCount, slotOf}
+use Rattle.lines.specs.Lines.{frameHead, entryWidth}
+use Rattle.reading.specs.declared.Reading.{Reading}
+use Rattle.reading.specs.Inputs.{Begun}
+use Rattle.reading.specs.ReadLine.{passes, possible, stateCheck, designOf, headFails, frameFailsIn, frameChecks, readVerdict}
+
+-- A later frame is not the one due.
+abbrev pub dueFails : Reading → List ℕ → Bool
+dueFails state bytes =
+    let slot = slotOf (state .design) (state .taken) in
+    headFails (frameHead (state .design) slot) (entryWidth slot) bytes (length bytes)
+
+module _ (state : Reading) where
+  -- the design that counts
+  pub first-design : (bytes : List ℕ) → state .taken ≡ 0 → designOf state bytes ≡ frameDesign bytes
+  unfolding designOf
+  first-design bytes e = rw e
+
+  pub later-design : (bytes : List ℕ) → 0 < state .taken → designOf state bytes ≡ state .design
+  unfolding designOf
+  later-design bytes h = rw (ne-eqb (state .taken) 0 (λ z. omega arith))
+
+  -- the checks on a sound line
+  module _ (initial offsets : ℕ) (bytes : List ℕ) where
+    pub first-checks : state .taken ≡ 0
+        → frameChecks state initial offsets bytes ≡ frameFails bytes (length bytes) ↝ Cause.Frame ∷ setChecks (frameDesign bytes) initial offsets
+    unfolding frameChecks frameFailsIn setChecks
+    first-checks e = rw (first-design bytes e, e)
+
+    abbrev pub laterChecks : List Check
+    laterChecks =
+        (leb (lineCount (state .design)) (state .taken) || dueFails state bytes) ↝ Cause.Frame
+        ∷ tablesCheck (state .design) initial offsets ∷ []
+
+    pub later-checks : 0 < state .taken → frameChecks state initial offsets bytes ≡ laterChecks
+    unfolding frameChecks frameFailsIn
+    later-checks h = rw (later-design bytes h, ne-eqb (state .taken) 0 (λ z. omega arith))
+
+  -- the state
+  pub first-possible : state .taken ≡ 0 → possible state ≡ true
+  unfolding possible
+  first-possible e = rw e
+
+  pub later-possible : 0 < state .taken
+      → possible state ≡ passes (designVerdict (state .design)) && leb (state .taken) (lineCount (state .design))
+  unfolding possible
+  later-possible h = rw (ne-eqb (state .taken) 0 (λ z. omega arith))
+
+passes-passed : (v : Verdict) → passes v ≡ true → v ≡ Verdict.Passed
+passes-passed Verdict.Passed e = refl
+passes-passed (Verdict.Refused cause) e = absurd (true≢false (sym e))
+
+-- A possible state in which a line is taken
+module _ (state : Reading) where
+  pub begun : 0 < state .taken → possible state ≡ true → Begun state
+  begun h e =
+      let parts = both (passes (designVerdict (state .design))) _ (sym (later-possible state h) ∙ e) in
+      record {
+        some = h;
+        legal = passes-passed _ (parts .0);
+        within = leb-true _ _ (parts .1);
+      }
+
+  pub begun-possible : Begun state → possible state ≡ true
+  begun-possible b = later-possible state (b .some) ∙ rw (b .legal, le-leb _ _ (b .within))
+
+-- A line that passes
+pub record Passing (state : Reading) (initial offsets : ℕ) (line : List ℕ) : Type 0 where
+  pub state-possible : possible state ≡ true
+  pub line-sound : lineFails line ≡ false
+  pub frame-passed : verdict (frameChecks state initial offsets (bytesOf line)) ≡ Verdict.Passed
+
+module _ (state : Reading) (initial offsets : ℕ) where
+  pub passing : (line : List ℕ) → readVerdict state initial offsets line ≡ Verdict.Passed → Passing state initial offsets line
+  unfolding readVerdict stateCheck lineChecks
+  passing line e =
+      let parts = passed-append (stateCheck state ∷ lineChecks line) (frameChecks state initial offsets (bytesOf line)) e in
+      let sound = none-fails (stateCheck state ∷ lineChecks line) (parts .0) in
+      record {
+        state-possible = not-false (possible state) (sound .0);
+        line-sound = sound .1 .0;
+        frame-passed = parts .1;
+      }
+
+  pub passed : (line : List ℕ) → Passing state initial offsets line → readVerdict state initial offsets line ≡ Verdict.Passed
+  unfolding readVerdict stateCheck lineChecks
+  passed line p = rw (p .state-possible, p .line-sound, p .frame-passed)
+
+  module _ (bytes : List ℕ) where
+    -- the first line
+    pub record First : Type 0 where
+      pub frame : frameFails bytes (length bytes) ≡ false
+      pub tables : Usable (frameDesign bytes) initial offsets
+
+    pub first-passing : state .taken ≡ 0 → verdict (frameChecks state initial offsets bytes) ≡ Verdict.Passed → First
+    first-passing z e =
+        let parts = passed-append (frameFails bytes (length bytes) ↝ Cause.Frame ∷ []) (setChecks (frameDesign bytes) initial offsets)
+        (ap verdict (sym (first-checks state initial offsets bytes z)) ∙ e) in
+        record {
+          frame = none-fails (frameFails bytes (length bytes) ↝ Cause.Frame ∷ []) (parts .0) .0;
+          tables = usable _ _ _ (parts .1);
+        }
+
+    pub first-passed : state .taken ≡ 0 → First → verdict (frameChecks state initial offsets bytes) ≡ Verdict.Passed
+    first-passed z p = rw (first-checks state initial offsets bytes z, p .frame) (set-passed _ _ _ (p .tables))
+
+    -- a later one
+    pub record Later : Type 0 where
+      pub within : state .taken < lineCount (state .design)
+      pub head : dueFails state bytes ≡ false
+      pub tables : tablesCheck (state .design) initial offsets .fails ≡ false
+
+    pub later-passing : 0 < state .taken → verdict (frameChecks state initial offsets bytes) ≡ Verdict.Passed → Later
+    later-passing h e =
+        let tried = none-fails (laterChecks state initial offsets bytes)
+        (ap verdict (sym (later-checks state initial offsets bytes h)) ∙ e) in
+        let due = neither _ (dueFails state bytes) (tried .0) in
+        record { within = leb-false _ _ (due .0); head = due .1; tables = tried .1 .0 }
+
+    pub later-passed : 0 < state .taken → Later → verdict (frameChecks state initial offsets bytes) ≡ Verdict.Passed
+    later-passed h p =
+        rw (later-checks state initial offsets bytes h, lt-leb _ _ (p .within), p .head, p .tables)

@@ -1,0 +1,147 @@
+-- What a line comes to, sound or not: the answer, its number, and the tables after it.
+use mathlib.Core.Path.{_≡_, refl, sym, ap, _∙_}
+use mathlib.Core.Bool.{true, false}
+use mathlib.Core.List.{List}
+use Prim.Native.Nat.{ℕ, _/_, _-_, _≤_}
+use native.Mathlib.Omega.{arith}
+use lib.IntN.{ℤ}
+use lib.ListN.{length, take, replicate}
+use lib.Seq.{take-append-seam}
+use Rattle.refusal.specs.declared.Cause.{Cause}
+use Rattle.refusal.specs.declared.Verdict.{Verdict}
+use Rattle.refusal.specs.Checks.{verdict}
+use Rattle.refusal.specs.Numbers.{verdictNumber}
+use Rattle.refusal.proofs.Checks.{verdict-append, neither, none-fails}
+use Rattle.frames.specs.declared.Decoded.{Decoded}
+use Rattle.frames.specs.Hex.{bytesOf}
+use Rattle.frames.specs.Line.{lengthFails, lineFails, lineChecks, padded, decoded}
+use Rattle.frames.proofs.LineLaws.{whole, sound-length, decoded-verdict, decoded-passed}
+use Rattle.encoding.proofs.HexBack.{bytes-length}
+use Rattle.lines.specs.declared.Slot.{Slot}
+use Rattle.lines.specs.Slots.{slotOf}
+use Rattle.lines.proofs.SlotLaws.{slot-first}
+use Rattle.reading.specs.declared.Reading.{Reading}
+use Rattle.reading.specs.declared.Read.{Read}
+use Rattle.reading.specs.Inputs.{Sound}
+use Rattle.reading.specs.ReadLine.{
+  possible,
+  stateCheck,
+  designOf,
+  frameChecks,
+  frameVerdict,
+  readVerdict,
+  answerIf,
+  readAnswer,
+  initialStored,
+  offsetsStored,
+  session,
+  movedIf,
+  afterFrame,
+  verdictOn,
+  after,
+}
+use Rattle.reading.proofs.LineSteps.{refusedAnswer, Outcome}
+
+-- The bytes of a line that is not refused are 16 at most.
+bytes-short : (line : List ℕ) → lineFails line ≡ false → length (bytesOf line) ≤ 16
+unfolding lineFails
+bytes-short line e =
+    let sound = sound-length (length line) (neither (lengthFails (length line)) _ (neither _ _ e .0) .0) in
+    omega (arith, bytes-length (length line / 2) line (sound .even), sound .short)
+
+-- What `decode` gives for a line
+module _ (line : List ℕ) (held : Decoded) (held-is : held ≡ decoded line) where
+  pub line-told : (v : Verdict) → held .verdict ≡ v → verdict (lineChecks line) ≡ v
+  line-told v e = sym (decoded-verdict line) ∙ ap (λ (h : Decoded). h .verdict) (sym held-is) ∙ e
+
+  -- A line that it accepts is held whole.
+  module _ (passed : held .verdict ≡ Verdict.Passed) where
+    held-whole : held ≡ whole line
+    held-whole = held-is ∙ decoded-passed line (ap (λ (h : Decoded). h .verdict) (sym held-is) ∙ passed)
+
+    front : take (length (bytesOf line)) (padded (bytesOf line)) ≡ bytesOf line
+    unfolding padded
+    front = take-append-seam (bytesOf line) (replicate (16 - length (bytesOf line)) 0)
+
+    pub frame-held : take (held .count) (held .bytes) ≡ bytesOf line
+    frame-held = rw held-whole front
+
+    pub sound-held : Sound (held .bytes) (held .count)
+    unfolding lineChecks
+    sound-held =
+        rw held-whole
+        (record {
+          short = bytes-short line (none-fails (lineChecks line) (line-told Verdict.Passed passed) .0);
+          zeros = rw front;
+        })
+
+-- What the reading of a line has to come to: this answer, its number, and these tables
+abbrev pub LineOutcome : Reading → List ℕ → List ℤ → List ℕ → Read → List ℕ → List ℤ → Type 0
+LineOutcome state initial offsets line answer initial-after offsets-after =
+    let next = after (session state initial offsets) line in
+    (answer ≡ readAnswer state (length initial) (length offsets) line)
+    × ((verdictNumber (answer .verdict) ≡ verdictNumber (readVerdict state (length initial) (length offsets) line))
+    × ((initial-after ≡ next .initial) × (offsets-after ≡ next .offsets)))
+
+module _ (state : Reading) (initial : List ℕ) (offsets : List ℤ) (line : List ℕ) where
+  line-refused : (cause : Cause) (answer : Read) → answer ≡ refusedAnswer state cause
+      → readVerdict state (length initial) (length offsets) line ≡ Verdict.Refused cause
+      → LineOutcome state initial offsets line answer initial offsets
+  unfolding readAnswer after verdictOn
+  line-refused cause answer is e = rw (is, e) (refl, (refl, (refl, refl)))
+
+  -- The state is not possible.
+  pub impossible : (answer : Read) → answer ≡ refusedAnswer state Cause.State → possible state ≡ false
+      → LineOutcome state initial offsets line answer initial offsets
+  unfolding readVerdict stateCheck
+  impossible answer is e = line-refused Cause.State answer is (rw e)
+
+  module _ (possible-state : possible state ≡ true) where
+    -- The line is not sound.
+    pub unsound : (cause : Cause) (answer : Read) → answer ≡ refusedAnswer state cause
+        → verdict (lineChecks line) ≡ Verdict.Refused cause
+        → LineOutcome state initial offsets line answer initial offsets
+    unfolding readVerdict stateCheck
+    unsound cause answer is e =
+        line-refused cause answer is
+        (rw (possible-state, verdict-append (lineChecks line) (frameChecks state (length initial) (length offsets) (bytesOf line)), e))
+
+    -- A sound line comes to what its frame comes to.
+    module _ (sound : verdict (lineChecks line) ≡ Verdict.Passed) where
+      frame-decides : readVerdict state (length initial) (length offsets) line
+          ≡ frameVerdict state (length initial) (length offsets) (bytesOf line)
+      unfolding readVerdict stateCheck frameVerdict
+      frame-decides =
+          rw (
+            possible-state,
+            verdict-append (lineChecks line) (frameChecks state (length initial) (length offsets) (bytesOf line)),
+            sound,
+          )
+
+      pub line-outcome : (answer : Read) (initial-after : List ℕ) (offsets-after : List ℤ)
+          → Outcome state initial offsets (bytesOf line) answer initial-after offsets-after
+          → LineOutcome state initial offsets line answer initial-after offsets-after
+      unfolding readAnswer after verdictOn afterFrame
+      line-outcome answer initial-after offsets-after o =
+          rw frame-decides (o .0, (ap (λ (r : Read). verdictNumber (r .verdict)) (o .0), o .1))
+
+-- The first line stores nothing.
+module _ (state : Reading) (none : state .taken ≡ 0) (initial : List ℕ) (offsets : List ℤ) (frame : List ℕ) where
+  no-entry : slotOf (designOf state frame) (state .taken) ≡ Slot.Design
+  no-entry = ap (slotOf (designOf state frame)) none ∙ slot-first (designOf state frame)
+
+  initial-kept : (v : Verdict) → initial ≡ movedIf v (session state initial offsets) frame .initial
+  unfolding initialStored
+  initial-kept Verdict.Passed = rw no-entry
+  initial-kept (Verdict.Refused cause) = refl
+
+  offsets-kept : (v : Verdict) → offsets ≡ movedIf v (session state initial offsets) frame .offsets
+  unfolding offsetsStored
+  offsets-kept Verdict.Passed = rw no-entry
+  offsets-kept (Verdict.Refused cause) = refl
+
+  pub first-outcome : (answer : Read) → answer ≡ answerIf (frameVerdict state (length initial) (length offsets) frame) state frame
+      → Outcome state initial offsets frame answer initial offsets
+  unfolding afterFrame
+  first-outcome answer is =
+      let v = frameVerdict state (length initial) (length offsets) frame in (is, (initial-kept v, offsets-kept v))

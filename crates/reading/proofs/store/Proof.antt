@@ -1,0 +1,112 @@
+-- `reading::store` meets its contract: the entry goes where its slot says, and nothing else is written.
+use mathlib.Core.Path.{refl, ap, _∙_}
+use Prim.Native.Nat.{ℕ, _<_}
+use borrow.Author.Needs.{needs}
+use lib.ListN.{getD, set}
+use mir.Syntax.{w8, w32}
+use mir.Val.{Fits}
+use mir.ValLaws.{toZ-ofZ}
+use Rattle.reading.specs.ReadLine.{initialStored, offsetsStored}
+use Rattle.reading.proofs.StoreLaws.{three-small}
+use Rattle.reading.proofs.store.Statement.{statement}
+use Rattle.reading.proofs.store.Tie as tie
+
+bytes-small : (s : tie.Start) (i : ℕ) → getD (s .args .bytes) i 0 < 256
+bytes-small s i =
+    let byte : Fits w8 (getD (s .args .bytes) i 0) = search needs in
+    byte .fits
+
+enum-told : tie.Need-enum-told
+enum-told c = search needs
+
+enum-known-slot : tie.Need-enum-known-slot
+enum-known-slot c = search needs
+
+number-in-requires : tie.Need-number-in-requires
+number-in-requires c κs = search needs
+
+cast-initial : tie.Need-cast-initial
+cast-initial c = search needs
+
+mul-initial : tie.Need-mul-initial
+mul-initial c = search needs
+
+slice-write-initial : tie.Need-slice-write-initial
+slice-write-initial c =
+    let s = c .before .before .before .before .before in
+    rw (c .before .before .slot .given .1) at (s .pre .0)
+
+enum-known-slot-2 : tie.Need-enum-known-slot-2
+enum-known-slot-2 c = search needs
+
+number-in-requires-2 : tie.Need-number-in-requires-2
+number-in-requires-2 c κs = search needs
+
+from-complement-requires : tie.Need-from-complement-requires
+from-complement-requires c κs =
+    let s = c .before .before .before .before .before in
+    rw (c .number-in2 .ensures) (three-small _ (s .args .from) (bytes-small s))
+
+cast-t14 : tie.Need-cast-t14
+cast-t14 c = search needs
+
+mul-t15 : tie.Need-mul-t15
+mul-t15 c = search needs
+
+slice-set-from-offsets : tie.Need-slice-set-from-offsets
+slice-set-from-offsets c =
+    let s = c .before .before .before .before .before .before in
+    rw (c .before .before .before .slot2 .given .1) at (s .pre .0)
+
+enum-told-2 : tie.Need-enum-told-2
+enum-told-2 c = search needs
+
+returns : tie.Need-returns
+unfolding initialStored offsetsStored
+returns c = rw (c .enum-told .given .1) (refl, refl)
+
+same-length : tie.Need-same-length
+same-length c = search needs
+
+returns-2 : tie.Need-returns-2
+unfolding initialStored offsetsStored
+returns-2 c = rw (c .before .before .slot .given .1, ← c .number-in .ensures) (refl, refl)
+
+same-length-2 : tie.Need-same-length-2
+same-length-2 c = search needs
+
+returns-3 : tie.Need-returns-3
+unfolding initialStored offsetsStored
+returns-3 c =
+    let number = rw (c .before .number-in2 .ensures) at (c .from-complement .ensures) in
+    let entry = toZ-ofZ w32 _ (record { sfits = c .from-complement .ok }) ∙ number in
+    let slot = c .before .before .before in
+    rw (slot .slot2 .given .1) (refl, ap (set (slot .before .before .before .args .offsets .now) (slot .slot2 .given .0 .1 .1 .0)) entry)
+
+returns-4 : tie.Need-returns-4
+unfolding initialStored offsetsStored
+returns-4 c = rw (c .enum-told2 .given .1) (refl, refl)
+
+pub store-spec : {M : Type 1} → statement M
+store-spec =
+    tie.close
+    (tie.spec
+    enum-told
+    enum-known-slot
+    number-in-requires
+    cast-initial
+    mul-initial
+    slice-write-initial
+    enum-known-slot-2
+    number-in-requires-2
+    from-complement-requires
+    cast-t14
+    mul-t15
+    slice-set-from-offsets
+    enum-told-2
+    returns
+    same-length
+    returns-2
+    same-length-2
+    returns-3
+    returns-4)

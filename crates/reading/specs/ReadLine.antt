@@ -1,0 +1,135 @@
+-- What the call `read_line` answers, "reader 17, 15, 16, on an 01 line 1 to 9, then 10", and what it leaves in the state and the tables.
+use mathlib.Core.Bool.{Bool, true, false, cond, not, _||_, _&&_}
+use mathlib.Core.List.{List, [], _∷_, _++_}
+use Prim.Native.Nat.{ℕ, _+_}
+use lib.Dec.{leb, eqb}
+use lib.ListN.{length, take, drop, set}
+use lib.IntN.{ℤ}
+use Rattle.refusal.specs.declared.Cause.{Cause}
+use Rattle.refusal.specs.declared.Verdict.{Verdict}
+use Rattle.refusal.specs.Checks.{Check, _↝_, verdict}
+use Rattle.design.specs.declared.Design.{Design}
+use Rattle.design.specs.Legal.{designChecks, designVerdict}
+use Rattle.tables.specs.Fill.{tablesCheck}
+use Rattle.frames.specs.Hex.{bytesOf}
+use Rattle.frames.specs.Line.{lineChecks}
+use Rattle.frames.specs.DesignFrame.{frameFails, frameDesign}
+use Rattle.encoding.specs.Bytes.{numberIn, fromComplement}
+use Rattle.lines.specs.declared.Slot.{Slot}
+use Rattle.lines.specs.Slots.{lineCount, slotOf}
+use Rattle.lines.specs.Lines.{frameHead, entryWidth}
+use Rattle.reading.specs.declared.Reading.{Reading}
+use Rattle.reading.specs.declared.Read.{Read}
+
+abbrev pub passes : Verdict → Bool
+passes Verdict.Passed = true
+passes (Verdict.Refused cause) = false
+
+-- "The state is possible if no line is taken, or if the design is legal and no more lines are taken than the set has."
+unfoldable pub possible : Reading → Bool
+possible state = eqb (state .taken) 0 || passes (designVerdict (state .design)) && leb (state .taken) (lineCount (state .design))
+
+-- 17, "state not possible"
+unfoldable pub stateCheck : Reading → Check
+stateCheck state = not (possible state) ↝ Cause.State
+
+-- "with 0 taken the design is not read": the design is then that of the line, which is given as its bytes.
+unfoldable pub designOf : Reading → List ℕ → Design
+designOf state bytes = cond (eqb (state .taken) 0) (frameDesign bytes) (state .design)
+
+-- Whether the bytes begin with these
+unfoldable pub begins : List ℕ → List ℕ → Bool
+begins bytes [] = true
+begins [] (first ∷ rest) = false
+begins (byte ∷ bytes) (first ∷ rest) = eqb byte first && begins bytes rest
+
+-- Of a frame, sum byte included: "byte count", then "frame kind, .. table number, index or count not the one due". Its bytes before
+-- the entry are not those that are due, or their number is not that of these bytes, the entry and the sum byte.
+unfoldable pub headFails : List ℕ → ℕ → List ℕ → ℕ → Bool
+headFails head width bytes count = not (eqb count (length head + width + 1)) || not (begins bytes head)
+
+-- With no line taken an 01 frame is due, "8 + 2m bytes by its own m"; after 04 nothing is.
+unfoldable pub frameFailsIn : Reading → List ℕ → Bool
+frameFailsIn state bytes =
+    let d = state .design in
+    let slot = slotOf d (state .taken) in
+    cond (eqb (state .taken) 0) (frameFails bytes (length bytes))
+    (leb (lineCount d) (state .taken) || headFails (frameHead d slot) (entryWidth slot) bytes (length bytes))
+
+-- "16, on an 01 line 1 to 9, then 10", for tables of these lengths
+unfoldable pub frameChecks : Reading → ℕ → ℕ → List ℕ → List Check
+frameChecks state initial offsets bytes =
+    let d = designOf state bytes in
+    frameFailsIn state bytes ↝ Cause.Frame
+    ∷ cond (eqb (state .taken) 0) (designChecks d) [] ++ tablesCheck d initial offsets ∷ []
+
+unfoldable pub frameVerdict : Reading → ℕ → ℕ → List ℕ → Verdict
+frameVerdict state initial offsets bytes = verdict (frameChecks state initial offsets bytes)
+
+-- "17, 15, 16, .."
+unfoldable pub readVerdict : Reading → ℕ → ℕ → List ℕ → Verdict
+readVerdict state initial offsets line =
+    verdict (stateCheck state ∷ lineChecks line ++ frameChecks state initial offsets (bytesOf line))
+
+-- "Each accepted line moves the reading state on by one". Pairs beyond m are those of the design: zeros from an 01 line, as they came
+-- later. A refusal "gives back the state that came in".
+abbrev pub stateIf : Verdict → Reading → List ℕ → Reading
+stateIf Verdict.Passed state bytes = record { design = designOf state bytes; taken = state .taken + 1 }
+stateIf (Verdict.Refused cause) state bytes = state
+
+abbrev pub answerIf : Verdict → Reading → List ℕ → Read
+answerIf v state bytes = record { verdict = v; state = stateIf v state bytes }
+
+-- What `read_line` returns: the verdict, and the next state beside it
+unfoldable pub readAnswer : Reading → ℕ → ℕ → List ℕ → Read
+readAnswer state initial offsets line = answerIf (readVerdict state initial offsets line) state (bytesOf line)
+
+-- The number in the entry's bytes
+unfoldable pub entryIn : Design → Slot → List ℕ → ℕ
+entryIn d slot bytes = numberIn (take (entryWidth slot) (drop (length (frameHead d slot)) bytes))
+
+-- "stores at most one entry; all other elements stand"
+unfoldable pub initialStored : Slot → ℕ → List ℕ → List ℕ
+initialStored Slot.Design n initial = initial
+initialStored (Slot.Initial index) n initial = set initial index n
+initialStored (Slot.Offset table index place) n initial = initial
+initialStored (Slot.End before) n initial = initial
+
+unfoldable pub offsetsStored : Slot → ℕ → List ℤ → List ℤ
+offsetsStored Slot.Design n offsets = offsets
+offsetsStored (Slot.Initial index) n offsets = offsets
+offsetsStored (Slot.Offset table index place) n offsets = set offsets place (fromComplement 3 n)
+offsetsStored (Slot.End before) n offsets = offsets
+
+-- A reading: its state, and the tables that it stores in
+pub record Session : Type 0 where
+  pub state : Reading
+  pub initial : List ℕ
+  pub offsets : List ℤ
+
+abbrev pub session : Reading → List ℕ → List ℤ → Session
+session state initial offsets = record { state = state; initial = initial; offsets = offsets }
+
+-- "Each accepted line moves the reading state on by one and stores at most one entry"; a refusal "leaves every buffer untouched and
+-- gives back the state that came in".
+abbrev pub movedIf : Verdict → Session → List ℕ → Session
+movedIf Verdict.Passed s bytes =
+    let d = designOf (s .state) bytes in
+    let slot = slotOf d (s .state .taken) in
+    record {
+      state = stateIf Verdict.Passed (s .state) bytes;
+      initial = initialStored slot (entryIn d slot bytes) (s .initial);
+      offsets = offsetsStored slot (entryIn d slot bytes) (s .offsets);
+    }
+movedIf (Verdict.Refused cause) s bytes = s
+
+-- The reading after a sound line, which is given as its bytes
+unfoldable pub afterFrame : Session → List ℕ → Session
+afterFrame s bytes = movedIf (frameVerdict (s .state) (length (s .initial)) (length (s .offsets)) bytes) s bytes
+
+-- The verdict of a reading on a line, and the reading after it
+unfoldable pub verdictOn : Session → List ℕ → Verdict
+verdictOn s line = readVerdict (s .state) (length (s .initial)) (length (s .offsets)) line
+
+unfoldable pub after : Session → List ℕ → Session
+after s line = movedIf (verdictOn s line) s (bytesOf line)

@@ -1,0 +1,205 @@
+// The reader: one line a call, into lent tables.
+ghost use mathlib.Core.Path.{_≡_};
+ghost use Prim.Native.Nat.{_+_, _≤_};
+ghost use lib.ListN.{length, take, drop};
+ghost use Rattle.refusal.specs.Numbers.{verdictNumber};
+ghost use Rattle.encoding.specs.Bytes.{numberIn};
+ghost use Rattle.encoding.specs.Inputs.{held};
+ghost use Rattle.lines.specs.Inputs.{SlotIn};
+ghost use Rattle.reading.specs.ReadLine.{
+  possible,
+  headFails,
+  frameVerdict,
+  readVerdict,
+  answerIf,
+  readAnswer,
+  initialStored,
+  offsetsStored,
+  session,
+  afterFrame,
+  after,
+};
+ghost use Rattle.reading.specs.Inputs.{Sound, Begun};
+use design::Design;
+use design::legal::design_verdict;
+use encoding::Frame;
+use encoding::numbers::from_complement;
+use encoding::numbers::number_in;
+use frames::decode;
+use frames::frame_design;
+use frames::frame_verdict;
+use lines::Slot;
+use lines::entry_width;
+use lines::head_of;
+use lines::line_count;
+use lines::slot_of;
+use refusal::Cause;
+use refusal::Verdict;
+use tables::set_verdict;
+use tables::tables_short;
+
+// Document 01's reading state. With no line taken the design is not read.
+pub struct Reading {
+    pub design: Design,
+    pub taken: usize,
+}
+
+// What `read_line` answers, and the state to go on with.
+pub struct Read {
+    pub verdict: Verdict,
+    pub state: Reading,
+}
+
+// Whether a reading can have come to this state.
+fn is_possible(state: Reading) -> bool
+    ensures { λ r. ⌜ r ≡ possible state ⌝ }
+{
+    if state.taken == 0 {
+        return true;
+    }
+    if let Verdict::Refused(_) = design_verdict(state.design) {
+        return false;
+    }
+    state.taken as u64 <= line_count(state.design)
+}
+
+// Whether a frame is not the one due, which begins as `head` does and has an entry of `width` bytes and a sum byte behind that.
+fn head_fails(head: Frame, width: usize, bytes: [u8; 16], count: usize) -> bool
+    requires { ⌜ head .count + width ≤ 15 ⌝ }
+    ensures { λ r. ⌜ r ≡ headFails (held head) width bytes count ⌝ }
+{
+    if count != head.count + width + 1 {
+        return true;
+    }
+    let due = head.bytes;
+    for i in 0..head.count {
+        if bytes[i] != due[i] {
+            return true;
+        }
+    }
+    false
+}
+
+// Stores the entry whose 3 bytes begin at a place of the frame.
+fn store(slot: Slot, from: usize, bytes: [u8; 16], initial: &mut [u32], offsets: &mut [i32])
+    requires { ⌜ SlotIn slot (length (now initial)) (length (now offsets)) ⌝ }
+    requires { ⌜ from + 3 ≤ 16 ⌝ }
+    ensures { λ _. ⌜ now (initial .exit) ≡ initialStored slot (numberIn (take 3 (drop from bytes))) (now (initial .entry)) ⌝ }
+    ensures { λ _. ⌜ now (offsets .exit) ≡ offsetsStored slot (numberIn (take 3 (drop from bytes))) (now (offsets .entry)) ⌝ }
+{
+    match slot {
+        Slot::Design => {}
+        Slot::Initial(index) => {
+            initial[index as usize] = number_in(bytes, from, 3);
+        }
+        Slot::Offset {
+            table: _,
+            index: _,
+            place,
+        } => {
+            offsets[place as usize] = from_complement(number_in(bytes, from, 3));
+        }
+        Slot::End(_) => {}
+    }
+}
+
+// The answer to a refused line: the state stands.
+fn refused(state: Reading, cause: Cause) -> Read
+    ensures { λ r. ⌜ r ≡ record { verdict = Verdict.Refused cause; state = state } ⌝ }
+{
+    Read {
+        verdict: Verdict::Refused(cause),
+        state,
+    }
+}
+
+// A sound line with no line taken: it must hold a design.
+fn first_line(state: Reading, bytes: [u8; 16], count: usize, initial: usize, offsets: usize) -> Read
+    requires { ⌜ Sound bytes count ⌝ }
+    requires { ⌜ state .taken ≡ 0 ⌝ }
+    ensures { λ r. ⌜ r ≡ answerIf (frameVerdict state initial offsets (take count bytes)) state (take count bytes) ⌝ }
+{
+    if let Verdict::Refused(cause) = frame_verdict(bytes, count) {
+        return refused(state, cause);
+    }
+    let design = frame_design(bytes);
+    if let Verdict::Refused(cause) = set_verdict(design, initial, offsets) {
+        return refused(state, cause);
+    }
+    Read {
+        verdict: Verdict::Passed,
+        state: Reading { design, taken: 1 },
+    }
+}
+
+// A sound line with others taken before it.
+fn later_line(
+    state: Reading,
+    bytes: [u8; 16],
+    count: usize,
+    initial: &mut [u32],
+    offsets: &mut [i32],
+) -> Read
+    requires { ⌜ Sound bytes count ⌝ }
+    requires { ⌜ Begun state ⌝ }
+    ensures { λ r.
+        ⌜ r ≡ answerIf (frameVerdict state (length (now (initial .entry))) (length (now (offsets .entry))) (take count bytes)) state
+        (take count bytes) ⌝ }
+    ensures { λ _.
+        ⌜ now (initial .exit) ≡ afterFrame (session state (now (initial .entry)) (now (offsets .entry))) (take count bytes) .initial ⌝ }
+    ensures { λ _.
+        ⌜ now (offsets .exit) ≡ afterFrame (session state (now (initial .entry)) (now (offsets .entry))) (take count bytes) .offsets ⌝ }
+{
+    let d = state.design;
+    if line_count(d) <= state.taken as u64 {
+        return refused(state, Cause::Frame);
+    }
+    let slot = slot_of(d, state.taken);
+    let head = head_of(d, slot);
+    if head_fails(head, entry_width(slot), bytes, count) {
+        return refused(state, Cause::Frame);
+    }
+    if tables_short(d, initial.len(), offsets.len()) {
+        return refused(state, Cause::TablesShort);
+    }
+    store(slot, head.count, bytes, initial, offsets);
+    Read {
+        verdict: Verdict::Passed,
+        state: Reading {
+            design: d,
+            taken: state.taken + 1,
+        },
+    }
+}
+
+impl Reading {
+    // Takes a line (document 01, "Bits, lines and the report"). Nothing is stored before every check has passed.
+    pub fn read_line(self, initial: &mut [u32], offsets: &mut [i32], line: &[u8]) -> Read
+        ensures answer { λ r.
+            ⌜ r ≡ readAnswer self (length (now (initial .entry))) (length (now (offsets .entry))) (now (line .entry)) ⌝ }
+        ensures number { λ r.
+            ⌜ verdictNumber (r .verdict)
+            ≡ verdictNumber (readVerdict self (length (now (initial .entry))) (length (now (offsets .entry))) (now (line .entry))) ⌝ }
+        ensures initial_table { λ _.
+            ⌜ now (initial .exit)
+            ≡ after (session self (now (initial .entry)) (now (offsets .entry))) (now (line .entry)) .initial ⌝ }
+        ensures offset_tables { λ _.
+            ⌜ now (offsets .exit)
+            ≡ after (session self (now (initial .entry)) (now (offsets .entry))) (now (line .entry)) .offsets ⌝ }
+    {
+        if !is_possible(self) {
+            return refused(self, Cause::State);
+        }
+        let decoded = decode(line);
+        let sound = decoded.verdict;
+        let bytes = decoded.bytes;
+        let count = decoded.count;
+        if let Verdict::Refused(cause) = sound {
+            return refused(self, cause);
+        }
+        if self.taken == 0 {
+            return first_line(self, bytes, count, initial.len(), offsets.len());
+        }
+        later_line(self, bytes, count, initial, offsets)
+    }
+}

@@ -1,0 +1,144 @@
+-- A finished reading came from exactly the lines the writer gives.
+use mathlib.Core.Path.{_≡_, refl, sym, ap₂, _∙_}
+use mathlib.Core.Bool.{true}
+use mathlib.Core.List.{List, [], _∷_, _++_, append-nil}
+use Prim.Native.Nat.{ℕ, _+_, _<_}
+use native.Mathlib.Decide.{decLt}
+use native.Mathlib.Numerals.{add-one}
+use native.Mathlib.Omega.{arith}
+use lib.ListN.{length, length-set}
+use lib.Seq.{append-snoc}
+use lib.IntN.{ℤ}
+use Rattle.refusal.specs.declared.Cause.{Cause}
+use Rattle.refusal.specs.declared.Verdict.{Verdict}
+use Rattle.design.specs.Cut.{initialCount}
+use Rattle.tables.specs.Inputs.{Usable}
+use Rattle.tables.specs.Fill.{listBelow}
+use Rattle.tables.proofs.WritingLaws.{list-congruence}
+use Rattle.encoding.specs.Bytes.{fromComplement}
+use Rattle.lines.specs.declared.Slot.{Slot}
+use Rattle.lines.specs.Slots.{lineCount, slotOf, offsetSlot}
+use Rattle.lines.specs.Lines.{entryFits, lineAt, setLines}
+use Rattle.lines.proofs.SlotLaws.{slot-initial, slot-offset}
+use Rattle.reading.specs.ReadLine.{Session, session, initialStored, offsetsStored, verdictOn, after}
+use Rattle.storage.specs.Feeding.{Begins, Finished, feed, keptIf, accepted}
+use Rattle.storage.specs.Storage.{CameFrom, setIn}
+use Rattle.storage.proofs.Accepting.{SomeAccepted, accepted-line}
+use Rattle.storage.proofs.Standing.{earlier-line, earlier-fits}
+
+-- The lines that came are the writer's for the design and the tables that the reading has.
+pub record SoFar (s : Session) (came : List (List ℕ)) : Type 0 where
+  pub lines : came ≡ listBelow (s .state .taken) (lineAt (s .state .design) (s .initial) (s .offsets))
+  pub tables : 0 < s .state .taken → Usable (s .state .design) (length (s .initial)) (length (s .offsets))
+  pub entries-fit : (n : ℕ) → n < s .state .taken → entryFits (slotOf (s .state .design) n) (s .initial) (s .offsets) ≡ true
+
+-- Storing keeps the tables' lengths.
+initial-length : (slot : Slot) (v : ℕ) (initial : List ℕ) → length (initialStored slot v initial) ≡ length initial
+unfolding initialStored
+initial-length Slot.Design v initial = refl
+initial-length (Slot.Initial index) v initial = length-set initial index v
+initial-length (Slot.Offset table index place) v initial = refl
+initial-length (Slot.End before) v initial = refl
+
+offsets-length : (slot : Slot) (v : ℕ) (offsets : List ℤ) → length (offsetsStored slot v offsets) ≡ length offsets
+unfolding offsetsStored
+offsets-length Slot.Design v offsets = refl
+offsets-length (Slot.Initial index) v offsets = refl
+offsets-length (Slot.Offset table index place) v offsets = length-set offsets place (fromComplement 3 v)
+offsets-length (Slot.End before) v offsets = refl
+
+module _ (s : Session) (came : List (List ℕ)) (so-far : SoFar s came) (line : List ℕ) where
+  -- An accepted line is one more of the writer's.
+  module _ (some : SomeAccepted s line) where
+    abbrev n : ℕ
+    n = s .state .taken
+
+    abbrev next : Session
+    next =
+        session (record { design = some .design; taken = n + 1 })
+        (initialStored (slotOf (some .design) n) (some .number) (s .initial))
+        (offsetsStored (slotOf (some .design) n) (some .number) (s .offsets))
+
+    line-stands : (j : ℕ) → j < n
+        → lineAt (s .state .design) (s .initial) (s .offsets) j ≡ lineAt (some .design) (next .initial) (next .offsets) j
+    line-stands j h =
+        rw (← some .accepted .kept (omega arith))
+        (sym (earlier-line (some .design) (some .number) (s .initial) (s .offsets) j n h (some .accepted .within)))
+
+    fits-next : (j : ℕ) → j < n + 1 → entryFits (slotOf (some .design) j) (next .initial) (next .offsets) ≡ true
+    fits-next j h =
+        elim (decLt j n) [
+          | yes earlier ↦
+              earlier-fits (some .design) (some .number) (s .initial) (s .offsets) j n earlier (some .accepted .within)
+              ∙ rw (some .accepted .kept (omega arith)) (so-far .entries-fit j earlier)
+          | no last ↦
+              let e : j ≡ n = omega arith in
+              rw e (some .accepted .entry-fits)
+        ]
+
+    one-more : SoFar next (came ++ (line ∷ []))
+    unfolding listBelow
+    one-more =
+        record {
+          lines =
+              rw (add-one, so-far .lines)
+              (ap₂ (λ (front : List (List ℕ)) (last : List ℕ). front ++ (last ∷ []))
+              (list-congruence _ _ n line-stands) (sym (some .accepted .written)));
+          tables = λ h. rw (initial-length, offsets-length) (some .accepted .tables);
+          entries-fit = fits-next;
+        }
+
+  so-far-accepted : verdictOn s line ≡ Verdict.Passed → SoFar (after s line) (came ++ (line ∷ []))
+  so-far-accepted passes = let some = accepted-line s line passes in rw (some .accepted .moved) (one-more some)
+
+-- A refused line changes nothing.
+refused-stands : (s : Session) (line : List ℕ) (cause : Cause) → verdictOn s line ≡ Verdict.Refused cause → after s line ≡ s
+unfolding after
+refused-stands s line cause e = rw e
+
+-- So it goes on, line by line.
+abbrev Follows : List (List ℕ) → Type 0
+Follows lines = (s : Session) (came : List (List ℕ)) → SoFar s came → SoFar (feed s lines) (came ++ accepted s lines)
+
+one-line : (line : List ℕ) (lines : List (List ℕ)) → Follows lines → Follows (line ∷ lines)
+unfolding feed accepted
+one-line line lines rest s came so-far = go (verdictOn s line) refl
+  where
+    go : (v : Verdict) → verdictOn s line ≡ v → SoFar (feed (after s line) lines) (came ++ keptIf (verdictOn s line) line (accepted (after s line) lines))
+    go Verdict.Passed e =
+        rw (e, ← append-snoc came line (accepted (after s line) lines))
+        (rest (after s line) (came ++ (line ∷ [])) (so-far-accepted s came so-far line e))
+    go (Verdict.Refused cause) e = rw (e, refused-stands s line cause e) (rest s came so-far)
+
+follows : (lines : List (List ℕ)) → Follows lines
+unfolding feed accepted
+follows [] s came so-far = rw (append-nil came) so-far
+follows (line ∷ lines) s came so-far = one-line line lines (follows lines) s came so-far
+
+-- No line is taken yet.
+none-taken : (s : Session) → Begins s → SoFar s []
+unfolding listBelow
+none-taken s none = record { lines = rw none; tables = λ h. absurd (omega arith); entries-fit = λ n h. absurd (omega arith) }
+
+-- All lines are taken: the set has a stored form, and they are its lines.
+module _ (s : Session) (came : List (List ℕ)) (so-far : SoFar s came) (finished : Finished s) where
+  all-fit : (n : ℕ) → n < lineCount (s .state .design) → entryFits (slotOf (s .state .design) n) (s .initial) (s .offsets) ≡ true
+  all-fit n h = so-far .entries-fit n (rw finished h)
+
+  came-from : CameFrom (setIn s) came
+  unfolding entryFits setLines lineCount offsetSlot
+  came-from =
+      let d = s .state .design in
+      record {
+        storable =
+            record {
+              usable = so-far .tables (omega arith);
+              initial-fits = λ index h. rw (slot-initial d (index + 1) index refl h) at (all-fit (index + 1) (omega arith));
+              offset-fits =
+                  λ place h. rw (slot-offset d (initialCount d + 1 + place) place refl h) at (all-fit (initialCount d + 1 + place) (omega arith));
+            };
+        lines = so-far .lines ∙ rw finished;
+      }
+
+pub unique : (s : Session) (lines : List (List ℕ)) → Begins s → Finished (feed s lines) → CameFrom (setIn (feed s lines)) (accepted s lines)
+unique s lines begins finished = came-from (feed s lines) (accepted s lines) (follows lines s [] (none-taken s begins)) finished

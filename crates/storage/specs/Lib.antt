@@ -1,0 +1,5 @@
+-- What a reader has to believe of stored sets.
+pub mod Sets
+pub mod File
+pub mod Feeding
+pub mod Storage

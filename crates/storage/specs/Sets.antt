@@ -1,0 +1,38 @@
+-- Sets: a design and tables that begin with the set's entries. Which sets are the same, and which can be written.
+use mathlib.Core.Path.{_≡_}
+use mathlib.Core.Bool.{true}
+use mathlib.Core.List.{List}
+use Prim.Native.Nat.{ℕ, _<_}
+use lib.ListN.{length, getD, take}
+use lib.IntN.{ℤ, pos}
+use Rattle.design.specs.declared.Design.{Design}
+use Rattle.design.specs.Cut.{initialCount, offsetTotal}
+use Rattle.design.specs.Same.{Same}
+use Rattle.tables.specs.Inputs.{Usable}
+use Rattle.encoding.specs.Bytes.{fits, fitsSigned}
+use Rattle.lines.specs.Lines.{lineAt, setLines}
+
+-- A design, and tables that begin with a set of it
+pub record TableSet : Type 0 where
+  pub design : Design
+  pub initial : List ℕ
+  pub offsets : List ℤ
+
+-- "sets are compared without them": without pairs beyond m; what lies beyond the entries is no part of a set
+pub record SameSet (a b : TableSet) : Type 0 where
+  pub design : Same (a .design) (b .design)
+  pub initial : take (initialCount (b .design)) (a .initial) ≡ take (initialCount (b .design)) (b .initial)
+  pub offsets : take (offsetTotal (b .design)) (a .offsets) ≡ take (offsetTotal (b .design)) (b .offsets)
+
+-- A set that can be written: its design is legal, its tables are long enough, and each of its entries fits its 3 bytes.
+pub record Storable (t : TableSet) : Type 0 where
+  pub usable : Usable (t .design) (length (t .initial)) (length (t .offsets))
+  pub initial-fits : (index : ℕ) → index < initialCount (t .design) → fits 3 (getD (t .initial) index 0) ≡ true
+  pub offset-fits : (place : ℕ) → place < offsetTotal (t .design) → fitsSigned 3 (getD (t .offsets) place (pos 0)) ≡ true
+
+-- Line n of a set, and all its lines in order
+abbrev pub lineIn : TableSet → ℕ → List ℕ
+lineIn t n = lineAt (t .design) (t .initial) (t .offsets) n
+
+abbrev pub linesIn : TableSet → List (List ℕ)
+linesIn t = setLines (t .design) (t .initial) (t .offsets)

@@ -1,0 +1,45 @@
+-- Demand 2: "Written lines read back to the same set, and a finished reading came from exactly the lines the writer gives."
+use mathlib.Core.Path.{_≡_}
+use mathlib.Core.List.{List, _++_}
+use Prim.Native.Nat.{ℕ, _≤_, _<_}
+use lib.ListN.{length, drop}
+use Rattle.design.specs.Cut.{initialCount, offsetTotal}
+use Rattle.lines.specs.Slots.{lineCount}
+use Rattle.writing.specs.declared.Written.{Written}
+use Rattle.writing.specs.Write.{writeAnswer, bufferAfter}
+use Rattle.reading.specs.ReadLine.{Session}
+use Rattle.storage.specs.Sets.{TableSet, SameSet, Storable, lineIn, linesIn}
+use Rattle.storage.specs.File.{fileOf}
+use Rattle.storage.specs.Feeding.{Begins, Finished, feed, accepted}
+
+-- "the lines the writer gives": asked for line n, it answers the line's length and leaves the line at the start of the buffer.
+pub record Gives (t : TableSet) (n : ℕ) (buffer : List ℕ) : Type 0 where
+  pub answer : writeAnswer (t .design) (t .initial) (t .offsets) n (length buffer) ≡ Written.Length (length (lineIn t n))
+  pub line : bufferAfter (t .design) (t .initial) (t .offsets) n buffer ≡ lineIn t n ++ drop (length (lineIn t n)) buffer
+
+-- The set that a reading has come to
+abbrev pub setIn : Session → TableSet
+setIn s = record { design = s .state .design; initial = s .initial; offsets = s .offsets }
+
+-- "Written lines read back to the same set": a set's lines, fed to a reading, which they lead to its end. "All other elements stand."
+pub record ReadsBack (t : TableSet) (s end : Session) : Type 0 where
+  pub all-accepted : accepted s (linesIn t) ≡ linesIn t
+  pub finished : Finished end
+  pub same : SameSet (setIn end) t
+  pub initial-beyond : drop (initialCount (t .design)) (end .initial) ≡ drop (initialCount (t .design)) (s .initial)
+  pub offsets-beyond : drop (offsetTotal (t .design)) (end .offsets) ≡ drop (offsetTotal (t .design)) (s .offsets)
+
+-- "a finished reading came from exactly the lines the writer gives": for the design and the tables that it ends with
+pub record CameFrom (t : TableSet) (came : List (List ℕ)) : Type 0 where
+  pub storable : Storable t
+  pub lines : came ≡ linesIn t
+
+pub record Storage : Type 0 where
+  pub in-order : (t : TableSet) → linesIn t ≡ fileOf t
+  pub writes : (t : TableSet) (n : ℕ) (buffer : List ℕ) → Storable t → n < lineCount (t .design)
+      → length (lineIn t n) ≤ length buffer → Gives t n buffer
+  pub reads-back : (t : TableSet) (s : Session) → Storable t → Begins s
+      → initialCount (t .design) ≤ length (s .initial) → offsetTotal (t .design) ≤ length (s .offsets)
+      → ReadsBack t s (feed s (linesIn t))
+  pub unique : (s : Session) (lines : List (List ℕ)) → Begins s → Finished (feed s lines)
+      → CameFrom (setIn (feed s lines)) (accepted s lines)
