@@ -16,8 +16,7 @@ use Rattle.refusal.specs.Checks.{_↝_, verdict}
 use Rattle.refusal.proofs.Checks.{after, verdict-append, neither}
 use Rattle.design.specs.declared.Design.{Design}
 use Rattle.tables.specs.Fill.{tablesCheck, setChecks}
-use Rattle.frames.specs.DesignFrame.{frameFails, frameDesign}
-use Rattle.frames.specs.DesignFrame as DesignFrame
+use Rattle.frames.specs.DesignFrame.{frameFails, frameChecks, frameDesign}
 use Rattle.frames.proofs.FrameLaws.{frameFails-padded, frameDesign-padded}
 use Rattle.encoding.specs.Bytes.{numberIn}
 use Rattle.lines.specs.declared.Slot.{Slot}
@@ -28,7 +27,7 @@ use Rattle.reading.specs.declared.Read.{Read}
 use Rattle.reading.specs.Inputs.{Sound, Begun}
 use Rattle.reading.specs.ReadLine.{
   headFails,
-  frameVerdict,
+  dueVerdict,
   answerIf,
   entryIn,
   initialStored,
@@ -37,7 +36,7 @@ use Rattle.reading.specs.ReadLine.{
   afterFrame,
 }
 use Rattle.reading.proofs.BeginsLaws.{begins-front}
-use Rattle.reading.proofs.ReadLaws.{first-design, later-design, first-checks, later-checks}
+use Rattle.reading.proofs.ReadLaws.{notDue, first-design, later-design, first-checks, later-checks}
 
 -- Bytes within the first `count` are the same among these as among all.
 within-front : (bytes : List ℕ) (count from n : ℕ) → from + n ≤ count → take n (drop from (take count bytes)) ≡ take n (drop from bytes)
@@ -74,32 +73,26 @@ module _ (bytes : List ℕ) (count : ℕ) (full : length bytes ≡ 16) (sound : 
 
   -- The first line is tried as a frame 01, and then for its design and for the tables' lengths.
   module _ (state : Reading) (none : state .taken ≡ 0) (initial offsets : ℕ) where
-    first-verdict : frameVerdict state initial offsets (take count bytes)
-        ≡ after (verdict (DesignFrame.frameChecks bytes count)) (verdict (setChecks (frameDesign bytes) initial offsets))
-    unfolding frameVerdict DesignFrame.frameChecks
+    first-verdict : dueVerdict state initial offsets (take count bytes)
+        ≡ after (verdict (frameChecks bytes count)) (verdict (setChecks (frameDesign bytes) initial offsets))
+    unfolding dueVerdict frameChecks
     first-verdict =
         rw (first-checks state initial offsets (take count bytes) none, frame-length, fails-same, design-same)
-        (verdict-append (DesignFrame.frameChecks bytes count) (setChecks (frameDesign bytes) initial offsets))
+        (verdict-append (frameChecks bytes count) (setChecks (frameDesign bytes) initial offsets))
 
-    pub first-not-due : (cause : Cause) → verdict (DesignFrame.frameChecks bytes count) ≡ Verdict.Refused cause
-        → refusedAnswer state cause ≡ answerIf (frameVerdict state initial offsets (take count bytes)) state (take count bytes)
+    pub first-not-due : (cause : Cause) → verdict (frameChecks bytes count) ≡ Verdict.Refused cause
+        → refusedAnswer state cause ≡ answerIf (dueVerdict state initial offsets (take count bytes)) state (take count bytes)
     first-not-due cause e = rw (first-verdict, e)
 
-    module _ (due : verdict (DesignFrame.frameChecks bytes count) ≡ Verdict.Passed) where
+    module _ (due : verdict (frameChecks bytes count) ≡ Verdict.Passed) where
       pub first-refused : (cause : Cause) → verdict (setChecks (frameDesign bytes) initial offsets) ≡ Verdict.Refused cause
-          → refusedAnswer state cause ≡ answerIf (frameVerdict state initial offsets (take count bytes)) state (take count bytes)
+          → refusedAnswer state cause ≡ answerIf (dueVerdict state initial offsets (take count bytes)) state (take count bytes)
       first-refused cause e = rw (first-verdict, due, e)
 
       pub first-accepted : verdict (setChecks (frameDesign bytes) initial offsets) ≡ Verdict.Passed
           → _≡_ {A = Read} (record { verdict = Verdict.Passed; state = record { design = frameDesign bytes; taken = 1 } })
-          (answerIf (frameVerdict state initial offsets (take count bytes)) state (take count bytes))
+          (answerIf (dueVerdict state initial offsets (take count bytes)) state (take count bytes))
       first-accepted e = rw (first-verdict, due, e, first-design state (take count bytes) none, design-same, none)
-
--- A later frame is not the one due, by its bytes and their number.
-abbrev pub notDue : Reading → List ℕ → ℕ → Bool
-notDue state bytes count =
-    let slot = slotOf (state .design) (state .taken) in
-    headFails (frameHead (state .design) slot) (entryWidth slot) bytes count
 
 -- The number in the 3 bytes behind a head
 abbrev pub behind : ℕ → List ℕ → ℕ
@@ -109,12 +102,12 @@ behind from bytes = numberIn (take 3 (drop from bytes))
 abbrev pub Outcome : Reading → List ℕ → List ℤ → List ℕ → Read → List ℕ → List ℤ → Type 0
 Outcome state initial offsets frame answer initial-after offsets-after =
     let next = afterFrame (session state initial offsets) frame in
-    (answer ≡ answerIf (frameVerdict state (length initial) (length offsets) frame) state frame)
+    (answer ≡ answerIf (dueVerdict state (length initial) (length offsets) frame) state frame)
     × ((initial-after ≡ next .initial) × (offsets-after ≡ next .offsets))
 
 module _ (state : Reading) (initial : List ℕ) (offsets : List ℤ) (frame : List ℕ) where
   pub refused-outcome : (cause : Cause) (answer : Read) → answer ≡ refusedAnswer state cause
-      → frameVerdict state (length initial) (length offsets) frame ≡ Verdict.Refused cause
+      → dueVerdict state (length initial) (length offsets) frame ≡ Verdict.Refused cause
       → Outcome state initial offsets frame answer initial offsets
   unfolding afterFrame
   refused-outcome cause answer is e = rw (is, e) (refl, (refl, refl))
@@ -122,11 +115,11 @@ module _ (state : Reading) (initial : List ℕ) (offsets : List ℤ) (frame : Li
 -- A later line is tried for the frame that is due, and then for the tables' lengths.
 module _ (bytes : List ℕ) (count : ℕ) (full : length bytes ≡ 16) (sound : Sound bytes count) (state : Reading) (begun : Begun state)
     (initial offsets : ℕ) where
-  later-verdict : frameVerdict state initial offsets (take count bytes)
+  later-verdict : dueVerdict state initial offsets (take count bytes)
       ≡ verdict
       ((leb (lineCount (state .design)) (state .taken) || notDue state bytes count) ↝ Cause.Frame
       ∷ tablesCheck (state .design) initial offsets ∷ [])
-  unfolding frameVerdict
+  unfolding dueVerdict
   later-verdict =
       let slot = slotOf (state .design) (state .taken) in
       rw (
@@ -136,20 +129,20 @@ module _ (bytes : List ℕ) (count : ℕ) (full : length bytes ≡ 16) (sound : 
       )
 
   pub nothing-due : lineCount (state .design) ≤ state .taken
-      → frameVerdict state initial offsets (take count bytes) ≡ Verdict.Refused Cause.Frame
+      → dueVerdict state initial offsets (take count bytes) ≡ Verdict.Refused Cause.Frame
   nothing-due h = later-verdict ∙ rw (le-leb _ _ h)
 
-  pub other-due : notDue state bytes count ≡ true → frameVerdict state initial offsets (take count bytes) ≡ Verdict.Refused Cause.Frame
+  pub other-due : notDue state bytes count ≡ true → dueVerdict state initial offsets (take count bytes) ≡ Verdict.Refused Cause.Frame
   other-due e = later-verdict ∙ rw (e, or-true)
 
   module _ (within : state .taken < lineCount (state .design)) (due : notDue state bytes count ≡ false) where
     pub later-short : tablesCheck (state .design) initial offsets .fails ≡ true
-        → frameVerdict state initial offsets (take count bytes) ≡ Verdict.Refused Cause.TablesShort
+        → dueVerdict state initial offsets (take count bytes) ≡ Verdict.Refused Cause.TablesShort
     unfolding tablesCheck
     later-short e = later-verdict ∙ rw (lt-leb _ _ within, due, e)
 
     pub later-accepted : tablesCheck (state .design) initial offsets .fails ≡ false
-        → frameVerdict state initial offsets (take count bytes) ≡ Verdict.Passed
+        → dueVerdict state initial offsets (take count bytes) ≡ Verdict.Passed
     later-accepted e = later-verdict ∙ rw (lt-leb _ _ within, due, e)
 
 -- The number that is stored: where there is an entry, its 3 bytes lie within the frame.
@@ -184,7 +177,7 @@ due-long head width bytes count e =
 -- The answer to a frame that is accepted, and the tables after it
 module _ (state : Reading) (begun : Begun state) (initial : List ℕ) (offsets : List ℤ) (bytes : List ℕ) (count : ℕ) where
   pub accepted-outcome : notDue state bytes count ≡ false
-      → frameVerdict state (length initial) (length offsets) (take count bytes) ≡ Verdict.Passed
+      → dueVerdict state (length initial) (length offsets) (take count bytes) ≡ Verdict.Passed
       → let slot = slotOf (state .design) (state .taken) in
       let number = behind (length (frameHead (state .design) slot)) bytes in
       Outcome state initial offsets (take count bytes)

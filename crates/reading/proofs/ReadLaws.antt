@@ -23,13 +23,13 @@ use Rattle.lines.specs.Slots.{lineCount, slotOf}
 use Rattle.lines.specs.Lines.{frameHead, entryWidth}
 use Rattle.reading.specs.declared.Reading.{Reading}
 use Rattle.reading.specs.Inputs.{Begun}
-use Rattle.reading.specs.ReadLine.{passes, possible, stateCheck, designOf, headFails, frameFailsIn, frameChecks, readVerdict}
+use Rattle.reading.specs.ReadLine.{passes, possible, stateCheck, designOf, headFails, dueFails, dueChecks, readVerdict}
 
--- A later frame is not the one due.
-abbrev pub dueFails : Reading → List ℕ → Bool
-dueFails state bytes =
+-- A later frame is not the one due, by its bytes and their number.
+abbrev pub notDue : Reading → List ℕ → ℕ → Bool
+notDue state bytes count =
     let slot = slotOf (state .design) (state .taken) in
-    headFails (frameHead (state .design) slot) (entryWidth slot) bytes (length bytes)
+    headFails (frameHead (state .design) slot) (entryWidth slot) bytes count
 
 module _ (state : Reading) where
   -- the design that counts
@@ -44,17 +44,17 @@ module _ (state : Reading) where
   -- the checks on a sound line
   module _ (initial offsets : ℕ) (bytes : List ℕ) where
     pub first-checks : state .taken ≡ 0
-        → frameChecks state initial offsets bytes ≡ frameFails bytes (length bytes) ↝ Cause.Frame ∷ setChecks (frameDesign bytes) initial offsets
-    unfolding frameChecks frameFailsIn setChecks
+        → dueChecks state initial offsets bytes ≡ frameFails bytes (length bytes) ↝ Cause.Frame ∷ setChecks (frameDesign bytes) initial offsets
+    unfolding dueChecks dueFails setChecks
     first-checks e = rw (first-design bytes e, e)
 
     abbrev pub laterChecks : List Check
     laterChecks =
-        (leb (lineCount (state .design)) (state .taken) || dueFails state bytes) ↝ Cause.Frame
+        (leb (lineCount (state .design)) (state .taken) || notDue state bytes (length bytes)) ↝ Cause.Frame
         ∷ tablesCheck (state .design) initial offsets ∷ []
 
-    pub later-checks : 0 < state .taken → frameChecks state initial offsets bytes ≡ laterChecks
-    unfolding frameChecks frameFailsIn
+    pub later-checks : 0 < state .taken → dueChecks state initial offsets bytes ≡ laterChecks
+    unfolding dueChecks dueFails
     later-checks h = rw (later-design bytes h, ne-eqb (state .taken) 0 (λ z. omega arith))
 
   -- the state
@@ -89,13 +89,13 @@ module _ (state : Reading) where
 pub record Passing (state : Reading) (initial offsets : ℕ) (line : List ℕ) : Type 0 where
   pub state-possible : possible state ≡ true
   pub line-sound : lineFails line ≡ false
-  pub frame-passed : verdict (frameChecks state initial offsets (bytesOf line)) ≡ Verdict.Passed
+  pub frame-passed : verdict (dueChecks state initial offsets (bytesOf line)) ≡ Verdict.Passed
 
 module _ (state : Reading) (initial offsets : ℕ) where
   pub passing : (line : List ℕ) → readVerdict state initial offsets line ≡ Verdict.Passed → Passing state initial offsets line
   unfolding readVerdict stateCheck lineChecks
   passing line e =
-      let parts = passed-append (stateCheck state ∷ lineChecks line) (frameChecks state initial offsets (bytesOf line)) e in
+      let parts = passed-append (stateCheck state ∷ lineChecks line) (dueChecks state initial offsets (bytesOf line)) e in
       let sound = none-fails (stateCheck state ∷ lineChecks line) (parts .0) in
       record {
         state-possible = not-false (possible state) (sound .0);
@@ -113,7 +113,7 @@ module _ (state : Reading) (initial offsets : ℕ) where
       pub frame : frameFails bytes (length bytes) ≡ false
       pub tables : Usable (frameDesign bytes) initial offsets
 
-    pub first-passing : state .taken ≡ 0 → verdict (frameChecks state initial offsets bytes) ≡ Verdict.Passed → First
+    pub first-passing : state .taken ≡ 0 → verdict (dueChecks state initial offsets bytes) ≡ Verdict.Passed → First
     first-passing z e =
         let parts = passed-append (frameFails bytes (length bytes) ↝ Cause.Frame ∷ []) (setChecks (frameDesign bytes) initial offsets)
         (ap verdict (sym (first-checks state initial offsets bytes z)) ∙ e) in
@@ -122,22 +122,22 @@ module _ (state : Reading) (initial offsets : ℕ) where
           tables = usable _ _ _ (parts .1);
         }
 
-    pub first-passed : state .taken ≡ 0 → First → verdict (frameChecks state initial offsets bytes) ≡ Verdict.Passed
+    pub first-passed : state .taken ≡ 0 → First → verdict (dueChecks state initial offsets bytes) ≡ Verdict.Passed
     first-passed z p = rw (first-checks state initial offsets bytes z, p .frame) (set-passed _ _ _ (p .tables))
 
     -- a later one
     pub record Later : Type 0 where
       pub within : state .taken < lineCount (state .design)
-      pub head : dueFails state bytes ≡ false
+      pub head : notDue state bytes (length bytes) ≡ false
       pub tables : tablesCheck (state .design) initial offsets .fails ≡ false
 
-    pub later-passing : 0 < state .taken → verdict (frameChecks state initial offsets bytes) ≡ Verdict.Passed → Later
+    pub later-passing : 0 < state .taken → verdict (dueChecks state initial offsets bytes) ≡ Verdict.Passed → Later
     later-passing h e =
         let tried = none-fails (laterChecks state initial offsets bytes)
         (ap verdict (sym (later-checks state initial offsets bytes h)) ∙ e) in
-        let due = neither _ (dueFails state bytes) (tried .0) in
+        let due = neither _ (notDue state bytes (length bytes)) (tried .0) in
         record { within = leb-false _ _ (due .0); head = due .1; tables = tried .1 .0 }
 
-    pub later-passed : 0 < state .taken → Later → verdict (frameChecks state initial offsets bytes) ≡ Verdict.Passed
+    pub later-passed : 0 < state .taken → Later → verdict (dueChecks state initial offsets bytes) ≡ Verdict.Passed
     later-passed h p =
         rw (later-checks state initial offsets bytes h, lt-leb _ _ (p .within), p .head, p .tables)

@@ -27,10 +27,12 @@ use Rattle.reading.specs.ReadLine.{
   possible,
   stateCheck,
   designOf,
-  frameChecks,
-  frameVerdict,
+  dueChecks,
+  dueVerdict,
   readVerdict,
+  stateIf,
   answerIf,
+  Session,
   readAnswer,
   initialStored,
   offsetsStored,
@@ -78,10 +80,16 @@ module _ (line : List ℕ) (held : Decoded) (held-is : held ≡ decoded line) wh
 -- What the reading of a line has to come to: this answer, its number, and these tables
 abbrev pub LineOutcome : Reading → List ℕ → List ℤ → List ℕ → Read → List ℕ → List ℤ → Type 0
 LineOutcome state initial offsets line answer initial-after offsets-after =
-    let next = after (session state initial offsets) line in
-    (answer ≡ readAnswer state (length initial) (length offsets) line)
-    × ((verdictNumber (answer .verdict) ≡ verdictNumber (readVerdict state (length initial) (length offsets) line))
+    let s = session state initial offsets in
+    let next = after s line in
+    (answer ≡ readAnswer s line)
+    × ((verdictNumber (answer .verdict) ≡ verdictNumber (verdictOn s line))
     × ((initial-after ≡ next .initial) × (offsets-after ≡ next .offsets)))
+
+-- The state after a line is the one beside the verdict.
+moved-state : (v : Verdict) (s : Session) (bytes : List ℕ) → movedIf v s bytes .state ≡ stateIf v (s .state) bytes
+moved-state Verdict.Passed s bytes = refl
+moved-state (Verdict.Refused cause) s bytes = refl
 
 module _ (state : Reading) (initial : List ℕ) (offsets : List ℤ) (line : List ℕ) where
   line-refused : (cause : Cause) (answer : Read) → answer ≡ refusedAnswer state cause
@@ -104,17 +112,17 @@ module _ (state : Reading) (initial : List ℕ) (offsets : List ℤ) (line : Lis
     unfolding readVerdict stateCheck
     unsound cause answer is e =
         line-refused cause answer is
-        (rw (possible-state, verdict-append (lineChecks line) (frameChecks state (length initial) (length offsets) (bytesOf line)), e))
+        (rw (possible-state, verdict-append (lineChecks line) (dueChecks state (length initial) (length offsets) (bytesOf line)), e))
 
     -- A sound line comes to what its frame comes to.
     module _ (sound : verdict (lineChecks line) ≡ Verdict.Passed) where
       frame-decides : readVerdict state (length initial) (length offsets) line
-          ≡ frameVerdict state (length initial) (length offsets) (bytesOf line)
-      unfolding readVerdict stateCheck frameVerdict
+          ≡ dueVerdict state (length initial) (length offsets) (bytesOf line)
+      unfolding readVerdict stateCheck dueVerdict
       frame-decides =
           rw (
             possible-state,
-            verdict-append (lineChecks line) (frameChecks state (length initial) (length offsets) (bytesOf line)),
+            verdict-append (lineChecks line) (dueChecks state (length initial) (length offsets) (bytesOf line)),
             sound,
           )
 
@@ -123,7 +131,7 @@ module _ (state : Reading) (initial : List ℕ) (offsets : List ℤ) (line : Lis
           → LineOutcome state initial offsets line answer initial-after offsets-after
       unfolding readAnswer after verdictOn afterFrame
       line-outcome answer initial-after offsets-after o =
-          rw frame-decides (o .0, (ap (λ (r : Read). verdictNumber (r .verdict)) (o .0), o .1))
+          rw (frame-decides, moved-state) (o .0, (ap (λ (r : Read). verdictNumber (r .verdict)) (o .0), o .1))
 
 -- The first line stores nothing.
 module _ (state : Reading) (none : state .taken ≡ 0) (initial : List ℕ) (offsets : List ℤ) (frame : List ℕ) where
@@ -140,8 +148,8 @@ module _ (state : Reading) (none : state .taken ≡ 0) (initial : List ℕ) (off
   offsets-kept Verdict.Passed = rw no-entry
   offsets-kept (Verdict.Refused cause) = refl
 
-  pub first-outcome : (answer : Read) → answer ≡ answerIf (frameVerdict state (length initial) (length offsets) frame) state frame
+  pub first-outcome : (answer : Read) → answer ≡ answerIf (dueVerdict state (length initial) (length offsets) frame) state frame
       → Outcome state initial offsets frame answer initial offsets
   unfolding afterFrame
   first-outcome answer is =
-      let v = frameVerdict state (length initial) (length offsets) frame in (is, (initial-kept v, offsets-kept v))
+      let v = dueVerdict state (length initial) (length offsets) frame in (is, (initial-kept v, offsets-kept v))

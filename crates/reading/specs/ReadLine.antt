@@ -43,33 +43,33 @@ begins bytes [] = true
 begins [] (first ∷ rest) = false
 begins (byte ∷ bytes) (first ∷ rest) = eqb byte first && begins bytes rest
 
--- Of a frame, sum byte included: "byte count", then "frame kind, .. table number, index or count not the one due". Its bytes before
--- the entry are not those that are due, or their number is not that of these bytes, the entry and the sum byte.
+-- 16 of a later line, "frame kind, byte count, table number, index or count not the one due": its bytes are not as many as the head
+-- that is due, the entry and the sum byte, or they do not begin with that head.
 unfoldable pub headFails : List ℕ → ℕ → List ℕ → ℕ → Bool
 headFails head width bytes count = not (eqb count (length head + width + 1)) || not (begins bytes head)
 
--- With no line taken an 01 frame is due, "8 + 2m bytes by its own m"; after 04 nothing is.
-unfoldable pub frameFailsIn : Reading → List ℕ → Bool
-frameFailsIn state bytes =
+-- 16: with no line taken an 01 frame is due, "8 + 2m bytes by its own m"; "After 04 nothing more is due".
+unfoldable pub dueFails : Reading → List ℕ → Bool
+dueFails state bytes =
     let d = state .design in
     let slot = slotOf d (state .taken) in
     cond (eqb (state .taken) 0) (frameFails bytes (length bytes))
     (leb (lineCount d) (state .taken) || headFails (frameHead d slot) (entryWidth slot) bytes (length bytes))
 
--- "16, on an 01 line 1 to 9, then 10", for tables of these lengths
-unfoldable pub frameChecks : Reading → ℕ → ℕ → List ℕ → List Check
-frameChecks state initial offsets bytes =
+-- "16, on an 01 line 1 to 9, then 10", of a sound line's bytes, for tables of these lengths
+unfoldable pub dueChecks : Reading → ℕ → ℕ → List ℕ → List Check
+dueChecks state initial offsets bytes =
     let d = designOf state bytes in
-    frameFailsIn state bytes ↝ Cause.Frame
+    dueFails state bytes ↝ Cause.Frame
     ∷ cond (eqb (state .taken) 0) (designChecks d) [] ++ tablesCheck d initial offsets ∷ []
 
-unfoldable pub frameVerdict : Reading → ℕ → ℕ → List ℕ → Verdict
-frameVerdict state initial offsets bytes = verdict (frameChecks state initial offsets bytes)
+unfoldable pub dueVerdict : Reading → ℕ → ℕ → List ℕ → Verdict
+dueVerdict state initial offsets bytes = verdict (dueChecks state initial offsets bytes)
 
--- "17, 15, 16, .."
+-- "reader 17, 15, 16, on an 01 line 1 to 9, then 10"
 unfoldable pub readVerdict : Reading → ℕ → ℕ → List ℕ → Verdict
 readVerdict state initial offsets line =
-    verdict (stateCheck state ∷ lineChecks line ++ frameChecks state initial offsets (bytesOf line))
+    verdict (stateCheck state ∷ lineChecks line ++ dueChecks state initial offsets (bytesOf line))
 
 -- "Each accepted line moves the reading state on by one". Pairs beyond m are those of the design: zeros from an 01 line, as they came
 -- later. A refusal "gives back the state that came in".
@@ -77,12 +77,9 @@ abbrev pub stateIf : Verdict → Reading → List ℕ → Reading
 stateIf Verdict.Passed state bytes = record { design = designOf state bytes; taken = state .taken + 1 }
 stateIf (Verdict.Refused cause) state bytes = state
 
+-- The verdict on a sound line, which is given as its bytes, and the state beside it
 abbrev pub answerIf : Verdict → Reading → List ℕ → Read
 answerIf v state bytes = record { verdict = v; state = stateIf v state bytes }
-
--- What `read_line` returns: the verdict, and the next state beside it
-unfoldable pub readAnswer : Reading → ℕ → ℕ → List ℕ → Read
-readAnswer state initial offsets line = answerIf (readVerdict state initial offsets line) state (bytesOf line)
 
 -- The number in the entry's bytes
 unfoldable pub entryIn : Design → Slot → List ℕ → ℕ
@@ -125,7 +122,7 @@ movedIf (Verdict.Refused cause) s bytes = s
 
 -- The reading after a sound line, which is given as its bytes
 unfoldable pub afterFrame : Session → List ℕ → Session
-afterFrame s bytes = movedIf (frameVerdict (s .state) (length (s .initial)) (length (s .offsets)) bytes) s bytes
+afterFrame s bytes = movedIf (dueVerdict (s .state) (length (s .initial)) (length (s .offsets)) bytes) s bytes
 
 -- The verdict of a reading on a line, and the reading after it
 unfoldable pub verdictOn : Session → List ℕ → Verdict
@@ -133,3 +130,7 @@ verdictOn s line = readVerdict (s .state) (length (s .initial)) (length (s .offs
 
 unfoldable pub after : Session → List ℕ → Session
 after s line = movedIf (verdictOn s line) s (bytesOf line)
+
+-- What `read_line` returns: the verdict, and the next state beside it
+unfoldable pub readAnswer : Session → List ℕ → Read
+readAnswer s line = record { verdict = verdictOn s line; state = after s line .state }

@@ -9,14 +9,14 @@ ghost use Rattle.lines.specs.Inputs.{SlotIn};
 ghost use Rattle.reading.specs.ReadLine.{
   possible,
   headFails,
-  frameVerdict,
-  readVerdict,
+  dueVerdict,
   answerIf,
   readAnswer,
   initialStored,
   offsetsStored,
   session,
   afterFrame,
+  verdictOn,
   after,
 };
 ghost use Rattle.reading.specs.Inputs.{Sound, Begun};
@@ -117,7 +117,7 @@ fn refused(state: Reading, cause: Cause) -> Read
 fn first_line(state: Reading, bytes: [u8; 16], count: usize, initial: usize, offsets: usize) -> Read
     requires { ⌜ Sound bytes count ⌝ }
     requires { ⌜ state .taken ≡ 0 ⌝ }
-    ensures { λ r. ⌜ r ≡ answerIf (frameVerdict state initial offsets (take count bytes)) state (take count bytes) ⌝ }
+    ensures { λ r. ⌜ r ≡ answerIf (dueVerdict state initial offsets (take count bytes)) state (take count bytes) ⌝ }
 {
     if let Verdict::Refused(cause) = frame_verdict(bytes, count) {
         return refused(state, cause);
@@ -143,7 +143,7 @@ fn later_line(
     requires { ⌜ Sound bytes count ⌝ }
     requires { ⌜ Begun state ⌝ }
     ensures { λ r.
-        ⌜ r ≡ answerIf (frameVerdict state (length (now (initial .entry))) (length (now (offsets .entry))) (take count bytes)) state
+        ⌜ r ≡ answerIf (dueVerdict state (length (now (initial .entry))) (length (now (offsets .entry))) (take count bytes)) state
         (take count bytes) ⌝ }
     ensures { λ _.
         ⌜ now (initial .exit) ≡ afterFrame (session state (now (initial .entry)) (now (offsets .entry))) (take count bytes) .initial ⌝ }
@@ -176,10 +176,10 @@ impl Reading {
     // Takes a line (document 01, "Bits, lines and the report"). Nothing is stored before every check has passed.
     pub fn read_line(self, initial: &mut [u32], offsets: &mut [i32], line: &[u8]) -> Read
         ensures answer { λ r.
-            ⌜ r ≡ readAnswer self (length (now (initial .entry))) (length (now (offsets .entry))) (now (line .entry)) ⌝ }
+            ⌜ r ≡ readAnswer (session self (now (initial .entry)) (now (offsets .entry))) (now (line .entry)) ⌝ }
         ensures number { λ r.
             ⌜ verdictNumber (r .verdict)
-            ≡ verdictNumber (readVerdict self (length (now (initial .entry))) (length (now (offsets .entry))) (now (line .entry))) ⌝ }
+            ≡ verdictNumber (verdictOn (session self (now (initial .entry)) (now (offsets .entry))) (now (line .entry))) ⌝ }
         ensures initial_table { λ _.
             ⌜ now (initial .exit)
             ≡ after (session self (now (initial .entry)) (now (offsets .entry))) (now (line .entry)) .initial ⌝ }

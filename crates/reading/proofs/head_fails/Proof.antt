@@ -48,7 +48,7 @@ returns : tie.Need-returns Inv-loop μ-loop
 returns c =
     let s = c .before .before in
     let full : length (s .args .head .bytes) ≡ 16 = search needs in
-    count-fails (s .args .head .count) (s .args .head .bytes) _ _ _ (omega arith) (c .if1 .taken)
+    count-fails (s .args .head .count) (s .args .head .bytes) _ _ _ (omega arith) (λ right. omega (arith, c .if1 .taken))
 
 loop-holds : tie.Need-loop-holds Inv-loop μ-loop
 unfolding begins
@@ -64,7 +64,8 @@ returns-2 : tie.Need-returns-2 Inv-loop μ-loop
 returns-2 c =
     let s = c .before .before .before .before .before .before in
     let full : length (s .args .head .bytes) ≡ 16 = search needs in
-    byte-fails (s .args .head .count) (s .args .head .bytes) _ _ _ (omega arith) (c .before .before .loop .i) (omega arith) (c .if2 .taken)
+    byte-fails (s .args .head .count) (s .args .head .bytes) _ _ _ (omega arith) (c .before .before .loop .i) (omega arith)
+    (λ same. omega (arith, c .if2 .taken))
 
 add-i : tie.Need-add-i Inv-loop μ-loop
 add-i c = omega arith
@@ -76,14 +77,14 @@ loop-again : tie.Need-loop-again Inv-loop μ-loop
 loop-again c =
     let s = c .before .before .before .before .before .before in
     let full : length (s .args .t3) ≡ 16 = search needs in
-    begins-more _ _ (c .before .before .loop .i) (omega arith) (c .if2 .left) (c .before .before .loop .inv)
+    begins-more _ _ (c .before .before .loop .i) (omega arith) (omega (arith, c .if2 .left)) (c .before .before .loop .inv)
 
 returns-3 : tie.Need-returns-3 Inv-loop μ-loop
 returns-3 c =
     let s = c .before .before .before .before .before in
     let full : length (s .args .head .bytes) ≡ 16 = search needs in
     frame-due (s .args .head .count) (s .args .head .bytes) _ _ _ (omega arith) (c .before .loop .i) (omega arith)
-    (c .before .before .before .if1 .left) (c .before .loop .inv)
+    (omega (arith, c .before .before .before .if1 .left)) (c .before .loop .inv)
 
 pub head-fails-spec : {M : Type 1} → statement M
 head-fails-spec =

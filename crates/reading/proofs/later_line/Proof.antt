@@ -18,10 +18,11 @@ use Rattle.lines.specs.declared.Slot.{Slot}
 use Rattle.lines.specs.Slots.{lineCount, slotOf}
 use Rattle.lines.specs.Lines.{frameHead, entryWidth}
 use Rattle.lines.proofs.SlotLaws.{slot-in}
+use Rattle.lines.proofs.TableLaws.{lines-small}
 use Rattle.lines.proofs.FrameLaws.{later, head-short, frame-short}
 use Rattle.reading.specs.ReadLine.{headFails, initialStored, offsetsStored}
+use Rattle.reading.proofs.ReadLaws.{notDue}
 use Rattle.reading.proofs.LineSteps.{
-  notDue,
   behind,
   refused-outcome,
   nothing-due,
@@ -74,11 +75,6 @@ frame-told c answer branch =
     let h = c .before .before in
     due-told _ _ _ _ (h .before .slot-of .ensures) (h .head-of .ensures .0) (h .head-of .ensures .1) _ _ _ _ _
     (c .before .entry-width .ensures) (c .head-fails .ensures) branch
-
--- where the frame is the one due and the tables are long enough
-long : (c : tie.Else3) → let a = c .before .before .before .before .before .before .before .before .before .before .before .args in
-    tablesCheck (a .state .design) (length (a .initial .now)) (length (a .offsets .now)) .fails ≡ false
-long c = tested (c .before .tables-short .ensures) (c .if3 .left)
 
 line-count-requires : tie.Need-line-count-requires
 line-count-requires c κs = search needs
@@ -134,6 +130,11 @@ returns-3 c =
     (later-short _ _ (full s) (s .pre .0) _ (s .pre .1) _ _ (within e) (frame-told a _ (t .before .if2 .left))
     (tested (t .tables-short .ensures) (c .before .if3 .taken)))
 
+-- where the frame is the one due and the tables are long enough
+long : (c : tie.Else3) → let a = c .before .before .before .before .before .before .before .before .before .before .before .args in
+    tablesCheck (a .state .design) (length (a .initial .now)) (length (a .offsets .now)) .fails ≡ false
+long c = tested (c .before .tables-short .ensures) (c .if3 .left)
+
 store-requires : tie.Need-store-requires
 store-requires c κs =
     let l = c .before .before in
@@ -146,7 +147,10 @@ store-requires c κs =
     )
 
 add-t14 : tie.Need-add-t14
-add-t14 c = search needs
+add-t14 c =
+    let s = c .before .before .before .before .before .before .before .before .before .before .before .before .before .before .before .before
+    .before .before in
+    omega (arith, s .pre .1 .within, lines-small _ (s .pre .1 .legal))
 
 same-length : tie.Need-same-length
 same-length c = search needs
