@@ -11,10 +11,10 @@ use Rattle.design.specs.declared.Design.{Design}
 use Rattle.design.specs.Cut.{tables, pairAt}
 use Rattle.design.specs.Legal.{Legal}
 use Rattle.design.proofs.LegalLaws.{limits}
-use Rattle.encoding.specs.Bytes.{bigEndian}
 use Rattle.encoding.specs.DesignBytes.{pairBytes, designBytes}
 use Rattle.encoding.specs.Inputs.{held}
 use Rattle.encoding.specs.declared.Frame.{Frame}
+use Rattle.encoding.proofs.NumberBytes.{Longer, one-byte}
 
 -- A design has no more tables than its m says.
 no-more : (d : Design) → length (tables d) ≤ d .m
@@ -43,11 +43,6 @@ pub design-bytes-length : (d : Design) → length (designBytes d) ≡ 7 + 2 * le
 unfolding designBytes
 design-bytes-length d = omega (arith, pair-bytes-length (tables d))
 
--- A number below 256 in one byte is that byte.
-pub one-byte : (v : ℕ) → v < 256 → bigEndian 1 v ≡ v ∷ []
-unfolding bigEndian
-one-byte v h = ap (λ (byte : ℕ). byte ∷ []) (omega arith)
-
 -- The next pair is the first of those that are left.
 pairs-next : (d : Design) (i : ℕ) → i < length (tables d)
     → pairBytes (drop i (tables d)) ≡ pairAt d i .a ∷ pairAt d i .b ∷ pairBytes (drop (i + 1) (tables d))
@@ -64,14 +59,10 @@ pub record Paired (d : Design) (frame : Frame) (i : ℕ) : Type 0 where
   pub counted : frame .count ≡ 7 + 2 * i
   pub so-far : held frame ++ pairBytes (drop i (tables d)) ≡ designBytes d
 
--- The frame with a byte behind what it has
-abbrev Longer : Frame → Frame → ℕ → Type 0
-Longer frame next byte = (held next ≡ held frame ++ bigEndian 1 byte) × (next .count ≡ frame .count + 1)
-
 module _ {d : Design} {frame : Frame} {i : ℕ} (part : Paired d frame i) where
   -- One pair more
   pub paired-more : (first second : Frame) (pair : Pair) → pair ≡ pairAt d i → i < d .m
-      → Longer frame first (pair .a) → Longer first second (pair .b) → Paired d second (i + 1)
+      → Longer first frame 1 (pair .a) → Longer second first 1 (pair .b) → Paired d second (i + 1)
   paired-more first second pair pair-is more longer even-longer =
       let table = limits d (part .legal) .table i more in
       let a-is : pair .a ≡ pairAt d i .a = ap (λ (p : Pair). p .a) pair-is in

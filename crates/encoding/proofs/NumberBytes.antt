@@ -1,5 +1,5 @@
 -- Numbers while their bytes are written or read, the highest byte first.
-use mathlib.Core.Path.{_≡_, refl, _∙_}
+use mathlib.Core.Path.{_≡_, refl, ap, _∙_}
 use mathlib.Core.List.{List, [], _∷_, _++_, append-nil}
 use Prim.Native.Nat.{ℕ, suc, _+_, _-_, _*_, _/_, _%_, _^_, _≤_, _<_}
 use native.Mathlib.Numerals.{add-one}
@@ -7,7 +7,10 @@ use native.Mathlib.Omega.{arith}
 use lib.ListN.{length, take, drop, getD, set, length-append, length-drop, length-set}
 use lib.Pow.{pow-add, pow-mono}
 use lib.Seq.{take-suc, take-suc-set, append-snoc, getD-drop}
+use Rattle.encoding.specs.declared.Frame.{Frame}
 use Rattle.encoding.specs.Bytes.{bigEndian, numberIn}
+use Rattle.encoding.specs.Inputs.{held}
+use Rattle.encoding.proofs.NumberBack.{big-endian-length}
 
 -- A number of `width` bytes behind the first `count` bytes of a frame that held `before`: `left` bytes are still to be written, from
 -- place `at` on.
@@ -92,3 +95,28 @@ module _ {bytes : List ℕ} {from width number i : ℕ} (part : Counting bytes f
   counted-all end =
       let all : width ≡ i = omega arith in
       rw all (part .so-far)
+
+-- A frame that has these bytes and no more
+abbrev pub Has : Frame → List ℕ → Type 0
+Has frame bytes = (held frame ≡ bytes) × (frame .count ≡ length bytes)
+
+-- A frame that is another one with a number behind what that has
+abbrev pub Longer : Frame → Frame → ℕ → ℕ → Type 0
+Longer next frame width number = (held next ≡ held frame ++ bigEndian width number) × (next .count ≡ frame .count + width)
+
+-- has that one's bytes and the number's.
+pub has-more : (frame next : Frame) (bytes : List ℕ) (width number : ℕ) → Has frame bytes → Longer next frame width number
+    → Has next (bytes ++ bigEndian width number)
+has-more frame next bytes width number had more = (
+  more .0 ∙ ap (λ (front : List ℕ). front ++ bigEndian width number) (had .0),
+  omega (arith, length-append bytes (bigEndian width number), big-endian-length width number),
+)
+
+-- A number below 256 in one byte is that byte.
+pub one-byte : (v : ℕ) → v < 256 → bigEndian 1 v ≡ v ∷ []
+unfolding bigEndian
+one-byte v h = ap (λ (byte : ℕ). byte ∷ []) (omega arith)
+
+pub has-byte : (frame next : Frame) {bytes : List ℕ} (v : ℕ) → v < 256 → Has frame bytes → Longer next frame 1 v
+    → Has next (bytes ++ (v ∷ []))
+has-byte frame next {bytes} v h had more = rw (one-byte v h) at (has-more frame next bytes 1 v had more)

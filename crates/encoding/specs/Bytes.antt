@@ -25,7 +25,8 @@ complement n (negsuc v) = 2 ^ (8 * n) - 1 - v
 unfoldable pub fromComplement : ℕ → ℕ → ℤ
 fromComplement n v = cond (ltb v (2 ^ (8 * n - 1))) (pos v) (negsuc (2 ^ (8 * n) - 1 - v))
 
--- "fits its 3 bytes", here n: a number without sign, and one in two's complement, which is -2^(8n-1) or more and below 2^(8n-1)
+-- 18, "entry does not fit its 3 bytes", here n, the other way round: a number without sign fits, and one in two's complement, which is
+-- -2^(8n-1) or more and below 2^(8n-1)
 unfoldable pub fits : ℕ → ℕ → Bool
 fits n v = ltb v (2 ^ (8 * n))
 

@@ -22,7 +22,7 @@ pub struct Frame {
 }
 
 impl Frame {
-    // The frame's first byte.
+    // inner: a frame that has its first byte. What stands behind that does not count.
     pub fn of_kind(kind: u8) -> Frame
         ensures { λ r. ⌜ held r ≡ kind ∷ [] ⌝ }
         ensures { λ r. ⌜ r .count ≡ 1 ⌝ }
@@ -51,36 +51,29 @@ impl Frame {
     }
 }
 
-// inner: the frame 01 of a legal design, each of whose numbers fits a byte.
+// The frame 01 of a legal design before its pairs. Each number of a legal design fits a byte.
+fn design_head(d: Design) -> Frame
+    requires { ⌜ Legal d ⌝ }
+    ensures { λ r. ⌜ held r ≡ 1 ∷ d .kind ∷ d .w ∷ d .q ∷ d .g ∷ d .alpha ∷ d .m ∷ [] ⌝ }
+    ensures { λ r. ⌜ r .count ≡ 7 ⌝ }
+{
+    Frame::of_kind(1)
+        .with(1, d.kind)
+        .with(1, d.w)
+        .with(1, d.q)
+        .with(1, d.g)
+        .with(1, d.alpha)
+        .with(1, d.m)
+}
+
+// inner: the frame 01 of a legal design.
 pub fn design_frame(d: Design) -> Frame
     requires { ⌜ Legal d ⌝ }
     ensures { λ r. ⌜ held r ≡ designBytes d ⌝ }
     ensures { λ r. ⌜ r .count ≡ length (designBytes d) ⌝ }
 {
     let m = d.m;
-    let kind = d.kind as u8;
-    let alpha = d.alpha as u8;
-    let mut frame = Frame {
-        bytes: [
-            1,
-            kind,
-            d.w as u8,
-            d.q as u8,
-            d.g as u8,
-            alpha,
-            m as u8,
-            0,
-            0,
-            0,
-            0,
-            0,
-            0,
-            0,
-            0,
-            0,
-        ],
-        count: 7,
-    };
+    let mut frame = design_head(d);
     for i in 0..m {
         let pair = pair_at(d, i);
         frame = frame.with(1, pair.a).with(1, pair.b);

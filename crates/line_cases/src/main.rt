@@ -196,6 +196,9 @@ fn writer_order() {
 fn print_taken(state: Reading) {
     io::write_all(OUT, b"lines taken: ");
     io::print_decimal(OUT, state.taken as u64);
+    if state.is_finished() {
+        io::write_all(OUT, b", finished");
+    }
     io::write_all(OUT, b"\n");
 }
 

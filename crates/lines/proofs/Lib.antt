@@ -1,6 +1,5 @@
 -- Laws of a set's lines, one file a subject.
 pub mod SlotLaws
 pub mod TableLaws
-pub mod HeadLaws
 pub mod FrameLaws
 pub mod Unread

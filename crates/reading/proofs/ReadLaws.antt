@@ -4,9 +4,9 @@ use mathlib.Core.Bool.{Bool, true, false, _||_, _&&_, true≢false}
 use mathlib.Core.List.{List, [], _∷_}
 use Prim.Native.Nat.{ℕ, _<_}
 use native.Mathlib.Omega.{arith}
-use lib.Dec.{leb}
+use lib.Dec.{leb, eqb}
 use lib.ListN.{length}
-use borrow.Author.Tests.{leb-true, leb-false, le-leb, lt-leb, ne-eqb, not-false}
+use borrow.Author.Tests.{leb-true, leb-false, le-leb, lt-leb, eqb-true, eq-eqb, ne-eqb, not-false}
 use Rattle.refusal.specs.declared.Cause.{Cause}
 use Rattle.refusal.specs.declared.Verdict.{Verdict}
 use Rattle.refusal.specs.Checks.{Check, _↝_, verdict}
@@ -23,7 +23,7 @@ use Rattle.lines.specs.Slots.{lineCount, slotOf}
 use Rattle.lines.specs.Lines.{frameHead, entryWidth}
 use Rattle.reading.specs.declared.Reading.{Reading}
 use Rattle.reading.specs.Inputs.{Begun}
-use Rattle.reading.specs.ReadLine.{passes, possible, stateCheck, designOf, headFails, dueFails, dueChecks, readVerdict}
+use Rattle.reading.specs.ReadLine.{passes, possible, finished, stateCheck, designOf, headFails, dueFails, dueChecks, readVerdict}
 
 -- A later frame is not the one due, by its bytes and their number.
 abbrev pub notDue : Reading → List ℕ → ℕ → Bool
@@ -84,6 +84,28 @@ module _ (state : Reading) where
 
   pub begun-possible : Begun state → possible state ≡ true
   begun-possible b = later-possible state (b .some) ∙ rw (b .legal, le-leb _ _ (b .within))
+
+-- A finished reading
+module _ (state : Reading) where
+  pub not-begun : state .taken ≡ 0 → finished state ≡ false
+  unfolding finished lineCount
+  not-begun e = rw (first-possible state e, ne-eqb (state .taken) (lineCount (state .design)) (λ z. omega arith))
+
+  pub not-possible : possible state ≡ false → finished state ≡ false
+  unfolding finished
+  not-possible e = rw e
+
+  pub by-count : possible state ≡ true → finished state ≡ eqb (state .taken) (lineCount (state .design))
+  unfolding finished
+  by-count e = rw e
+
+  -- has taken all lines, and the other way round.
+  pub all-taken : finished state ≡ true → state .taken ≡ lineCount (state .design)
+  unfolding finished
+  all-taken e = eqb-true (state .taken) (lineCount (state .design)) (both (possible state) _ e .1)
+
+  pub finished-at-end : Begun state → state .taken ≡ lineCount (state .design) → finished state ≡ true
+  finished-at-end b e = by-count (begun-possible state b) ∙ eq-eqb (state .taken) (lineCount (state .design)) e
 
 -- A line that passes
 pub record Passing (state : Reading) (initial offsets : ℕ) (line : List ℕ) : Type 0 where

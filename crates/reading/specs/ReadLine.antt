@@ -33,6 +33,10 @@ possible state = eqb (state .taken) 0 || passes (designVerdict (state .design)) 
 unfoldable pub stateCheck : Reading → Check
 stateCheck state = not (possible state) ↝ Cause.State
 
+-- "After 04 nothing more is due and the reading is finished": a possible state in which all lines are taken
+unfoldable pub finished : Reading → Bool
+finished state = possible state && eqb (state .taken) (lineCount (state .design))
+
 -- "with 0 taken the design is not read": the design is then that of the line, which is given as its bytes.
 unfoldable pub designOf : Reading → List ℕ → Design
 designOf state bytes = cond (eqb (state .taken) 0) (frameDesign bytes) (state .design)

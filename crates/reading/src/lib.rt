@@ -8,6 +8,7 @@ ghost use Rattle.encoding.specs.Inputs.{held};
 ghost use Rattle.lines.specs.Inputs.{SlotIn};
 ghost use Rattle.reading.specs.ReadLine.{
   possible,
+  finished,
   headFails,
   dueVerdict,
   answerIf,
@@ -173,6 +174,18 @@ fn later_line(
 }
 
 impl Reading {
+    // Whether the reading is finished. With no line taken it is not, and the design is not looked at.
+    pub fn is_finished(self) -> bool
+        ensures { λ r. ⌜ r ≡ finished self ⌝ }
+    {
+        let taken = self.taken;
+        if taken != 0 && is_possible(self) {
+            taken as u64 == line_count(self.design)
+        } else {
+            false
+        }
+    }
+
     // Takes a line (document 01, "Bits, lines and the report"). Nothing is stored before every check has passed.
     pub fn read_line(self, initial: &mut [u32], offsets: &mut [i32], line: &[u8]) -> Read
         ensures answer { λ r.

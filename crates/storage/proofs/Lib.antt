@@ -8,5 +8,7 @@ pub mod Standing
 pub mod Uniqueness
 pub mod ReadingBack
 pub mod InOrder
+-- Examples:
+pub mod Examples
 -- All together:
 pub mod Stored

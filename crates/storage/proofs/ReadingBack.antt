@@ -39,6 +39,7 @@ use Rattle.lines.proofs.SlotLaws.{
 }
 use Rattle.lines.proofs.Unread.{line-same, slot-same, line-count-same}
 use Rattle.reading.specs.ReadLine.{Session, session, initialStored, offsetsStored, verdictOn, after}
+use Rattle.reading.proofs.ReadLaws.{finished-at-end}
 use Rattle.storage.specs.Feeding.{Begins, Finished, feed, keptIf, accepted}
 use Rattle.storage.specs.Sets.{TableSet, Storable, linesIn}
 use Rattle.storage.specs.Storage.{ReadsBack}
@@ -263,7 +264,8 @@ module _ (t : TableSet) (ok : Storable t) (s : Session) (begins : Begins s) (ini
 
   finished : Finished end
   unfolding lineCount
-  finished = omega arith
+  finished =
+      finished-at-end (end .state) (record { some = omega arith; legal = usable-given .legal; within = omega arith }) (omega arith)
 
   pub read-back : ReadsBack t s (feed s (linesIn t))
   read-back =

@@ -1,20 +1,28 @@
 -- Demand 2's last sentence, put together.
-use mathlib.Core.Path.{_≡_}
-use mathlib.Core.List.{List}
-use Prim.Native.Nat.{ℕ, _≤_, _<_}
+use mathlib.Core.Path.{_≡_, refl}
+use mathlib.Core.Bool.{true}
+use mathlib.Core.List.{List, _∷_}
+use Prim.Native.Nat.{ℕ, _+_, _≤_, _<_}
+use native.Mathlib.Omega.{arith}
 use lib.ListN.{length}
-use borrow.Author.Tests.{lt-leb, le-ltb}
+use borrow.Author.Tests.{lt-leb, le-ltb, not-false}
 use Rattle.refusal.specs.declared.Verdict.{Verdict}
-use Rattle.refusal.proofs.Checks.{verdict-append}
-use Rattle.tables.proofs.SetLaws.{set-passed}
-use Rattle.lines.specs.Slots.{lineCount}
-use Rattle.lines.specs.Lines.{lineAt}
-use Rattle.writing.specs.Write.{numberCheck, lineChecks, writeVerdict, writeAnswer, bufferAfter}
-use Rattle.storage.specs.Sets.{TableSet, Storable}
+use Rattle.refusal.specs.Checks.{Check, verdict}
+use Rattle.refusal.proofs.Checks.{verdict-append, passed-append, none-fails}
+use Rattle.design.specs.Cut.{initialCount}
+use Rattle.tables.specs.Inputs.{Usable}
+use Rattle.tables.specs.Fill.{setChecks}
+use Rattle.tables.proofs.SetLaws.{set-passed, usable}
+use Rattle.lines.specs.Slots.{lineCount, slotOf, offsetSlot}
+use Rattle.lines.specs.Lines.{entryFits, lineAt}
+use Rattle.lines.proofs.SlotLaws.{slot-initial, slot-offset}
+use Rattle.writing.specs.declared.Written.{Written}
+use Rattle.writing.specs.Write.{numberCheck, lineChecks, writeVerdict, written, writeAnswer, bufferAfter}
+use Rattle.storage.specs.Sets.{TableSet, Storable, lineIn}
 use Rattle.storage.specs.Storage.{Gives, Storage}
 use Rattle.storage.proofs.InOrder.{in-order}
 use Rattle.storage.proofs.ReadingBack.{storable-fits, read-back}
-use Rattle.storage.proofs.Uniqueness.{unique}
+use Rattle.storage.proofs.Uniqueness.{unique, refused-count-not}
 
 -- The writer gives each line of a set that has a stored form.
 module _ (t : TableSet) (n : ℕ) (buffer : List ℕ) (ok : Storable t) (within : n < lineCount (t .design))
@@ -24,16 +32,55 @@ module _ (t : TableSet) (n : ℕ) (buffer : List ℕ) (ok : Storable t) (within 
   passes =
       rw (verdict-append, set-passed _ _ _ (ok .usable), lt-leb _ _ within, storable-fits t ok n within, le-ltb _ _ room)
 
-  written : Gives t n buffer
+  gives : Gives t n buffer
   unfolding writeAnswer bufferAfter
-  written = record { answer = rw passes; line = rw passes }
+  gives = record { answer = rw passes; line = rw passes }
+
+-- What the writer's answer tells: a length means that every check passed.
+answered : (v : Verdict) (n length : ℕ) → written v n ≡ Written.Length length → v ≡ Verdict.Passed
+answered Verdict.Passed n length e = refl
+answered (Verdict.Refused cause) n length e = let z : _≡_ {A = ℕ} 0 1 = cc in absurd (omega arith)
+
+module _ (t : TableSet) (buffer : List ℕ) (n : ℕ) (given : Gives t n buffer) where
+  abbrev rest : List Check
+  rest = numberCheck (t .design) n ∷ lineChecks (entryFits (slotOf (t .design) n) (t .initial) (t .offsets)) (length (lineIn t n)) (length buffer)
+
+  passed : (verdict (setChecks (t .design) (length (t .initial)) (length (t .offsets))) ≡ Verdict.Passed) × (verdict rest ≡ Verdict.Passed)
+  unfolding writeAnswer writeVerdict
+  passed =
+      passed-append (setChecks (t .design) (length (t .initial)) (length (t .offsets))) rest (answered _ _ _ (given .answer))
+
+  given-usable : Usable (t .design) (length (t .initial)) (length (t .offsets))
+  given-usable = usable (t .design) (length (t .initial)) (length (t .offsets)) (passed .0)
+
+  given-fits : entryFits (slotOf (t .design) n) (t .initial) (t .offsets) ≡ true
+  unfolding lineChecks
+  given-fits = not-false _ (none-fails rest (passed .1) .1 .0)
+
+-- A set of which the writer gives every line can be written.
+all-given : (t : TableSet) (buffer : List ℕ) → ((n : ℕ) → n < lineCount (t .design) → Gives t n buffer) → Storable t
+unfolding lineCount entryFits offsetSlot
+all-given t buffer given =
+    let d = t .design in
+    record {
+      usable = given-usable t buffer 0 (given 0 (omega arith));
+      initial-fits =
+          λ index h.
+          rw (slot-initial d (index + 1) index refl h) at (given-fits t buffer (index + 1) (given (index + 1) (omega arith)));
+      offset-fits =
+          λ place h.
+          let n = initialCount d + 1 + place in
+          rw (slot-offset d n place refl h) at (given-fits t buffer n (given n (omega arith)));
+    }
 
 -- Demand 2, its last sentence
 pub storage : Storage
 storage =
     record {
       in-order = in-order;
-      writes = written;
+      writes = gives;
+      written = all-given;
       reads-back = λ t s ok begins initial offsets. read-back t ok s begins initial offsets;
       unique = unique;
+      refused = λ s lines. let n = refused-count-not s lines in record { comes-to = n .0; accepts = n .1 };
     }

@@ -1,5 +1,5 @@
 -- A finished reading came from exactly the lines the writer gives.
-use mathlib.Core.Path.{_≡_, refl, sym, ap₂, _∙_}
+use mathlib.Core.Path.{_≡_, refl, sym, ap, ap₂, _∙_}
 use mathlib.Core.Bool.{true}
 use mathlib.Core.List.{List, [], _∷_, _++_, append-nil}
 use Prim.Native.Nat.{ℕ, _+_, _<_}
@@ -21,6 +21,7 @@ use Rattle.lines.specs.Slots.{lineCount, slotOf, offsetSlot}
 use Rattle.lines.specs.Lines.{entryFits, lineAt, setLines}
 use Rattle.lines.proofs.SlotLaws.{slot-initial, slot-offset}
 use Rattle.reading.specs.ReadLine.{Session, session, initialStored, offsetsStored, verdictOn, after}
+use Rattle.reading.proofs.ReadLaws.{all-taken}
 use Rattle.storage.specs.Feeding.{Begins, Finished, feed, keptIf, accepted}
 use Rattle.storage.specs.Storage.{CameFrom, setIn}
 use Rattle.storage.proofs.Accepting.{SomeAccepted, accepted-line}
@@ -115,13 +116,38 @@ unfolding feed accepted
 follows [] s came so-far = rw (append-nil came) so-far
 follows (line ∷ lines) s came so-far = one-line line lines (follows lines) s came so-far
 
+-- Refused lines do not count: the accepted ones alone lead to the same, and all of them are accepted.
+module _ (s : Session) (line : List ℕ) (lines : List (List ℕ)) where
+  abbrev rest : List (List ℕ)
+  rest = accepted (after s line) lines
+
+  abbrev Counts : Type 0
+  Counts = (feed s (accepted s (line ∷ lines)) ≡ feed s (line ∷ lines)) × (accepted s (accepted s (line ∷ lines)) ≡ accepted s (line ∷ lines))
+
+  one-counts : (feed (after s line) rest ≡ feed (after s line) lines) × (accepted (after s line) rest ≡ rest) → Counts
+  unfolding feed accepted
+  one-counts later = go (verdictOn s line) refl
+    where
+      go : (v : Verdict) → verdictOn s line ≡ v → Counts
+      go Verdict.Passed e = rw (e, e) (later .0, ap (λ (l : List (List ℕ)). line ∷ l) (later .1))
+      go (Verdict.Refused cause) e = rw (e, refused-stands s line cause e) (rw (refused-stands s line cause e) at later)
+
+pub refused-count-not : (s : Session) (lines : List (List ℕ))
+    → (feed s (accepted s lines) ≡ feed s lines) × (accepted s (accepted s lines) ≡ accepted s lines)
+unfolding feed accepted
+refused-count-not s [] = (refl, refl)
+refused-count-not s (line ∷ lines) = one-counts s line lines (refused-count-not (after s line) lines)
+
 -- No line is taken yet.
 none-taken : (s : Session) → Begins s → SoFar s []
 unfolding listBelow
 none-taken s none = record { lines = rw none; tables = λ h. absurd (omega arith); entries-fit = λ n h. absurd (omega arith) }
 
 -- All lines are taken: the set has a stored form, and they are its lines.
-module _ (s : Session) (came : List (List ℕ)) (so-far : SoFar s came) (finished : Finished s) where
+module _ (s : Session) (came : List (List ℕ)) (so-far : SoFar s came) (at-end : Finished s) where
+  finished : s .state .taken ≡ lineCount (s .state .design)
+  finished = all-taken (s .state) at-end
+
   all-fit : (n : ℕ) → n < lineCount (s .state .design) → entryFits (slotOf (s .state .design) n) (s .initial) (s .offsets) ≡ true
   all-fit n h = so-far .entries-fit n (rw finished h)
 
@@ -132,7 +158,7 @@ module _ (s : Session) (came : List (List ℕ)) (so-far : SoFar s came) (finishe
       record {
         storable =
             record {
-              usable = so-far .tables (omega arith);
+              usable = so-far .tables (omega (arith, finished));
               initial-fits = λ index h. rw (slot-initial d (index + 1) index refl h) at (all-fit (index + 1) (omega arith));
               offset-fits =
                   λ place h. rw (slot-offset d (initialCount d + 1 + place) place refl h) at (all-fit (initialCount d + 1 + place) (omega arith));

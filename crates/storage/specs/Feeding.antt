@@ -2,10 +2,10 @@
 -- before gave back and the same tables, changed by nobody else until it is finished; refused lines do not count."
 use mathlib.Core.List.{List, [], _∷_}
 use mathlib.Core.Path.{_≡_}
+use mathlib.Core.Bool.{true}
 use Prim.Native.Nat.{ℕ}
 use Rattle.refusal.specs.declared.Verdict.{Verdict}
-use Rattle.lines.specs.Slots.{lineCount}
-use Rattle.reading.specs.ReadLine.{Session, verdictOn, after}
+use Rattle.reading.specs.ReadLine.{finished, Session, verdictOn, after}
 
 -- "a reading begun with no line taken"
 abbrev pub Begins : Session → Type 0
@@ -13,7 +13,7 @@ Begins s = s .state .taken ≡ 0
 
 -- "After 04 nothing more is due and the reading is finished."
 abbrev pub Finished : Session → Type 0
-Finished s = s .state .taken ≡ lineCount (s .state .design)
+Finished s = finished (s .state) ≡ true
 
 -- The reading after lines that are fed one by one
 unfoldable pub feed : Session → List (List ℕ) → Session

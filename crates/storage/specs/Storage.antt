@@ -21,7 +21,8 @@ pub record Gives (t : TableSet) (n : ℕ) (buffer : List ℕ) : Type 0 where
 abbrev pub setIn : Session → TableSet
 setIn s = record { design = s .state .design; initial = s .initial; offsets = s .offsets }
 
--- "Written lines read back to the same set": a set's lines, fed to a reading, which they lead to its end. "All other elements stand."
+-- "Written lines read back to the same set": a set's lines, fed to a reading, which they lead to its end; what lies beyond the set is as
+-- it was.
 pub record ReadsBack (t : TableSet) (s end : Session) : Type 0 where
   pub all-accepted : accepted s (linesIn t) ≡ linesIn t
   pub finished : Finished end
@@ -34,12 +35,22 @@ pub record CameFrom (t : TableSet) (came : List (List ℕ)) : Type 0 where
   pub storable : Storable t
   pub lines : came ≡ linesIn t
 
+-- "refused lines do not count": without them a reading comes to the same, and every other line is accepted again.
+pub record CountNot (s : Session) (lines : List (List ℕ)) : Type 0 where
+  pub comes-to : feed s (accepted s lines) ≡ feed s lines
+  pub accepts : accepted s (accepted s lines) ≡ accepted s lines
+
 pub record Storage : Type 0 where
+  -- the lines are those of document 01's list, in its order
   pub in-order : (t : TableSet) → linesIn t ≡ fileOf t
+  -- the writer gives every line of a set that can be written,
   pub writes : (t : TableSet) (n : ℕ) (buffer : List ℕ) → Storable t → n < lineCount (t .design)
       → length (lineIn t n) ≤ length buffer → Gives t n buffer
+  -- and a set of which it gives every line is one that can
+  pub written : (t : TableSet) (buffer : List ℕ) → ((n : ℕ) → n < lineCount (t .design) → Gives t n buffer) → Storable t
   pub reads-back : (t : TableSet) (s : Session) → Storable t → Begins s
       → initialCount (t .design) ≤ length (s .initial) → offsetTotal (t .design) ≤ length (s .offsets)
       → ReadsBack t s (feed s (linesIn t))
   pub unique : (s : Session) (lines : List (List ℕ)) → Begins s → Finished (feed s lines)
       → CameFrom (setIn (feed s lines)) (accepted s lines)
+  pub refused : (s : Session) (lines : List (List ℕ)) → CountNot s lines

@@ -1,5 +1,4 @@
--- `encoding::design_frame` meets its contract: each number of a legal design is below 256, and each turn puts a pair behind the others.
-use mathlib.Core.Path.{refl}
+-- `encoding::design_frame` meets its contract: each turn puts a pair behind the others.
 use Prim.Native.Nat.{_-_}
 use native.Mathlib.Omega.{arith}
 use Rattle.design.proofs.LegalLaws.{limits}
@@ -9,34 +8,19 @@ use Rattle.encoding.proofs.design_frame.Statement.{statement}
 use Rattle.encoding.proofs.design_frame.Tie as tie
 
 abbrev Inv-loop : tie.InvT-loop
-Inv-loop d m kind alpha frame₀ i₀ frame i = Paired d frame i
+Inv-loop d m frame₀ i₀ frame i = Paired d frame i
 
 abbrev μ-loop : tie.MeasureT-loop
-μ-loop d m kind alpha frame₀ i₀ frame i = m - i
+μ-loop d m frame₀ i₀ frame i = m - i
 
-cast-kind : tie.Need-cast-kind Inv-loop μ-loop
-cast-kind c = omega (arith, limits _ (c .before .pre) .widths)
-
-cast-alpha : tie.Need-cast-alpha Inv-loop μ-loop
-cast-alpha c = omega (arith, limits _ (c .before .before .pre) .alpha-high)
-
-cast-t8 : tie.Need-cast-t8 Inv-loop μ-loop
-cast-t8 c = omega (arith, limits _ (c .before .before .before .pre) .widths)
-
-cast-t9 : tie.Need-cast-t9 Inv-loop μ-loop
-cast-t9 c = omega (arith, limits _ (c .before .before .before .before .pre) .widths)
-
-cast-t10 : tie.Need-cast-t10 Inv-loop μ-loop
-cast-t10 c = omega (arith, limits _ (c .before .before .before .before .before .pre) .widths)
-
-cast-t11 : tie.Need-cast-t11 Inv-loop μ-loop
-cast-t11 c = omega (arith, limits _ (c .before .before .before .before .before .pre) .m-high)
+design-head-requires : tie.Need-design-head-requires Inv-loop μ-loop
+design-head-requires c κs = c .pre
 
 loop-holds : tie.Need-loop-holds Inv-loop μ-loop
 unfolding designBytes
 loop-holds c =
-    let s = c .before .before .before .before .before in
-    record { legal = s .pre; within = omega arith; counted = refl; so-far = refl }
+    let head = c .design-head .ensures in
+    record { legal = c .before .pre; within = omega arith; counted = head .1; so-far = rw (head .0) }
 
 pair-at-requires : tie.Need-pair-at-requires Inv-loop μ-loop
 pair-at-requires c κs = (omega arith, limits _ (c .before .loop .inv .legal) .m-high)
@@ -71,12 +55,7 @@ design-frame-spec =
     (tie.spec
     Inv-loop
     μ-loop
-    cast-kind
-    cast-alpha
-    cast-t8
-    cast-t9
-    cast-t10
-    cast-t11
+    design-head-requires
     loop-holds
     pair-at-requires
     with-requires
