@@ -19,7 +19,8 @@ module _ (d e : Design) (s : Same d e) where
   unfolding lineCount
   line-count-same = cc (initial-count-same d e s, offset-total-same d e s)
 
-  ended-same : (place : ℕ) → _≡_ {A = ℕ → ℕ} (λ i. cond (leb (tableStart d (suc i)) place) 1 0) (λ i. cond (leb (tableStart e (suc i)) place) 1 0)
+  ended-same : (place : ℕ)
+      → _≡_ {A = ℕ → ℕ} (λ i. cond (leb (tableStart d (suc i)) place) 1 0) (λ i. cond (leb (tableStart e (suc i)) place) 1 0)
   ended-same place = fun-ext (λ i. ap (λ (start : ℕ). cond (leb start place) 1 0) (table-start-same d e s (suc i)))
 
   table-same : (place : ℕ) → tableOf d place ≡ tableOf e place

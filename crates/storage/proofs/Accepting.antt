@@ -88,7 +88,8 @@ due-parts d slot f due =
     let counted = eqb-true (length bytes) (length head + entryWidth slot + 1) (not-false _ (tests .0)) in
     let count : length f ≡ length head + entryWidth slot = omega (arith, counted, with-sum-length f) in
     let split = begins-split bytes head (not-false _ (tests .1)) in
-    let front : take (length head) bytes ≡ head = ap (take (length head)) split ∙ take-at head (drop (length head) bytes) (length head) refl in
+    let front : take (length head) bytes ≡ head =
+    ap (take (length head)) split ∙ take-at head (drop (length head) bytes) (length head) refl in
     let all : f ≡ take (length head + entryWidth slot) bytes = sym (rw count at (take-at f (sumByte f ∷ []) (length f) refl)) in
     let whole : f ≡ head ++ entry d slot f = all ∙ take-add (length head) (entryWidth slot) bytes ∙ rw front in
     record {

@@ -3,7 +3,7 @@ use mathlib.Core.Path.{_≡_, refl}
 use mathlib.Core.List.{[], _∷_}
 use lib.IntN.{pos, negsuc}
 use Rattle.design.specs.declared.Pair.{Pair}
-use Rattle.design.specs.Cut.{tables, pairAt, sumBelow, initialCount, offsetCount, tableStart, offsetTotal}
+use Rattle.design.proofs.Opened.{design-opened}
 use Rattle.frames.specs.Line.{total}
 use Rattle.encoding.specs.Bytes.{bigEndian, complement}
 use Rattle.encoding.specs.Encode.{digitOf, hexOf, sumByte, withSum, lineOf}
@@ -30,5 +30,7 @@ pub record LinesOfG : Type 0 where
   pub line-97 : lineIn G 97 ≡ ascii "0400619B"
 
 pub lines-of-G : LinesOfG
-unfolding lineAt frameOf entryNumber entryWidth frameHead slotOf offsetSlot tableOf designBytes pairBytes lineOf withSum sumByte hexOf digitOf complement bigEndian total tables pairAt sumBelow initialCount offsetCount tableStart offsetTotal
+unfolding
+    design-opened slotOf offsetSlot tableOf lineAt frameOf frameHead entryWidth entryNumber designBytes pairBytes lineOf withSum
+    sumByte hexOf digitOf complement bigEndian total
 lines-of-G = record { line-0 = refl; line-1 = refl; line-33 = refl; line-40 = refl; line-97 = refl }

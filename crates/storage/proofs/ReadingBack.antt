@@ -26,23 +26,14 @@ use Rattle.encoding.proofs.DesignBack.{design-back}
 use Rattle.lines.specs.declared.Slot.{Slot}
 use Rattle.lines.specs.Slots.{lineCount, slotOf, offsetSlot}
 use Rattle.lines.specs.Lines.{entryNumber, entryFits, lineAt, setLines}
-use Rattle.lines.proofs.SlotLaws.{
-  line-is,
-  first-line,
-  initial-line,
-  offset-line,
-  last-line,
-  slot-first,
-  slot-initial,
-  slot-offset,
-  slot-last,
-}
+use Rattle.lines.proofs.SlotLaws.{slot-initial, slot-offset, slot-last}
 use Rattle.lines.proofs.Unread.{line-same, slot-same, line-count-same}
 use Rattle.reading.specs.ReadLine.{Session, session, initialStored, offsetsStored, verdictOn, after}
 use Rattle.reading.proofs.ReadLaws.{finished-at-end}
 use Rattle.storage.specs.Feeding.{Begins, Finished, feed, keptIf, accepted}
 use Rattle.storage.specs.Sets.{TableSet, Storable, linesIn}
 use Rattle.storage.specs.Storage.{ReadsBack}
+use Rattle.storage.proofs.Fitting.{storable-fits}
 use Rattle.storage.proofs.Taking.{given-usable, first-passes, first-taken, later-passes, later-taken}
 
 -- One line more
@@ -76,18 +67,6 @@ reached-more line s n end next r passes moves =
       comes-to = feed-last (listBelow n line) (line n) s ∙ rw (r .comes-to) moves;
       all-taken = accepted-last (listBelow n line) (line n) s ∙ rw (r .all-taken, r .comes-to, passes);
     }
-
--- Every line of a set that has a stored form fits.
-pub storable-fits : (t : TableSet) → Storable t → (n : ℕ) → n < lineCount (t .design)
-    → entryFits (slotOf (t .design) n) (t .initial) (t .offsets) ≡ true
-unfolding entryFits offsetSlot
-storable-fits t ok n h =
-    elim (line-is (t .design) n h) [
-      | first-line e ↦ rw (e, slot-first (t .design))
-      | initial-line index e k ↦ rw (slot-initial (t .design) n index e k) (ok .initial-fits index k)
-      | offset-line place e k ↦ rw (slot-offset (t .design) n place e k) (ok .offset-fits place k)
-      | last-line e ↦ rw (slot-last (t .design) n e)
-    ]
 
 -- The first n of the entries, written over a table: its first n are these, and the rest stands.
 module _ {A : Type 0} (table entries : List A) (n m : ℕ) (same : m ≡ n) (long : length (take m entries) ≡ m) where
@@ -163,10 +142,14 @@ module _ (t : TableSet) (ok : Storable t) (s : Session) (begins : Begins s) (ini
 
   -- The tables keep their lengths.
   initial-length : (k : ℕ) → k ≤ initialCount e → length (over (s .initial) 0 (take k initial-entries)) ≡ length (s .initial)
-  initial-length k h = over-length (s .initial) 0 (take k initial-entries) (rw (length-take-le k initial-entries (rw initial-count h)) (omega (arith, initial-count, initial-room)))
+  initial-length k h =
+      let short = length-take-le k initial-entries (rw initial-count h) in
+      over-length (s .initial) 0 (take k initial-entries) (rw short (omega (arith, initial-count, initial-room)))
 
   offsets-length : (p : ℕ) → p ≤ offsetTotal e → length (over (s .offsets) 0 (take p offset-entries)) ≡ length (s .offsets)
-  offsets-length p h = over-length (s .offsets) 0 (take p offset-entries) (rw (length-take-le p offset-entries (rw offset-count h)) (omega (arith, offset-count, offset-room)))
+  offsets-length p h =
+      let short = length-take-le p offset-entries (rw offset-count h) in
+      over-length (s .offsets) 0 (take p offset-entries) (rw short (omega (arith, offset-count, offset-room)))
 
   -- One entry more stands in front of what the tables held.
   initial-more : (k : ℕ) → k < initialCount e → let slot = slotOf e (suc k) in
@@ -269,6 +252,9 @@ module _ (t : TableSet) (ok : Storable t) (s : Session) (begins : Begins s) (ini
 
   pub read-back : ReadsBack t s (feed s (linesIn t))
   read-back =
+      let d = t .design in
+      let initial-same = initial-count-same e d same in
+      let offsets-same = offset-total-same e d same in
       record {
         all-accepted = rw all-lines (reached-last .all-taken);
         finished = rw comes-to-end finished;
@@ -276,9 +262,11 @@ module _ (t : TableSet) (ok : Storable t) (s : Session) (begins : Begins s) (ini
             rw comes-to-end
             (record {
               design = same;
-              initial = front-read (s .initial) (t .initial) (initialCount (t .design)) (initialCount e) (initial-count-same e (t .design) same) initial-count;
-              offsets = front-read (s .offsets) (t .offsets) (offsetTotal (t .design)) (offsetTotal e) (offset-total-same e (t .design) same) offset-count;
+              initial = front-read (s .initial) (t .initial) (initialCount d) (initialCount e) initial-same initial-count;
+              offsets = front-read (s .offsets) (t .offsets) (offsetTotal d) (offsetTotal e) offsets-same offset-count;
             });
-        initial-beyond = rw comes-to-end (rest-stands (s .initial) (t .initial) (initialCount (t .design)) (initialCount e) (initial-count-same e (t .design) same) initial-count);
-        offsets-beyond = rw comes-to-end (rest-stands (s .offsets) (t .offsets) (offsetTotal (t .design)) (offsetTotal e) (offset-total-same e (t .design) same) offset-count);
+        initial-beyond =
+            rw comes-to-end (rest-stands (s .initial) (t .initial) (initialCount d) (initialCount e) initial-same initial-count);
+        offsets-beyond =
+            rw comes-to-end (rest-stands (s .offsets) (t .offsets) (offsetTotal d) (offsetTotal e) offsets-same offset-count);
       }

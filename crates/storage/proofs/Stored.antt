@@ -2,26 +2,25 @@
 use mathlib.Core.Path.{_≡_, refl}
 use mathlib.Core.Bool.{true}
 use mathlib.Core.List.{List, _∷_}
-use Prim.Native.Nat.{ℕ, _+_, _≤_, _<_}
+use Prim.Native.Nat.{ℕ, _≤_, _<_}
 use native.Mathlib.Omega.{arith}
 use lib.ListN.{length}
 use borrow.Author.Tests.{lt-leb, le-ltb, not-false}
 use Rattle.refusal.specs.declared.Verdict.{Verdict}
 use Rattle.refusal.specs.Checks.{Check, verdict}
 use Rattle.refusal.proofs.Checks.{verdict-append, passed-append, none-fails}
-use Rattle.design.specs.Cut.{initialCount}
 use Rattle.tables.specs.Inputs.{Usable}
 use Rattle.tables.specs.Fill.{setChecks}
 use Rattle.tables.proofs.SetLaws.{set-passed, usable}
-use Rattle.lines.specs.Slots.{lineCount, slotOf, offsetSlot}
+use Rattle.lines.specs.Slots.{lineCount, slotOf}
 use Rattle.lines.specs.Lines.{entryFits, lineAt}
-use Rattle.lines.proofs.SlotLaws.{slot-initial, slot-offset}
 use Rattle.writing.specs.declared.Written.{Written}
 use Rattle.writing.specs.Write.{numberCheck, lineChecks, writeVerdict, written, writeAnswer, bufferAfter}
 use Rattle.storage.specs.Sets.{TableSet, Storable, lineIn}
 use Rattle.storage.specs.Storage.{Gives, Storage}
 use Rattle.storage.proofs.InOrder.{in-order}
-use Rattle.storage.proofs.ReadingBack.{storable-fits, read-back}
+use Rattle.storage.proofs.Fitting.{storable-fits, fits-storable}
+use Rattle.storage.proofs.ReadingBack.{read-back}
 use Rattle.storage.proofs.Uniqueness.{unique, refused-count-not}
 
 -- The writer gives each line of a set that has a stored form.
@@ -43,7 +42,9 @@ answered (Verdict.Refused cause) n length e = let z : _≡_ {A = ℕ} 0 1 = cc i
 
 module _ (t : TableSet) (buffer : List ℕ) (n : ℕ) (given : Gives t n buffer) where
   abbrev rest : List Check
-  rest = numberCheck (t .design) n ∷ lineChecks (entryFits (slotOf (t .design) n) (t .initial) (t .offsets)) (length (lineIn t n)) (length buffer)
+  rest =
+      numberCheck (t .design) n
+      ∷ lineChecks (entryFits (slotOf (t .design) n) (t .initial) (t .offsets)) (length (lineIn t n)) (length buffer)
 
   passed : (verdict (setChecks (t .design) (length (t .initial)) (length (t .offsets))) ≡ Verdict.Passed) × (verdict rest ≡ Verdict.Passed)
   unfolding writeAnswer writeVerdict
@@ -59,19 +60,9 @@ module _ (t : TableSet) (buffer : List ℕ) (n : ℕ) (given : Gives t n buffer)
 
 -- A set of which the writer gives every line can be written.
 all-given : (t : TableSet) (buffer : List ℕ) → ((n : ℕ) → n < lineCount (t .design) → Gives t n buffer) → Storable t
-unfolding lineCount entryFits offsetSlot
+unfolding lineCount
 all-given t buffer given =
-    let d = t .design in
-    record {
-      usable = given-usable t buffer 0 (given 0 (omega arith));
-      initial-fits =
-          λ index h.
-          rw (slot-initial d (index + 1) index refl h) at (given-fits t buffer (index + 1) (given (index + 1) (omega arith)));
-      offset-fits =
-          λ place h.
-          let n = initialCount d + 1 + place in
-          rw (slot-offset d n place refl h) at (given-fits t buffer n (given n (omega arith)));
-    }
+    fits-storable t (given-usable t buffer 0 (given 0 (omega arith))) (λ n h. given-fits t buffer n (given n h))
 
 -- Demand 2, its last sentence
 pub storage : Storage

@@ -11,19 +11,18 @@ use lib.Seq.{append-snoc}
 use lib.IntN.{ℤ}
 use Rattle.refusal.specs.declared.Cause.{Cause}
 use Rattle.refusal.specs.declared.Verdict.{Verdict}
-use Rattle.design.specs.Cut.{initialCount}
 use Rattle.tables.specs.Inputs.{Usable}
 use Rattle.tables.specs.Fill.{listBelow}
 use Rattle.tables.proofs.WritingLaws.{list-congruence}
 use Rattle.encoding.specs.Bytes.{fromComplement}
 use Rattle.lines.specs.declared.Slot.{Slot}
-use Rattle.lines.specs.Slots.{lineCount, slotOf, offsetSlot}
+use Rattle.lines.specs.Slots.{lineCount, slotOf}
 use Rattle.lines.specs.Lines.{entryFits, lineAt, setLines}
-use Rattle.lines.proofs.SlotLaws.{slot-initial, slot-offset}
 use Rattle.reading.specs.ReadLine.{Session, session, initialStored, offsetsStored, verdictOn, after}
 use Rattle.reading.proofs.ReadLaws.{all-taken}
 use Rattle.storage.specs.Feeding.{Begins, Finished, feed, keptIf, accepted}
 use Rattle.storage.specs.Storage.{CameFrom, setIn}
+use Rattle.storage.proofs.Fitting.{fits-storable}
 use Rattle.storage.proofs.Accepting.{SomeAccepted, accepted-line}
 use Rattle.storage.proofs.Standing.{earlier-line, earlier-fits}
 
@@ -105,7 +104,8 @@ one-line : (line : List ℕ) (lines : List (List ℕ)) → Follows lines → Fol
 unfolding feed accepted
 one-line line lines rest s came so-far = go (verdictOn s line) refl
   where
-    go : (v : Verdict) → verdictOn s line ≡ v → SoFar (feed (after s line) lines) (came ++ keptIf (verdictOn s line) line (accepted (after s line) lines))
+    go : (v : Verdict) → verdictOn s line ≡ v
+        → SoFar (feed (after s line) lines) (came ++ keptIf (verdictOn s line) line (accepted (after s line) lines))
     go Verdict.Passed e =
         rw (e, ← append-snoc came line (accepted (after s line) lines))
         (rest (after s line) (came ++ (line ∷ [])) (so-far-accepted s came so-far line e))
@@ -122,7 +122,9 @@ module _ (s : Session) (line : List ℕ) (lines : List (List ℕ)) where
   rest = accepted (after s line) lines
 
   abbrev Counts : Type 0
-  Counts = (feed s (accepted s (line ∷ lines)) ≡ feed s (line ∷ lines)) × (accepted s (accepted s (line ∷ lines)) ≡ accepted s (line ∷ lines))
+  Counts =
+      let taken = accepted s (line ∷ lines) in
+      (feed s taken ≡ feed s (line ∷ lines)) × (accepted s taken ≡ taken)
 
   one-counts : (feed (after s line) rest ≡ feed (after s line) lines) × (accepted (after s line) rest ≡ rest) → Counts
   unfolding feed accepted
@@ -152,17 +154,10 @@ module _ (s : Session) (came : List (List ℕ)) (so-far : SoFar s came) (at-end 
   all-fit n h = so-far .entries-fit n (rw finished h)
 
   came-from : CameFrom (setIn s) came
-  unfolding entryFits setLines lineCount offsetSlot
+  unfolding setLines lineCount
   came-from =
-      let d = s .state .design in
       record {
-        storable =
-            record {
-              usable = so-far .tables (omega (arith, finished));
-              initial-fits = λ index h. rw (slot-initial d (index + 1) index refl h) at (all-fit (index + 1) (omega arith));
-              offset-fits =
-                  λ place h. rw (slot-offset d (initialCount d + 1 + place) place refl h) at (all-fit (initialCount d + 1 + place) (omega arith));
-            };
+        storable = fits-storable (setIn s) (so-far .tables (omega (arith, finished))) all-fit;
         lines = so-far .lines ∙ rw finished;
       }
 

@@ -40,17 +40,21 @@ pub record CountNot (s : Session) (lines : List (List ℕ)) : Type 0 where
   pub comes-to : feed s (accepted s lines) ≡ feed s lines
   pub accepts : accepted s (accepted s lines) ≡ accepted s lines
 
+-- Demand 2's last sentence, whole
 pub record Storage : Type 0 where
   -- the lines are those of document 01's list, in its order
   pub in-order : (t : TableSet) → linesIn t ≡ fileOf t
   -- the writer gives every line of a set that can be written,
   pub writes : (t : TableSet) (n : ℕ) (buffer : List ℕ) → Storable t → n < lineCount (t .design)
       → length (lineIn t n) ≤ length buffer → Gives t n buffer
-  -- and a set of which it gives every line is one that can
+  -- and a set of which it gives every line can be written
   pub written : (t : TableSet) (buffer : List ℕ) → ((n : ℕ) → n < lineCount (t .design) → Gives t n buffer) → Storable t
+  -- the lines of such a set lead every reading that is begun into tables long enough to the same set
   pub reads-back : (t : TableSet) (s : Session) → Storable t → Begins s
       → initialCount (t .design) ≤ length (s .initial) → offsetTotal (t .design) ≤ length (s .offsets)
       → ReadsBack t s (feed s (linesIn t))
+  -- and a reading that is finished, whatever lines were fed, took the writer's lines
   pub unique : (s : Session) (lines : List (List ℕ)) → Begins s → Finished (feed s lines)
       → CameFrom (setIn (feed s lines)) (accepted s lines)
+  -- refused lines change nothing
   pub refused : (s : Session) (lines : List (List ℕ)) → CountNot s lines
