@@ -1,5 +1,5 @@
 -- `tables::tables_short` meets its contract: either length decides it.
-use mathlib.Core.Path.{sym, _∙_}
+use mathlib.Core.Path.{sym}
 use native.Mathlib.Omega.{arith}
 use borrow.Author.Needs.{needs}
 use Rattle.design.specs.Cut.{initialCount}
