@@ -21,7 +21,7 @@ use Rattle.storage.specs.Storage.{Gives, Storage}
 use Rattle.storage.proofs.InOrder.{in-order}
 use Rattle.storage.proofs.Fitting.{storable-fits, fits-storable}
 use Rattle.storage.proofs.ReadingBack.{read-back}
-use Rattle.storage.proofs.Uniqueness.{unique, refused-count-not}
+use Rattle.storage.proofs.Uniqueness.{unique, refused-skipped}
 
 -- The writer gives each line of a set that has a stored form.
 module _ (t : TableSet) (n : ℕ) (buffer : List ℕ) (ok : Storable t) (within : n < lineCount (t .design))
@@ -73,5 +73,5 @@ storage =
       written = all-given;
       reads-back = λ t s ok begins initial offsets. read-back t ok s begins initial offsets;
       unique = unique;
-      refused = λ s lines. let n = refused-count-not s lines in record { comes-to = n .0; accepts = n .1 };
+      refused = λ s lines. let n = refused-skipped s lines in record { comes-to = n .0; accepts = n .1 };
     }

@@ -134,11 +134,11 @@ module _ (s : Session) (line : List ℕ) (lines : List (List ℕ)) where
       go Verdict.Passed e = rw (e, e) (later .0, ap (λ (l : List (List ℕ)). line ∷ l) (later .1))
       go (Verdict.Refused cause) e = rw (e, refused-stands s line cause e) (rw (refused-stands s line cause e) at later)
 
-pub refused-count-not : (s : Session) (lines : List (List ℕ))
+pub refused-skipped : (s : Session) (lines : List (List ℕ))
     → (feed s (accepted s lines) ≡ feed s lines) × (accepted s (accepted s lines) ≡ accepted s lines)
 unfolding feed accepted
-refused-count-not s [] = (refl, refl)
-refused-count-not s (line ∷ lines) = one-counts s line lines (refused-count-not (after s line) lines)
+refused-skipped s [] = (refl, refl)
+refused-skipped s (line ∷ lines) = one-counts s line lines (refused-skipped (after s line) lines)
 
 -- No line is taken yet.
 none-taken : (s : Session) → Begins s → SoFar s []

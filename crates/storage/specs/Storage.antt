@@ -36,7 +36,7 @@ pub record CameFrom (t : TableSet) (came : List (List ℕ)) : Type 0 where
   pub lines : came ≡ linesIn t
 
 -- "refused lines do not count": without them a reading comes to the same, and every other line is accepted again.
-pub record CountNot (s : Session) (lines : List (List ℕ)) : Type 0 where
+pub record RefusedSkipped (s : Session) (lines : List (List ℕ)) : Type 0 where
   pub comes-to : feed s (accepted s lines) ≡ feed s lines
   pub accepts : accepted s (accepted s lines) ≡ accepted s lines
 
@@ -57,4 +57,4 @@ pub record Storage : Type 0 where
   pub unique : (s : Session) (lines : List (List ℕ)) → Begins s → Finished (feed s lines)
       → CameFrom (setIn (feed s lines)) (accepted s lines)
   -- refused lines change nothing
-  pub refused : (s : Session) (lines : List (List ℕ)) → CountNot s lines
+  pub refused : (s : Session) (lines : List (List ℕ)) → RefusedSkipped s lines
