@@ -1,0 +1,35 @@
+-- A line as an input word: "one digit 0-9 or more and nothing else", and a number below 2^32.
+use mathlib.Core.Bool.{Bool, true, cond, not, _&&_}
+use mathlib.Core.List.{List, [], _∷_}
+use Prim.Native.Nat.{ℕ, _+_, _-_, _*_, _^_}
+use lib.Dec.{ltb, eqb}
+use lib.ListN.{length}
+use Rattle.refusal.specs.Checks.{outside}
+use Rattle.word_text.specs.declared.ReadWord.{ReadWord}
+use Rattle.word_text.specs.declared.WordText.{WordText}
+
+-- Digits 0-9 and nothing else: 48 is '0', 57 is '9'. No sign, no space, no carriage return.
+unfoldable pub allDigits : List ℕ → Bool
+allDigits [] = true
+allDigits (c ∷ cs) = not (outside 48 57 c) && allDigits cs
+
+-- One digit or more. Leading zeros are fine.
+unfoldable pub isDecimal : List ℕ → Bool
+isDecimal t = not (eqb (length t) 0) && allDigits t
+
+-- The number that digits stand for
+unfoldable pub numberIn : List ℕ → ℕ
+numberIn [] = 0
+numberIn (c ∷ cs) = (c - 48) * 10 ^ length cs + numberIn cs
+
+-- What a line is: an input word has 32 bits.
+unfoldable pub wordIn : List ℕ → ReadWord
+wordIn t = cond (isDecimal t && ltb (numberIn t) (2 ^ 32)) (ReadWord.Word (numberIn t)) ReadWord.NotAWord
+
+-- A number of 2^32 or more is no word, whatever digits follow; it needs to be known no better than that.
+unfoldable pub atMostLimit : ℕ → ℕ
+atMostLimit n = cond (ltb n (2 ^ 32)) n (2 ^ 32)
+
+-- What is kept of a line while it is read: the number of digits alone, 2^32 where another character came, and whether any came.
+unfoldable pub readingOf : List ℕ → WordText
+readingOf t = record { value = cond (allDigits t) (atMostLimit (numberIn t)) (2 ^ 32); begun = not (eqb (length t) 0) }
