@@ -1,43 +1,78 @@
-// What the programs share: reading a line from standard input, and writing a report to standard output. No contract can say what
-// is read or written, so nothing that matters is decided here.
+// What the programs share: reading a line from standard input, and writing reports and refusals to standard output. No contract can
+// say what is read or written, so nothing that matters is decided here.
 ghost use Rattle.io.specs.Counts.{Counts};
+use refusal::Cause;
+use report_text::Text;
 
 const IN: i32 = 0;
 
 const OUT: i32 = 1;
 
+// The next byte of the input, or its end.
+pub enum Input {
+    Byte(u8),
+    End,
+}
+
+// A byte at a time, so that nothing behind what is asked for is waited for. An input that cannot be read counts as ended.
+pub fn read_byte() -> Input {
+    let mut byte = [0u8; 1];
+    if io::read_full(IN, &mut byte) == 0 {
+        return Input::End;
+    }
+    Input::Byte(byte[0])
+}
+
 // The start of a line, up to the newline, the end of the input, or 33 bytes: a line of more than 32 is refused whatever follows,
-// so no more of it is needed and endless input does no harm.
+// so no more of it is needed and endless input does no harm. A last line without a newline counts as a line; `present` is false
+// where the input ended before the first byte.
 pub struct Line {
     pub bytes: [u8; 33],
     pub count: usize,
+    pub present: bool,
 }
 
-// A byte at a time, so that nothing behind the newline is waited for.
 pub fn read_line() -> Line
     ensures { λ r. ⌜ Counts (r .count) (r .bytes) ⌝ }
 {
     let mut bytes = [0u8; 33];
     let mut count: usize = 0;
     while count < 33 {
-        let mut byte = [0u8; 1];
-        if io::read_full(IN, &mut byte) == 0 {
-            return Line { bytes, count };
-        }
-        let b = byte[0];
+        let Input::Byte(b) = read_byte() else {
+            return Line {
+                bytes,
+                count,
+                present: 0 < count,
+            };
+        };
         if b == b'\n' {
-            return Line { bytes, count };
+            break;
         }
         bytes[count] = b;
         count += 1;
     }
-    Line { bytes, count }
+    Line {
+        bytes,
+        count,
+        present: true,
+    }
+}
+
+// Writes a text; false where it could not be written whole. inner: the caller sees to it that the text lies within its array.
+fn print(text: Text) -> bool
+    requires { ⌜ Counts (text .count) (text .bytes) ⌝ }
+{
+    let bytes = text.bytes;
+    let count = text.count;
+    io::write_all(OUT, &bytes[..count])
 }
 
 // Writes the report on a line; false where it could not be written whole.
 pub fn print_report(line: &[u8]) -> bool {
-    let text = report_text::report(line);
-    let words = text.bytes;
-    let length = text.count;
-    io::write_all(OUT, &words[..length])
+    print(report_text::report(line))
+}
+
+// Writes a refusal and its newline; false where that could not be written whole.
+pub fn print_refused(cause: Cause) -> bool {
+    print(report_text::refused(cause))
 }

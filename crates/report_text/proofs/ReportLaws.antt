@@ -3,11 +3,10 @@ use mathlib.Core.Path.{_≡_, sym, ap, _∙_}
 use mathlib.Core.Bool.{or-true}
 use mathlib.Core.List.{List}
 use Prim.Native.Nat.{ℕ, _≤_, _<_}
-use native.Mathlib.Nat.{le-add-right}
 use native.Mathlib.Decide.{decLe}
 use native.Mathlib.Omega.{arith}
 use borrow.Author.Tests.{lt-ltb}
-use lib.ListN.{length, take, length-append}
+use lib.ListN.{length, take}
 use lib.Seq.{take-all, length-take-le}
 use Rattle.refusal.specs.declared.Cause.{Cause}
 use Rattle.refusal.specs.declared.Verdict.{Verdict}
@@ -61,11 +60,6 @@ module _ (line : List ℕ) (held : Decoded) (held-is : held ≡ decoded line) wh
 
     pub design-told : (d : Design) → d ≡ frameDesign (held .bytes) → d ≡ frameDesign (bytesOf line)
     design-told d promise = rw (held-whole, frameDesign-padded) at promise
-
--- The report's count lies within its bytes.
-pub report-counts : (line : List ℕ) → reportOf line .count ≤ length (reportOf line .bytes)
-unfolding reportOf textOf
-report-counts line = simp length-append (le-add-right _ _)
 
 -- A line of more than 32 digits is refused, whatever stands in it.
 long-refused : (line : List ℕ) → 32 < length line → textOf (refusedText Cause.Line) ≡ reportOf line

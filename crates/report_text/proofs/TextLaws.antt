@@ -2,13 +2,18 @@
 use mathlib.Core.Path.{_≡_}
 use mathlib.Core.List.{List, [], _++_, append-assoc}
 use Prim.Native.Nat.{ℕ, zero, suc, _+_, _-_, _≤_}
-use native.Mathlib.Nat.{sub-zero, zero-sub, suc-sub-suc, sub-add-eq}
+use native.Mathlib.Nat.{le-add-right, sub-zero, zero-sub, suc-sub-suc, sub-add-eq}
 use native.Mathlib.Omega.{arith}
 use lib.ListN.{length, drop, replicate, length-append}
 use lib.Seq.{paste, take-append-seam, drop-append-add, take-length}
 use Rattle.report_text.specs.declared.Text.{Text}
 use Rattle.report_text.specs.Words.{decimal, textOf}
 use Rattle.report_text.proofs.DecimalLaws.{decimal-length}
+
+-- The count of a text lies within its bytes.
+pub text-counts : (t : List ℕ) → textOf t .count ≤ length (textOf t .bytes)
+unfolding textOf
+text-counts t = simp length-append (le-add-right _ _)
 
 drop-replicate : (n m a : ℕ) → drop n (replicate m a) ≡ replicate (m - n) a
 drop-replicate zero m a = rw sub-zero

@@ -68,7 +68,7 @@ impl Text {
 }
 
 // The line of a refusal.
-fn refused(cause: Cause) -> Text
+pub fn refused(cause: Cause) -> Text
     ensures { λ r. ⌜ r ≡ textOf (refusedText cause) ⌝ }
 {
     Text::new()

@@ -60,7 +60,8 @@ kept-at-limit false digit n d h = refl
 kept-at-limit true false n d h = refl
 kept-at-limit true true n d h = from-limit (10 * n + d) (omega (arith, still-from n h))
 
-kept-growing : (digits : Bool) (n d : ℕ) → kept digits n < 2 ^ 32 → kept (digits && true) (10 * n + d) ≡ atMostLimit (10 * kept digits n + d)
+kept-growing : (digits : Bool) (n d : ℕ) → kept digits n < 2 ^ 32
+    → kept (digits && true) (10 * n + d) ≡ atMostLimit (10 * kept digits n + d)
 kept-growing false n d h = absurd (omega arith)
 kept-growing true n d h = rw (below-limit n (still-below n h))
 
@@ -94,7 +95,8 @@ module _ (t : List ℕ) (c : ℕ) where
 word-if : Bool → Bool → ℕ → ReadWord
 word-if begun digits n = cond (begun && digits && ltb n (2 ^ 32)) (ReadWord.Word n) ReadWord.NotAWord
 
-word-kept : (begun digits : Bool) (n : ℕ) → begun ≡ true → kept digits n < 2 ^ 32 → ReadWord.Word (kept digits n) ≡ word-if begun digits n
+word-kept : (begun digits : Bool) (n : ℕ) → begun ≡ true → kept digits n < 2 ^ 32
+    → ReadWord.Word (kept digits n) ≡ word-if begun digits n
 unfolding word-if
 word-kept false digits n e h = absurd (true≢false (sym e))
 word-kept true false n e h = absurd (omega arith)
