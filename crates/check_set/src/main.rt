@@ -1,0 +1,19 @@
+// Reads a set from standard input, line by line, and says whether it is faithful.
+use checking::check;
+use set_console::INITIAL;
+use set_console::OFFSETS;
+use set_console::print_checked;
+use set_console::read_set;
+
+fn read_and_check(initial: &mut [u32], offsets: &mut [i32]) {
+    let state = read_set(initial, offsets);
+    if state.is_finished() {
+        print_checked(check(state.design, initial, offsets));
+    }
+}
+
+fn main() {
+    let mut initial = [0u32; INITIAL];
+    let mut offsets = [0i32; OFFSETS];
+    read_and_check(&mut initial, &mut offsets);
+}

@@ -1,0 +1,43 @@
+// Reads one design's line from standard input and writes the lines of its filled set, or the refusal.
+use design::Design;
+use filling::fill;
+use refusal::Verdict;
+use set_console::INITIAL;
+use set_console::LINES;
+use set_console::OFFSETS;
+use set_console::begin;
+use set_console::print_line;
+
+// One line after another, until the set has no more.
+fn print_set(d: Design, initial: &[u32], offsets: &[i32]) {
+    let mut number = 0;
+    while number < LINES && print_line(d, initial, offsets, number) {
+        number += 1;
+    }
+}
+
+// The reader's refusals are the report's in the same order, for the tables are long enough for every set; then the fill's.
+fn make(line: &[u8], initial: &mut [u32], offsets: &mut [i32]) {
+    let read = begin().read_line(initial, offsets, line);
+    let verdict = read.verdict;
+    if let Verdict::Refused(cause) = verdict {
+        console::print_refused(cause);
+        return;
+    }
+    let state = read.state;
+    let d = state.design;
+    if let Verdict::Refused(cause) = fill(d, initial, offsets) {
+        console::print_refused(cause);
+        return;
+    }
+    print_set(d, initial, offsets);
+}
+
+fn main() {
+    let mut initial = [0u32; INITIAL];
+    let mut offsets = [0i32; OFFSETS];
+    let line = console::read_line();
+    let bytes = line.bytes;
+    let count = line.count;
+    make(&bytes[..count], &mut initial, &mut offsets);
+}
