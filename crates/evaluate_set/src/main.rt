@@ -1,0 +1,93 @@
+// Reads a set from standard input, then an input word in decimal on each further line, and writes each word's output word.
+use console::Input;
+use console::read_byte;
+use design::Design;
+use evaluating::evaluate;
+use set_console::INITIAL;
+use set_console::OFFSETS;
+use set_console::read_set;
+use tables::Evaluated;
+use word_text::ReadWord;
+use word_text::WordText;
+
+const OUT: i32 = 1;
+
+// A proved loop has to end, and nothing says that the input does. So the loops count their turns down, from a number that no run
+// uses up.
+const TURNS: u64 = u64::MAX;
+
+// What stands on the next line, if there is one. A last line without a newline counts.
+enum WordLine {
+    Is(ReadWord),
+    Missing,
+}
+
+// The text at the end of the input: a line, unless no byte of it came.
+fn last_line(text: WordText) -> WordLine {
+    if text.begun {
+        return WordLine::Is(text.word());
+    }
+    WordLine::Missing
+}
+
+fn read_word() -> WordLine {
+    let mut text = WordText::new();
+    let mut turns = TURNS;
+    while 0 < turns {
+        let Input::Byte(b) = read_byte() else {
+            return last_line(text);
+        };
+        if b == b'\n' {
+            return WordLine::Is(text.word());
+        }
+        text = text.with(b);
+        turns -= 1;
+    }
+    WordLine::Missing
+}
+
+// Writes an output word or the refusal; false where that could not be written whole.
+fn print_evaluated(evaluated: Evaluated) -> bool {
+    match evaluated {
+        Evaluated::Word(word) => {
+            io::print_decimal(OUT, word.0 as u64);
+            io::write_all(OUT, b"\n")
+        }
+        Evaluated::Refused(cause) => console::print_refused(cause),
+    }
+}
+
+fn answer(d: Design, initial: &[u32], offsets: &[i32], word: ReadWord) -> bool {
+    match word {
+        ReadWord::Word(x) => print_evaluated(evaluate(d, initial, offsets, x)),
+        ReadWord::NotAWord => io::write_all(OUT, b"NOT A WORD\n"),
+    }
+}
+
+// Answers the next line, and says whether to go on.
+fn answer_line(d: Design, initial: &[u32], offsets: &[i32]) -> bool {
+    match read_word() {
+        WordLine::Is(word) => answer(d, initial, offsets, word),
+        WordLine::Missing => false,
+    }
+}
+
+fn answer_all(d: Design, initial: &[u32], offsets: &[i32]) {
+    let mut turns = TURNS;
+    while 0 < turns && answer_line(d, initial, offsets) {
+        turns -= 1;
+    }
+}
+
+fn read_and_answer(initial: &mut [u32], offsets: &mut [i32]) {
+    let state = read_set(initial, offsets);
+    if state.is_finished() {
+        answer_all(state.design, initial, offsets);
+    }
+}
+
+fn main() {
+    let mut initial = [0u32; INITIAL];
+    let mut offsets = [0i32; OFFSETS];
+    read_and_answer(&mut initial, &mut offsets);
+}
