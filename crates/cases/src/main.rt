@@ -5,18 +5,17 @@ use design::Design;
 use design::Measured;
 use design::Pair;
 use filling::fill;
+use libc::STDOUT_FILENO;
 use set_console::print_checked;
 use set_console::print_line;
 use values::Valued;
 
-const OUT: i32 = 1;
-
 fn label(text: &[u8]) {
-    io::write_all(OUT, text);
+    io::write_all(STDOUT_FILENO, text);
 }
 
 fn print_passes() {
-    io::write_all(OUT, b"passes\n");
+    io::write_all(STDOUT_FILENO, b"passes\n");
 }
 
 // The verdict on a value.

@@ -1,12 +1,10 @@
 // What the programs share: reading a line from standard input, and writing reports and refusals to standard output. No contract can
 // say what is read or written, so nothing that matters is decided here.
 ghost use Rattle.io.specs.Counts.{Counts};
+use libc::STDIN_FILENO;
+use libc::STDOUT_FILENO;
 use refusal::Cause;
 use report_text::Text;
-
-const IN: i32 = 0;
-
-const OUT: i32 = 1;
 
 // The next byte of the input, or its end.
 pub enum Input {
@@ -17,7 +15,7 @@ pub enum Input {
 // A byte at a time, so that nothing behind what is asked for is waited for. An input that cannot be read counts as ended.
 pub fn read_byte() -> Input {
     let mut byte = [0u8; 1];
-    if io::read_full(IN, &mut byte) == 0 {
+    if io::read_full(STDIN_FILENO, &mut byte) == 0 {
         return Input::End;
     }
     Input::Byte(byte[0])
@@ -64,7 +62,7 @@ fn print(text: Text) -> bool
 {
     let bytes = text.bytes;
     let count = text.count;
-    io::write_all(OUT, &bytes[..count])
+    io::write_all(STDOUT_FILENO, &bytes[..count])
 }
 
 // Writes the report on a line; false where it could not be written whole.

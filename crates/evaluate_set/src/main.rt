@@ -3,14 +3,13 @@ use console::Input;
 use console::read_byte;
 use design::Design;
 use evaluating::evaluate;
+use libc::STDOUT_FILENO;
 use set_console::INITIAL;
 use set_console::OFFSETS;
 use set_console::read_set;
 use tables::Evaluated;
 use word_text::ReadWord;
 use word_text::WordText;
-
-const OUT: i32 = 1;
 
 // A proved loop has to end, and nothing says that the input does. So the loops count their turns down, from a number that no run
 // uses up.
@@ -50,8 +49,8 @@ fn read_word() -> WordLine {
 fn print_evaluated(evaluated: Evaluated) -> bool {
     match evaluated {
         Evaluated::Word(word) => {
-            io::print_decimal(OUT, word.0 as u64);
-            io::write_all(OUT, b"\n")
+            io::print_decimal(STDOUT_FILENO, word.0 as u64);
+            io::write_all(STDOUT_FILENO, b"\n")
         }
         Evaluated::Refused(cause) => console::print_refused(cause),
     }
@@ -60,7 +59,7 @@ fn print_evaluated(evaluated: Evaluated) -> bool {
 fn answer(d: Design, initial: &[u32], offsets: &[i32], word: ReadWord) -> bool {
     match word {
         ReadWord::Word(x) => print_evaluated(evaluate(d, initial, offsets, x)),
-        ReadWord::NotAWord => io::write_all(OUT, b"NOT A WORD\n"),
+        ReadWord::NotAWord => io::write_all(STDOUT_FILENO, b"NOT A WORD\n"),
     }
 }
 

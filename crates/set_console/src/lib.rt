@@ -3,14 +3,13 @@
 ghost use mathlib.Core.Path.{_≡_};
 use design::Design;
 use design::Pair;
+use libc::STDOUT_FILENO;
 use reading::Reading;
 use refusal::Cause;
 use refusal::Verdict;
 use tables::Checked;
 use writing::Written;
 use writing::write_line;
-
-const OUT: i32 = 1;
 
 // Tables of these lengths hold every legal set: alpha is at most 13, and there are at most 4 tables of at most 12 bits.
 pub const INITIAL: usize = 8192;
@@ -46,15 +45,15 @@ pub fn begin() -> Reading
 }
 
 fn print_number(label: &[u8], n: u64) {
-    io::write_all(OUT, label);
-    io::print_decimal(OUT, n);
-    io::write_all(OUT, b"\n");
+    io::write_all(STDOUT_FILENO, label);
+    io::print_decimal(STDOUT_FILENO, n);
+    io::write_all(STDOUT_FILENO, b"\n");
 }
 
 fn print_refused_line(number: usize, cause: Cause) {
-    io::write_all(OUT, b"LINE ");
-    io::print_decimal(OUT, number as u64);
-    io::write_all(OUT, b" ");
+    io::write_all(STDOUT_FILENO, b"LINE ");
+    io::print_decimal(STDOUT_FILENO, number as u64);
+    io::write_all(STDOUT_FILENO, b" ");
     console::print_refused(cause);
 }
 
@@ -99,7 +98,7 @@ fn print_digits(buffer: &mut [u8], length: usize) -> bool {
         return false;
     }
     buffer[length] = b'\n';
-    io::write_all(OUT, &buffer[..length + 1])
+    io::write_all(STDOUT_FILENO, &buffer[..length + 1])
 }
 
 // Writes a line of a set; false where the set has no such line or it could not be written whole.
@@ -115,7 +114,7 @@ pub fn print_line(d: Design, initial: &[u32], offsets: &[i32], number: usize) ->
 pub fn print_checked(checked: Checked) {
     match checked {
         Checked::Faithful => {
-            io::write_all(OUT, b"FAITHFUL\n");
+            io::write_all(STDOUT_FILENO, b"FAITHFUL\n");
         }
         Checked::Unfaithful(x) => print_number(b"UNFAITHFUL ", x as u64),
         Checked::Refused(cause) => {

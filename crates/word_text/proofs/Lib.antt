@@ -1,2 +1,3 @@
 -- Laws of input words in decimal.
 pub mod DecimalLaws
+mod Examples

@@ -1,5 +1,4 @@
 -- `WordText::with` meets its contract: one law for each of its three answers.
-use mathlib.Core.Path.{sym, _∙_}
 use native.Mathlib.Omega.{arith}
 use borrow.Author.Needs.{needs}
 use Rattle.refusal.proofs.Checks.{inside, tested}
