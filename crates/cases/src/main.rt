@@ -10,34 +10,6 @@ use set_console::print_checked;
 use set_console::print_line;
 use values::Valued;
 
-fn label(text: &[u8]) {
-    io::write_all(STDOUT_FILENO, text);
-}
-
-fn print_passes() {
-    io::write_all(STDOUT_FILENO, b"passes\n");
-}
-
-// The verdict on a value.
-fn print_value(valued: Valued) {
-    match valued {
-        Valued::Value(_) => print_passes(),
-        Valued::Refused(cause) => {
-            console::print_refused(cause);
-        }
-    }
-}
-
-// The verdict on a design.
-fn print_size(measured: Measured) {
-    match measured {
-        Measured::Is(_) => print_passes(),
-        Measured::Refused(cause) => {
-            console::print_refused(cause);
-        }
-    }
-}
-
 // A design of one table, of kind 0 with q 8 and g 4.
 fn of_one_table(w: u32, alpha: u32, a: u32, b: u32) -> Design {
     let none = Pair { a: 0, b: 0 };
@@ -57,22 +29,24 @@ fn g() -> Design {
     of_one_table(8, 5, 3, 3)
 }
 
-fn lines(initial: &[u32], offsets: &[i32]) {
-    label(b"G's line 1: ");
-    print_line(g(), initial, offsets, 1);
-    label(b"G's line 33: ");
-    print_line(g(), initial, offsets, 33);
-    label(b"G's line 40: ");
-    print_line(g(), initial, offsets, 40);
-    label(b"G's line 97: ");
-    print_line(g(), initial, offsets, 97);
+fn line(label: &[u8], initial: &[u32], offsets: &[i32], number: usize) {
+    io::write_all(STDOUT_FILENO, label);
+    print_line(g(), initial, offsets, number);
 }
 
-// The check of a filled set with initial entry 0 changed.
-fn changed(first: u32, filled: [u32; 32], offsets: &[i32]) {
+// The check of a filled set with its initial entry 0 changed.
+fn changed(label: &[u8], filled: [u32; 32], offsets: &[i32], first: u32) {
     let mut initial = filled;
     initial[0] = first;
+    io::write_all(STDOUT_FILENO, label);
     print_checked(check(g(), &initial, offsets));
+}
+
+fn lines(initial: &[u32], offsets: &[i32]) {
+    line(b"G's line 1: ", initial, offsets, 1);
+    line(b"G's line 33: ", initial, offsets, 33);
+    line(b"G's line 40: ", initial, offsets, 40);
+    line(b"G's line 97: ", initial, offsets, 97);
 }
 
 // G is admitted; if it were not, the lines would be of zeros.
@@ -80,35 +54,42 @@ fn filled_set() {
     let mut initial = [0u32; 32];
     let mut offsets = [0i32; 64];
     fill(g(), &mut initial, &mut offsets);
+    changed(b"G, initial 0 changed to 4046: ", initial, &offsets, 4046);
+    changed(b"G, initial 0 changed to 4045: ", initial, &offsets, 4045);
     lines(&initial, &offsets);
-    label(b"G filled, initial 0 changed to 4046: ");
-    changed(4046, initial, &offsets);
-    label(b"G filled, initial 0 changed to 4045: ");
-    changed(4045, initial, &offsets);
 }
 
-fn widths() {
-    label(b"q 16, g 4: ");
-    print_value(values::value(0, 8, 16, 4, 0));
-    label(b"q 16, g 5: ");
-    print_value(values::value(0, 8, 16, 5, 0));
-    label(b"a_0 + b_0 = 12: ");
-    print_size(design::size(of_one_table(16, 8, 4, 8)));
-    label(b"a_0 + b_0 = 13: ");
-    print_size(design::size(of_one_table(16, 8, 5, 8)));
+// Whether a value is turned down.
+fn value(label: &[u8], kind: u32, w: u32, q: u32, g: u32, x: u32) {
+    io::write_all(STDOUT_FILENO, label);
+    match values::value(kind, w, q, g, x) {
+        Valued::Value(_) => io::write_all(STDOUT_FILENO, b"passes\n"),
+        Valued::Refused(cause) => console::print_refused(cause),
+    }
+    ;
 }
 
-fn kinds_and_words() {
-    label(b"kind 5, w 5: ");
-    print_value(values::value(5, 5, 8, 4, 0));
-    label(b"w 8, x 255: ");
-    print_value(values::value(0, 8, 8, 4, 255));
-    label(b"w 8, x 256: ");
-    print_value(values::value(0, 8, 8, 4, 256));
+// Whether a design of 16 bits, of which 8 are initial, is turned down.
+fn size(label: &[u8], a: u32, b: u32) {
+    io::write_all(STDOUT_FILENO, label);
+    match design::size(of_one_table(16, 8, a, b)) {
+        Measured::Is(_) => io::write_all(STDOUT_FILENO, b"passes\n"),
+        Measured::Refused(cause) => console::print_refused(cause),
+    }
+    ;
+}
+
+fn refusals() {
+    value(b"q 16, g 4: ", 0, 8, 16, 4, 0);
+    value(b"q 16, g 5: ", 0, 8, 16, 5, 0);
+    size(b"a_0 + b_0 = 12: ", 4, 8);
+    size(b"a_0 + b_0 = 13: ", 5, 8);
+    value(b"kind 5, w 5: ", 5, 5, 8, 4, 0);
+    value(b"w 8, x 255: ", 0, 8, 8, 4, 255);
+    value(b"w 8, x 256: ", 0, 8, 8, 4, 256);
 }
 
 fn main() {
     filled_set();
-    widths();
-    kinds_and_words();
+    refusals();
 }
