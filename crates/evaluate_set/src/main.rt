@@ -29,6 +29,7 @@ fn last_line(text: WordText) -> WordLine {
     WordLine::Missing
 }
 
+// A character at a time, so that a line may be of any length.
 fn read_word() -> WordLine {
     let mut text = WordText::new();
     let mut turns = TURNS;

@@ -11,12 +11,13 @@ use tables::Checked;
 use writing::Written;
 use writing::write_line;
 
-// Tables of these lengths hold every legal set: alpha is at most 13, and there are at most 4 tables of at most 12 bits.
+// Tables of these lengths hold every legal set: alpha is at most 13, and there are at most 4 tables of at most 12 bits
+// (`initial-count-small` and `offset-total-small` of `design`).
 pub const INITIAL: usize = 8192;
 
 pub const OFFSETS: usize = 16384;
 
-// No legal set has more lines: a line for each entry, the design's and the last.
+// No legal set has more lines: a line for each entry, the design's and the last (`lines-small` of `lines`).
 pub const LINES: usize = 24578;
 
 // What came of taking a line: the state to go on with, and whether there is more to take.

@@ -1,4 +1,4 @@
--- A line as an input word: "one digit 0-9 or more and nothing else", and a number below 2^32.
+-- A line as an input word: one digit 0-9 or more and nothing else, which stand for a number below 2^32.
 use mathlib.Core.Bool.{Bool, true, cond, not, _&&_}
 use mathlib.Core.List.{List, [], _∷_}
 use Prim.Native.Nat.{ℕ, _+_, _-_, _*_, _^_}
