@@ -2,7 +2,7 @@
 use mathlib.Core.Path.{_≡_, refl}
 use mathlib.Core.Bool.{Bool, true, false, cond}
 use Prim.Native.Nat.{ℕ, zero, suc, _+_, _^_, _≤_, _<_}
-use native.Mathlib.Nat.{le-trans, pow-le-pow-left, not-le-of-lt, lt-of-not-le, le-div-iff-mul-le, div-lt-iff-lt-mul, two-pow-succ, add-assoc, pow-suc, mul-zero, zero-add}
+use native.Mathlib.Nat.{le-trans, le-antisymm, pow-le-pow-left, not-le-of-lt, lt-of-not-le, le-div-iff-mul-le, div-lt-iff-lt-mul, two-pow-succ, add-assoc, pow-suc, mul-zero, zero-add}
 use native.Mathlib.Decide.{decLe}
 use native.Mathlib.Omega.{arith}
 use lib.Dec.{leb}
@@ -42,16 +42,33 @@ module _ (k limit : ℕ) where
   unfolding rootFrom
   digit-zero b root h = simp (lt-leb _ _ h)
 
-module _ (row : Row) (lawful : Lawful row) (w P X : ℕ) (range : InRange w X) where
-  root-is : IsRoot (row .k) (scaled row w P X) (floorValue row w P X)
-  unfolding floorValue scaled
-  root-is = root-from (row .k) (scaled row w P X) (P + 1) 0 start end
+  -- The search over b digits finds the root, if b digits hold it, and there is only one.
+  pub root-searched : 1 ≤ k → (b : ℕ) → limit < (2 ^ b) ^ k → IsRoot k limit (rootFrom k limit b 0)
+  root-searched pos b high = root-from b 0 start (rw zero-add high)
     where
-      start : 0 ^ row .k ≤ scaled row w P X
-      start = let d = degree (row .k) (lawful .k-pos) in rw (d .1, pow-suc, mul-zero) (omega arith)
+      start : 0 ^ k ≤ limit
+      start = let d = degree k pos in rw (d .1, pow-suc, mul-zero) (omega arith)
 
-      end : scaled row w P X < (0 + 2 ^ (P + 1)) ^ row .k
-      end = rw zero-add (div-lt-iff-lt-mul (den-pos row lawful w X range) .1 (unfold numberSide in value-high row lawful w X range P))
+  at-most : {r s : ℕ} → IsRoot k limit r → IsRoot k limit s → r ≤ s
+  at-most {r} {s} one two = elim (decLe r s) [
+    | yes p ↦ p
+    | no n ↦ absurd (not-le-of-lt (two .high) (le-trans (pow-le-pow-left (omega (arith, lt-of-not-le n)) k) (one .low)))
+  ]
+
+  pub root-found : 1 ≤ k → (b : ℕ) → limit < (2 ^ b) ^ k → {r : ℕ} → IsRoot k limit r → r ≡ rootFrom k limit b 0
+  root-found pos b high one =
+      let two = root-searched pos b high in
+      le-antisymm (at-most one two) (at-most two one)
+
+module _ (row : Row) (lawful : Lawful row) (w P X : ℕ) (range : InRange w X) where
+  -- E(X)^k is below 2^(k·(P+1)), rounded down or not
+  pub scaled-high : scaled row w P X < (2 ^ (P + 1)) ^ row .k
+  unfolding scaled
+  scaled-high = div-lt-iff-lt-mul (den-pos row lawful w X range) .1 (unfold numberSide in value-high row lawful w X range P)
+
+  root-is : IsRoot (row .k) (scaled row w P X) (floorValue row w P X)
+  unfolding floorValue
+  root-is = root-searched (row .k) (scaled row w P X) (lawful .k-pos) (P + 1) scaled-high
 
   -- Document 01: "L is the greatest n with .."
   pub floor-greatest : Greatest (AtMost row w P X) (floorValue row w P X)

@@ -2,6 +2,7 @@
 pub mod Powers
 pub mod ExactLaws
 pub mod FloorLaws
+pub mod NewtonLaws
 pub mod SlopeLaws
 pub mod Bounds
 pub mod WidthLaws

@@ -1,5 +1,5 @@
 -- What inner calls may count on. Their callers are proved to see to it.
-use Prim.Native.Nat.{ℕ, _*_, _^_, _≤_, _<_}
+use Prim.Native.Nat.{ℕ, _+_, _*_, _^_, _≤_, _<_}
 use Rattle.values.specs.declared.rows.Row.{Row}
 use Rattle.values.specs.Rows.{Lawful}
 
@@ -20,6 +20,13 @@ pub record FloorInput (row : Row) (w P X : ℕ) : Type 0 where
   pub w-small : w ≤ 16
   pub P-small : P ≤ 20
   pub range : InRange w X
+
+-- A root is asked for: of degree 1 or 2, and below 2^(p+1).
+pub record RootInput (k p limit : ℕ) : Type 0 where
+  pub k-pos : 1 ≤ k
+  pub k-small : k ≤ 2
+  pub p-small : p ≤ 20
+  pub limit-small : limit < (2 ^ (p + 1)) ^ k
 
 -- A segment is asked for: of a value A of the top a bits of an input word.
 pub record SegmentInput (w a A : ℕ) : Type 0 where

@@ -1,6 +1,6 @@
 -- `values::floor::floor_value` meets its contract: the root has at most 21 binary digits, so its count fits a signed number.
-use mathlib.Core.Path.{ap, _∙_}
-use Prim.Native.Nat.{ℕ, _^_, _≤_, _<_}
+use mathlib.Core.Path.{_≡_, ap, _∙_}
+use Prim.Native.Nat.{ℕ, _^_, _<_}
 use native.Mathlib.Nat.{lt-of-lt-of-le}
 use native.Mathlib.Omega.{arith}
 use borrow.Author.Needs.{needs}
@@ -8,36 +8,46 @@ use lib.IntN.{ℤ, pos}
 use lib.Pow.{pow-mono}
 use mir.Syntax.{w64}
 use mir.ValLaws.{toZ-pos}
+use Rattle.values.specs.declared.rows.Row.{Row}
 use Rattle.values.specs.declared.TableUnits.{TableUnits}
-use Rattle.values.specs.Floor.{floorValue}
+use Rattle.values.specs.Inputs.{FloorInput, RootInput}
+use Rattle.values.specs.Floor.{scaled, floorValue}
+use Rattle.values.proofs.FloorLaws.{scaled-high, floor-high}
 use Rattle.values.proofs.floor.floor_value.Statement.{statement}
 use Rattle.values.proofs.floor.floor_value.Tie as tie
 
 units : ℤ → TableUnits
 units z = record { 0 = z }
 
-few : {n r : ℕ} → n ≤ 21 → r < 2 ^ n → r < 2 ^ 21
-few small b = lt-of-lt-of-le b (pow-mono small)
+module _ (row : Row) (w P X : ℕ) (input : FloorInput row w P X) where
+  root-input : RootInput (row .k) P (scaled row w P X)
+  root-input = record {
+    k-pos = input .lawful .k-pos;
+    k-small = input .lawful .k-small;
+    p-small = input .P-small;
+    limit-small = scaled-high row (input .lawful) w P X (input .range);
+  }
 
-add-floor-root : tie.Need-add-floor-root
-add-floor-root c = search needs
+  few : {r : ℕ} → r ≡ floorValue row w P X → r < 2 ^ 21
+  few e = rw e (lt-of-lt-of-le (floor-high row (input .lawful) w P X (input .range)) (pow-mono {j = 21} (omega (arith, input .P-small))))
 
 scaled-requires : tie.Need-scaled-requires
 scaled-requires c κs = search needs
 
 floor-root-requires : tie.Need-floor-root-requires
-floor-root-requires c κs = search needs
+floor-root-requires c κs = rw (c .scaled .ensures) (root-input _ _ _ _ (c .before .pre))
 
-cast-t8 : tie.Need-cast-t8
-cast-t8 c = record { sfits = omega (arith, few (omega arith) (c .floor-root .ensures .1)) }
+cast-t7 : tie.Need-cast-t7
+unfolding floorValue
+cast-t7 c =
+    let small = few _ _ _ _ (c .before .before .pre) (rw (c .before .scaled .ensures) at (c .floor-root .ensures)) in
+    record { sfits = omega (arith, small) }
 
 returns : tie.Need-returns
 unfolding floorValue units
 returns c =
-    ap units
-    (toZ-pos w64 _ (omega (arith, few (omega arith) (c .floor-root .ensures .1)))
-    ∙ ap pos (rw (c .before .scaled .ensures) at (c .floor-root .ensures .0)))
+    let e = rw (c .before .scaled .ensures) at (c .floor-root .ensures) in
+    ap units (toZ-pos w64 _ (omega (arith, few _ _ _ _ (c .before .before .pre) e)) ∙ ap pos e)
 
 pub floor-value-spec : {M : Type 1} → statement M
-floor-value-spec =
-    tie.close (tie.spec add-floor-root scaled-requires floor-root-requires cast-t8 returns)
+floor-value-spec = tie.close (tie.spec scaled-requires floor-root-requires cast-t7 returns)
