@@ -11,7 +11,13 @@ ghost use Rattle.tables.specs.Evaluate.{wordChecks, evaluated, evaluateVerdict,
 ghost use Rattle.tables.specs.Evaluate as Evaluate;
 ghost use Rattle.tables.specs.Batch.{roomVerdict, placeVerdict, wordsBelow, batchAnswer, batchVerdict, outputAfter};
 ghost use Rattle.tables.specs.Batch as Batch;
+
+pub mod range;
+
 use design::Design;
+use design::measure::offset_total;
+use range::sums_in_range;
+use range::width_answer;
 use refusal::Cause;
 use refusal::Verdict;
 use tables::Batched;
@@ -63,8 +69,8 @@ fn room_verdict(d: Design, initial: &[u32], offsets: &[i32], words: usize, outpu
     Verdict::Passed
 }
 
-// The first pass: how many words there are, or the lowest that is refused. It writes nothing.
-fn words_verdict(d: Design, initial: &[u32], offsets: &[i32], words: &[u32]) -> Batched
+// Each word in turn, with its sum: how many words there are, or the lowest that is refused.
+fn summed_verdict(d: Design, initial: &[u32], offsets: &[i32], words: &[u32]) -> Batched
     requires { ⌜ Usable d (length (now initial)) (length (now offsets)) ⌝ }
     ensures { λ r. ⌜ r ≡ wordsBelow (length (now (words .entry)))
         (placeVerdict d (now (initial .entry)) (now (offsets .entry)) (now (words .entry))) ⌝ }
@@ -75,6 +81,20 @@ fn words_verdict(d: Design, initial: &[u32], offsets: &[i32], words: &[u32]) -> 
         }
     }
     Batched::Count(words.len())
+}
+
+// The first pass: how many words there are, or the lowest that is refused. It writes nothing. Where there are more words than entries, it is
+// cheaper to ask first whether any sum can be out of range.
+fn words_verdict(d: Design, initial: &[u32], offsets: &[i32], words: &[u32]) -> Batched
+    requires { ⌜ Usable d (length (now initial)) (length (now offsets)) ⌝ }
+    ensures { λ r. ⌜ r ≡ wordsBelow (length (now (words .entry)))
+        (placeVerdict d (now (initial .entry)) (now (offsets .entry)) (now (words .entry))) ⌝ }
+{
+    let entries = pow2(d.alpha) + offset_total(d);
+    if entries < words.len() as u64 && sums_in_range(d, initial, offsets) {
+        return width_answer(d.w, words);
+    }
+    summed_verdict(d, initial, offsets, words)
 }
 
 // A word that is known to pass.

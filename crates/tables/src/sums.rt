@@ -43,7 +43,8 @@ fn offset_place(d: Design, i: u32, pair: Pair, start: u64, position: u32, x: u32
     start + (segment * pow2(pair.b) + offset_word(pair, position, x))
 }
 
-// inner: Y, summed from the tables: m + 1 lookups, shifts and adds.
+// inner: Y, summed from the tables: m + 1 lookups, shifts and adds. The loop counts to 4, the most tables there are, so that the
+// compiler unrolls it and keeps each table's numbers at hand from word to word.
 pub fn sum_of(d: Design, initial: &[u32], offsets: &[i32], x: u32) -> TableUnits
     requires { ⌜ Usable d (length (now initial)) (length (now offsets)) ⌝ }
     requires { ⌜ x < 2 ^ d .w ⌝ }
@@ -53,7 +54,10 @@ pub fn sum_of(d: Design, initial: &[u32], offsets: &[i32], x: u32) -> TableUnits
     let mut sum = initial[(x >> (d.w - d.alpha)) as usize] as i64;
     let mut start = 0;
     let mut position = 0;
-    for i in 0..m {
+    for i in 0..4 {
+        if m <= i {
+            return TableUnits(sum);
+        }
         let pair = pair_at(d, i);
         let offset = offsets[offset_place(d, i, pair, start, position, x) as usize];
         sum += offset as i64;

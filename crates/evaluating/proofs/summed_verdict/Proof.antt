@@ -1,4 +1,4 @@
--- `evaluating::words_verdict` meets its contract: every word before the present one passed, so the first that does not is the lowest.
+-- `evaluating::summed_verdict` meets its contract: every word before the present one passed, so the first that does not is the lowest.
 use mathlib.Core.Path.{_≡_, sym, _∙_}
 use Prim.Native.Nat.{ℕ, _-_, _≤_, _<_}
 use native.Mathlib.Omega.{arith}
@@ -9,8 +9,8 @@ use Rattle.refusal.specs.declared.Verdict.{Verdict}
 use Rattle.tables.specs.Batch.{placeVerdict}
 use Rattle.tables.proofs.BatchLaws.{batch-all, batch-bad}
 use Rattle.tables.proofs.WordLaws.{evaluated-refused, evaluated-word}
-use Rattle.evaluating.proofs.words_verdict.Statement.{statement}
-use Rattle.evaluating.proofs.words_verdict.Tie as tie
+use Rattle.evaluating.proofs.summed_verdict.Statement.{statement}
+use Rattle.evaluating.proofs.summed_verdict.Tie as tie
 
 abbrev Inv-loop : tie.InvT-loop
 Inv-loop d initial offsets words i₀ i-end i =
@@ -64,8 +64,8 @@ returns-2 c =
     let end : c .before .loop .i ≡ length words = omega arith in
     sym (batch-all _ _ (rw end at (c .before .loop .inv .1)))
 
-pub words-verdict-spec : {M : Type 1} → statement M
-words-verdict-spec =
+pub summed-verdict-spec : {M : Type 1} → statement M
+summed-verdict-spec =
     tie.close
     (tie.spec
     Inv-loop

@@ -70,7 +70,7 @@ Inv-loop d initial offsets x m sum₀ start₀ position₀ i₀ sum start positi
     Summing d initial offsets x (toZ w64 sum) start position i
 
 abbrev μ-loop : tie.MeasureT-loop
-μ-loop d initial offsets x m sum₀ start₀ position₀ i₀ sum start position i = m - i
+μ-loop d initial offsets x m sum₀ start₀ position₀ i₀ sum start position i = 4 - i
 
 sub-sum : tie.Need-sub-sum Inv-loop μ-loop
 sub-sum c = omega (arith, limits _ (c .before .before .pre .0 .legal) .alpha-below)
@@ -110,32 +110,40 @@ loop-holds c =
     start _ _ _ _ _ e (rw e (omega (arith, known)))
 
 -- a turn's table is one of the design's
-more : (c : tie.In-loop Inv-loop μ-loop) → c .before .loop .i < c .before .before .before .before .before .args .d .m
-more c = omega arith
+more : (c : tie.Else1 Inv-loop μ-loop) → c .before .before .loop .i < c .before .before .before .before .before .before .args .d .m
+more c = c .if1 .left
+
+-- and where there is no more table, all are summed
+returns : tie.Need-returns Inv-loop μ-loop
+unfolding units
+returns c =
+    let b = c .before .before in
+    let e : b .loop .i ≡ b .before .before .before .before .args .d .m = omega (arith, c .if1 .taken, b .loop .inv .within) in
+    ap units (finish _ _ _ _ (b .loop .inv) e)
 
 pair-at-requires : tie.Need-pair-at-requires Inv-loop μ-loop
-pair-at-requires c κs = (more c, limits _ (c .before .before .before .before .before .pre .0 .legal) .m-high)
+pair-at-requires c κs = (more c, limits _ (c .before .before .before .before .before .before .pre .0 .legal) .m-high)
 
 -- the bits of this turn's table
 few-bits : (c : tie.After-pair-at Inv-loop μ-loop) → c .pair-at .result .a + c .pair-at .result .b ≤ 12
 few-bits c =
     rw (c .pair-at .ensures)
-    (limits _ (c .before .before .before .before .before .before .pre .0 .legal) .table _ (more (c .before)) .sum-high)
+    (limits _ (c .before .before .before .before .before .before .before .pre .0 .legal) .table _ (more (c .before)) .sum-high)
 
 offset-place-requires : tie.Need-offset-place-requires Inv-loop μ-loop
 offset-place-requires c κs =
-    let e = c .before .before .before .before .before .before .pre in
-    let inv = c .before .before .loop .inv in (
+    let e = c .before .before .before .before .before .before .before .pre in
+    let inv = c .before .before .before .loop .inv in (
       e .0 .legal,
       (record { i-lt = more (c .before); pair-is = c .pair-at .ensures; start-is = inv .start-is; position-is = inv .place }, e .1),
     )
 
 -- the place lies within the offsets
 place-lt : (c : tie.After-offset-place Inv-loop μ-loop) →
-    (c .offset-place .result < length (c .before .before .before .before .before .before .before .args .offsets .now))
+    (c .offset-place .result < length (c .before .before .before .before .before .before .before .before .args .offsets .now))
     × (c .offset-place .result < 16384)
 place-lt c =
-    let e = c .before .before .before .before .before .before .before .pre in (
+    let e = c .before .before .before .before .before .before .before .before .pre in (
       lt-of-lt-of-le (c .offset-place .ensures .1) (e .0 .offsets-long),
       lt-of-lt-of-le (c .offset-place .ensures .1) (offset-total-small _ (limits _ (e .0 .legal))),
     )
@@ -149,19 +157,20 @@ shared-slice-copy-out-offset c = place-lt c .0
 -- the offset of this turn
 abbrev offset-read : tie.After-offset Inv-loop μ-loop → ℤ
 offset-read c =
-    getD (c .before .before .before .before .before .before .before .before .args .offsets .now) (c .before .offset-place .result) (pos 0)
+    getD (c .before .before .before .before .before .before .before .before .before .args .offsets .now) (c .before .offset-place .result)
+    (pos 0)
 
 cast-sum-3 : tie.Need-cast-sum-3 Inv-loop μ-loop
 cast-sum-3 c = narrow-fits (offset-read c) (c .offset .given)
 
 -- the sum before this turn's offset
-low-sum : (c : tie.After-offset Inv-loop μ-loop) → mag (toZ w64 (c .before .before .before .before .loop .sum)) ≤ 2 ^ 40
+low-sum : (c : tie.After-offset Inv-loop μ-loop) → mag (toZ w64 (c .before .before .before .before .before .loop .sum)) ≤ 2 ^ 40
 low-sum c =
-    let b = c .before .before .before .before in
+    let b = c .before .before .before .before .before in
     omega (arith, b .loop .inv .small, b .loop .inv .within, limits _ (b .before .before .before .before .pre .0 .legal) .m-high)
 
 add-sum : tie.Need-add-sum Inv-loop μ-loop
-add-sum c = wide-fits (toZ w64 (c .before .before .before .before .loop .sum)) (offset-read c) (low-sum c) (c .offset .given)
+add-sum c = wide-fits (toZ w64 (c .before .before .before .before .before .loop .sum)) (offset-read c) (low-sum c) (c .offset .given)
 
 add-pow2 : tie.Need-add-pow2 Inv-loop μ-loop
 add-pow2 c = omega (arith, few-bits (c .before .before .before))
@@ -174,7 +183,7 @@ few-entries c = rw (c .pow2 .ensures) (pow-mono {j = 12} (few-bits (c .before .b
 
 add-start : tie.Need-add-start Inv-loop μ-loop
 add-start c =
-    let b = c .before .before .before .before .before .before in
+    let b = c .before .before .before .before .before .before .before in
     let l = limits _ (b .before .before .before .before .pre .0 .legal) in
     omega (arith, few-entries c, start-small _ l _ (b .loop .inv .within), b .loop .inv .start-is)
 
@@ -182,13 +191,13 @@ add-position : tie.Need-add-position Inv-loop μ-loop
 add-position c =
     let t = c .before .before .before .before .before in
     let b = t .before in
-    let l = limits _ (b .before .before .before .before .before .pre .0 .legal) in
-    rw (t .pair-at .ensures, b .before .loop .inv .place)
+    let l = limits _ (b .before .before .before .before .before .before .pre .0 .legal) in
+    rw (t .pair-at .ensures, b .before .before .loop .inv .place)
     (omega (arith, bits-end _ l _ (more b), l .table _ (more b), l .widths .w-high))
 
 add-i : tie.Need-add-i Inv-loop μ-loop
 add-i c =
-    let b = c .before .before .before .before .before .before .before in
+    let b = c .before .before .before .before .before .before .before .before in
     omega (arith, limits _ (b .before .before .before .before .pre .0 .legal) .m-high)
 
 loop-less : tie.Need-loop-less Inv-loop μ-loop
@@ -198,14 +207,16 @@ loop-again : tie.Need-loop-again Inv-loop μ-loop
 loop-again c =
     let b = c .before .before .before in
     let t = b .before .before in
-    let l = t .before .before .loop in
+    let l = t .before .before .before .loop in
     turn (l .sum) (b .before .offset-place .result) (l .inv) (low-sum b) (more (t .before)) (b .before .offset-place .ensures .0)
     (b .offset .given) _ _ (t .pair-at .ensures) (c .before .pow2 .ensures)
 
-returns : tie.Need-returns Inv-loop μ-loop
+returns-2 : tie.Need-returns-2 Inv-loop μ-loop
 unfolding units
-returns c =
-    let e : c .before .loop .i ≡ c .before .before .before .before .before .args .d .m = omega arith in
+returns-2 c =
+    let l = limits _ (c .before .before .before .before .before .pre .0 .legal) in
+    let e : c .before .loop .i ≡ c .before .before .before .before .before .args .d .m =
+    omega (arith, c .loop-test .left, c .before .loop .inv .within, l .m-high) in
     ap units (finish _ _ _ _ (c .before .loop .inv) e)
 
 pub sum-of-spec : {M : Type 1} → statement M
@@ -221,6 +232,7 @@ sum-of-spec =
     shared-slice-read-sum
     cast-sum-2
     loop-holds
+    returns
     pair-at-requires
     offset-place-requires
     mul-offset
@@ -234,4 +246,4 @@ sum-of-spec =
     add-i
     loop-less
     loop-again
-    returns)
+    returns-2)

@@ -1,0 +1,2 @@
+-- Laws of the evaluation.
+pub mod RangeLaws

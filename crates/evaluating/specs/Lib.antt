@@ -1,0 +1,2 @@
+-- What inner calls of the evaluation promise each other.
+pub mod Range
