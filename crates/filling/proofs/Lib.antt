@@ -1,5 +1,4 @@
 -- Laws of the fill, one file a subject.
 pub mod SignLaws
-pub mod EntryBounds
 pub mod TableLaws
 pub mod FillLaws

@@ -1,7 +1,7 @@
 -- Signed numbers: the difference of two counts, the size of a number, and T or -1 - T by the sign.
 use mathlib.Core.Path.{_≡_, refl, ap}
 use mathlib.Core.Bool.{Bool, true, false, not, cond, Bool·beq, true≢false}
-use Prim.Native.Nat.{ℕ, zero, suc, _-_, _*_, _≤_, _<_}
+use Prim.Native.Nat.{ℕ, zero, suc, _-_, _≤_, _<_}
 use native.Mathlib.Nat.{le-refl, le-suc, not-suc-le-zero, zero-add}
 use native.Mathlib.Omega.{arith}
 use borrow.Author.Tests.{ltb-true, ltb-false, le-leb}
@@ -15,7 +15,7 @@ pub minus-is : (a b : ℕ) → 0 < b → pos a -ℤ pos b ≡ subℕ a b
 minus-is a zero h = absurd (not-suc-le-zero h)
 minus-is a (suc b) h = refl
 
--- which lies within every bound of both, and, where the first is at most twice the second, is no more than the second.
+-- which lies within every bound of both.
 module _ (a b : ℕ) where
   within : (H : ℕ) → a < H → b < H → (t : Bool) → ltb a b ≡ t → mag (cond t (negsuc (b - suc a)) (pos (a - b))) < H
   within H h k true e = omega (arith, ltb-true a b e)
@@ -23,13 +23,6 @@ module _ (a b : ℕ) where
 
   pub difference-mag : {H : ℕ} → a < H → b < H → mag (subℕ a b) < H
   difference-mag {H} h k = within H h k (ltb a b) refl
-
-  no-more : a ≤ 2 * b → (t : Bool) → ltb a b ≡ t → natAbs (cond t (negsuc (b - suc a)) (pos (a - b))) ≤ b
-  no-more double true e = omega (arith, ltb-true a b e)
-  no-more double false e = omega (arith, ltb-false a b e)
-
-  pub difference-small : a ≤ 2 * b → natAbs (subℕ a b) ≤ b
-  difference-small double = no-more double (ltb a b) refl
 
 -- What the test of a sign tells
 pub sign-tested : (j : ℤ) → leZ (pos 0) j ≡ nonNeg j

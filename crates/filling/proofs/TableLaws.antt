@@ -1,4 +1,4 @@
--- The offsets, segment by segment and table by table: what is written so far, and that there is room for more.
+-- The offsets, segment by segment and table by table: what is written so far, and that more can be asked for and has room.
 use mathlib.Core.Path.{_≡_, refl, sym, _∙_}
 use mathlib.Core.Bool.{Bool}
 use mathlib.Core.List.{List, _++_}
@@ -12,10 +12,13 @@ use lib.Pow.{high, low, pow-add}
 use Rattle.design.specs.declared.Design.{Design}
 use Rattle.design.specs.Cut.{aOf, bOf, row, sumBelow, position, offsetCount, tableStart, offsetTotal}
 use Rattle.design.proofs.Sums.{sum-mono, sum-step, sum-next}
+use Rattle.design.proofs.LegalLaws.{Limits, bits-end}
 use Rattle.tables.specs.Entries.{offsetAt, hiAt, loAt, offsetOf}
 use Rattle.tables.specs.Fill.{listBelow, tableEntries, offsetsBelow}
 use Rattle.tables.proofs.EntryLaws.{list-length, offsets-length}
+use Rattle.tables.proofs.EntryBounds.{slopes-reach}
 use Rattle.filling.specs.Segment.{segmentOffsets}
+use Rattle.filling.specs.Inputs.{OffsetInput}
 use Rattle.tables.specs.Writing.{over}
 use Rattle.tables.proofs.WritingLaws.{over-none, over-more, list-add, list-congruence}
 
@@ -65,6 +68,12 @@ module _ (d : Design) (i : ℕ) where
 pub table-room : (d : Design) (n : ℕ) → n < d .m → tableStart d n ≤ offsetTotal d
 unfolding offsetTotal tableStart
 table-room d n h = sum-mono (offsetCount d) n (d .m) (le-of-lt h)
+
+-- The offsets of each segment can be asked for.
+pub offset-input : (d : Design) → Limits d → (i A : ℕ) → i < d .m → A < 2 ^ aOf d i
+    → OffsetInput (hiAt d i A + loAt d i A) (bOf d i) (position d i)
+offset-input d l i A h A-lt =
+    record { bits = omega (arith, bits-end d l i h, l .widths .w-high); small = slopes-reach d l i A h A-lt }
 
 -- The first n segments of table i are written over what the offsets held before, and the next one begins at this place.
 pub record Segments (d : Design) (i : ℕ) (before table : List ℤ) (at n : ℕ) : Type 0 where

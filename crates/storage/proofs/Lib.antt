@@ -9,6 +9,8 @@ pub mod Standing
 pub mod Uniqueness
 pub mod ReadingBack
 pub mod InOrder
+-- What the fill writes:
+pub mod FilledFits
 -- Examples:
 pub mod Examples
 -- All together:

@@ -1,4 +1,4 @@
--- Demand 2's last sentence, put together.
+-- Demand 2's last sentence and what the fill writes, put together.
 use mathlib.Core.Path.{_≡_, refl}
 use mathlib.Core.Bool.{true}
 use mathlib.Core.List.{List, _∷_}
@@ -22,6 +22,7 @@ use Rattle.storage.proofs.InOrder.{in-order}
 use Rattle.storage.proofs.Fitting.{storable-fits, fits-storable}
 use Rattle.storage.proofs.ReadingBack.{read-back}
 use Rattle.storage.proofs.Uniqueness.{unique, refused-skipped}
+use Rattle.storage.proofs.FilledFits.{filled-storable, fill-storable}
 
 -- The writer gives each line of a set that has a stored form.
 module _ (t : TableSet) (n : ℕ) (buffer : List ℕ) (ok : Storable t) (within : n < lineCount (t .design))
@@ -64,7 +65,7 @@ unfolding lineCount
 all-given t buffer given =
     fits-storable t (given-usable t buffer 0 (given 0 (omega arith))) (λ n h. given-fits t buffer n (given n h))
 
--- Demand 2, its last sentence
+-- Demand 2, its last sentence, and what the fill writes
 pub storage : Storage
 storage =
     record {
@@ -74,4 +75,6 @@ storage =
       reads-back = λ t s ok begins initial offsets. read-back t ok s begins initial offsets;
       unique = unique;
       refused = λ s lines. let n = refused-skipped s lines in record { comes-to = n .0; accepts = n .1 };
+      filled = λ t admitted. filled-storable t (admitted .legal);
+      fills = fill-storable;
     }

@@ -3,7 +3,12 @@ use mathlib.Core.Path.{_≡_}
 use mathlib.Core.List.{List, _++_}
 use Prim.Native.Nat.{ℕ, _≤_, _<_}
 use lib.ListN.{length, drop}
+use lib.IntN.{ℤ}
+use Rattle.refusal.specs.declared.Verdict.{Verdict}
+use Rattle.design.specs.declared.Design.{Design}
 use Rattle.design.specs.Cut.{initialCount, offsetTotal}
+use Rattle.design.specs.Budget.{Admitted}
+use Rattle.tables.specs.Fill.{fillVerdict, initialAfter, offsetsAfter, Filled}
 use Rattle.lines.specs.Slots.{lineCount}
 use Rattle.writing.specs.declared.Written.{Written}
 use Rattle.writing.specs.Write.{writeAnswer, bufferAfter}
@@ -40,7 +45,7 @@ pub record RefusedSkipped (s : Session) (lines : List (List ℕ)) : Type 0 where
   pub comes-to : feed s (accepted s lines) ≡ feed s lines
   pub accepts : accepted s (accepted s lines) ≡ accepted s lines
 
--- Demand 2's last sentence, whole
+-- Demand 2's last sentence, whole, and that what the fill writes can be stored
 pub record Storage : Type 0 where
   -- the lines are those of document 01's list, in its order
   pub in-order : (t : TableSet) → linesIn t ≡ fileOf t
@@ -58,3 +63,9 @@ pub record Storage : Type 0 where
       → CameFrom (setIn (feed s lines)) (accepted s lines)
   -- refused lines change nothing
   pub refused : (s : Session) (lines : List (List ℕ)) → RefusedSkipped s lines
+  -- what the fill writes can be stored: of an admitted design, all tables that begin with the entries the fill writes for it can be
+  -- written, so that 18 never turns one of its lines down,
+  pub filled : (t : TableSet) → Admitted (t .design) → Filled (t .design) (t .initial) (t .offsets) → Storable t
+  -- and "an accepted fill leaves such tables"
+  pub fills : (d : Design) (initial : List ℕ) (offsets : List ℤ) → fillVerdict d (length initial) (length offsets) ≡ Verdict.Passed
+      → Storable (record { design = d; initial = initialAfter d initial offsets; offsets = offsetsAfter d initial offsets })

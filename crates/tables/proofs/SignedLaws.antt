@@ -1,9 +1,11 @@
--- How large a sum of signed numbers gets.
+-- How large a sum of signed numbers gets, and a difference of two counts.
+use mathlib.Core.Path.{_≡_, refl}
 use mathlib.Core.Bool.{Bool, true, false, cond}
-use Prim.Native.Nat.{ℕ, suc, _+_, _≤_}
+use Prim.Native.Nat.{ℕ, suc, _+_, _-_, _*_, _≤_}
 use native.Mathlib.Omega.{arith}
+use borrow.Author.Tests.{ltb-true, ltb-false}
 use lib.Dec.{ltb}
-use lib.IntN.{ℤ, pos, negsuc, _+ℤ_}
+use lib.IntN.{ℤ, pos, negsuc, subℕ, natAbs, _+ℤ_}
 use lib.Signed.{mag}
 
 -- A difference of two numbers is no larger than the larger of them.
@@ -17,3 +19,12 @@ mag-add (pos a) (pos b) = omega arith
 mag-add (pos a) (negsuc b) = mag-cond (ltb a (suc b)) _ _ _ (omega arith) (omega arith)
 mag-add (negsuc a) (pos b) = mag-cond (ltb b (suc a)) _ _ _ (omega arith) (omega arith)
 mag-add (negsuc a) (negsuc b) = omega arith
+
+-- The difference of two counts, the first at most twice the second, is no more than the second.
+module _ (a b : ℕ) where
+  no-more : a ≤ 2 * b → (t : Bool) → ltb a b ≡ t → natAbs (cond t (negsuc (b - suc a)) (pos (a - b))) ≤ b
+  no-more double true e = omega (arith, ltb-true a b e)
+  no-more double false e = omega (arith, ltb-false a b e)
+
+  pub difference-small : a ≤ 2 * b → natAbs (subℕ a b) ≤ b
+  difference-small double = no-more double (ltb a b) refl

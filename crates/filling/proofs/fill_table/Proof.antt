@@ -8,8 +8,7 @@ use Rattle.values.specs.declared.rows.Row.{Row}
 use Rattle.design.specs.declared.Pair.{Pair}
 use Rattle.design.specs.Cut.{aOf}
 use Rattle.design.proofs.LegalLaws.{limits}
-use Rattle.filling.proofs.EntryBounds.{offset-input}
-use Rattle.filling.proofs.TableLaws.{Segments, segments-start, segments-next, segments-end, segment-room}
+use Rattle.filling.proofs.TableLaws.{Segments, segments-start, segments-next, segments-end, segment-room, offset-input}
 use Rattle.filling.proofs.fill_table.Statement.{statement}
 use Rattle.filling.proofs.fill_table.Tie as tie
 

@@ -12,7 +12,7 @@ use Rattle.design.specs.Cut.{initialCount}
 use Rattle.design.specs.Legal.{Legal}
 use Rattle.design.proofs.LegalLaws.{limits}
 use Rattle.tables.specs.Entries.{valueAt, endValues, initialAt}
-use Rattle.filling.proofs.EntryBounds.{interval-input, segment-input}
+use Rattle.tables.proofs.EntryBounds.{interval-input, segment-input, half-sum-small}
 use Rattle.filling.proofs.entries.initial_at.Statement.{statement}
 use Rattle.filling.proofs.entries.initial_at.Tie as tie
 
@@ -82,7 +82,7 @@ entry-small : (c : tie.After-pow2) → let values = c .before .before .before in
 entry-small c =
     let values = c .before .before .before in
     let l = limits _ (values .before .before .before .before .pre .0) in
-    omega (arith, unit-small c, values .before .value-at .ensures .1, values .value-at2 .ensures .1, l .m-high)
+    half-sum-small _ _ _ _ (values .before .value-at .ensures .1) (values .value-at2 .ensures .1) (l .m-high) (unit-small c)
 
 add-result-3 : tie.Need-add-result-3
 add-result-3 c = omega (arith, entry-small c)

@@ -1,4 +1,4 @@
--- `filling::entries::offset_of` meets its contract: |j| is at most 2^b, so the product is at most 2^39 and T below 2^31.
+-- `filling::entries::offset_of` meets its contract: |j| is at most 2^b, so the product is at most 2^39 and T at most 2^21.
 use mathlib.Core.Path.{_≡_, _∙_}
 use Prim.Native.Nat.{_^_, _≤_}
 use native.Mathlib.Omega.{arith}
@@ -9,7 +9,7 @@ use mir.Syntax.{w32, w64}
 use mir.Val.{toZ, ofZ}
 use mir.ValLaws.{toZ-ofZ}
 use Rattle.tables.specs.Entries.{oddNumber, magnitude, offsetOf}
-use Rattle.filling.proofs.EntryBounds.{odd-small, half-product-small, product-small, magnitude-small}
+use Rattle.tables.proofs.EntryBounds.{odd-small, half-product-small, product-small, quotient-small}
 use Rattle.filling.proofs.entries.offset_of.Statement.{statement}
 use Rattle.filling.proofs.entries.offset_of.Tie as tie
 
@@ -23,7 +23,7 @@ odd-is c = toZ-ofZ w64 _ (record { sfits = c .odd-number .ok }) ∙ c .odd-numbe
 size-requires : tie.Need-size-requires
 size-requires c κs =
     let a = c .before .args in
-    let small = odd-small (a .slopes) (a .b) (a .p) (a .word) (c .before .pre .0) (c .before .pre .1) in
+    let small = odd-small (a .slopes) (a .b) (a .p) (a .word) (c .before .pre .0 .small) (c .before .pre .1) in
     rw (odd-is c) (omega (arith, small, pow-mono {i = a .b} {j = 16} (omega arith)))
 
 -- |j|
@@ -31,7 +31,7 @@ size-is : (c : tie.After-size) → c .size .result ≡ natAbs (oddNumber (c .bef
 size-is c = c .size .ensures ∙ rw (odd-is (c .before))
 
 mul-t : tie.Need-mul-t
-mul-t c = rw (size-is c) (omega (arith, half-product-small _ _ _ _ (c .before .before .pre .0) (c .before .before .pre .1)))
+mul-t c = rw (size-is c) (omega (arith, half-product-small _ _ _ _ (c .before .before .pre .0 .small) (c .before .before .pre .1)))
 
 pow2-requires : tie.Need-pow2-requires
 pow2-requires c κs = search needs
@@ -42,7 +42,7 @@ unit-le c = omega (arith, pow-pos (c .before .before .before .args .p))
 mul-t-2 : tie.Need-mul-t-2
 mul-t-2 c =
     let s = c .before .before .before in
-    rw (size-is (c .before)) (omega (arith, product-small _ _ _ _ (s .pre .0) (s .pre .1) _ (unit-le c)))
+    rw (size-is (c .before)) (omega (arith, product-small _ _ _ _ (s .pre .0 .small) (s .pre .1) _ (unit-le c)))
 
 div-t : tie.Need-div-t
 div-t c = search needs
@@ -50,7 +50,7 @@ div-t c = search needs
 with-sign-requires : tie.Need-with-sign-requires
 with-sign-requires c κs =
     let s = c .before .before .before in
-    rw (size-is (c .before)) (magnitude-small _ _ _ _ (s .pre .0) (s .pre .1) _ (unit-le c))
+    rw (size-is (c .before)) (omega (arith, quotient-small _ _ _ _ (s .pre .0 .small) (s .pre .1) _ (unit-le c)))
 
 returns : tie.Need-returns
 unfolding offsetOf magnitude

@@ -13,7 +13,7 @@ use Rattle.design.specs.Cut.{aOf, row, fractionBits, pairAt}
 use Rattle.design.specs.Legal.{Legal}
 use Rattle.design.proofs.LegalLaws.{limits, slopewise}
 use Rattle.tables.specs.Entries.{hiAt, loAt}
-use Rattle.filling.proofs.EntryBounds.{segment-input, slopes-fit}
+use Rattle.tables.proofs.EntryBounds.{segment-input, slopes-fit}
 use Rattle.filling.proofs.entries.slope_sum.Statement.{statement}
 use Rattle.filling.proofs.entries.slope_sum.Tie as tie
 

@@ -6,7 +6,7 @@ use Rattle.values.specs.declared.TableUnits.{TableUnits}
 use Rattle.values.proofs.Bounds.{floor-small}
 use Rattle.design.proofs.LegalLaws.{limits}
 use Rattle.tables.specs.Entries.{valueAt}
-use Rattle.filling.proofs.EntryBounds.{floor-input}
+use Rattle.tables.proofs.EntryBounds.{floor-input}
 use Rattle.filling.proofs.entries.value_at.Statement.{statement}
 use Rattle.filling.proofs.entries.value_at.Tie as tie
 
