@@ -1,0 +1,64 @@
+-- `exports::dorykleth_check` meets its contract: the lowest unfaithful word, 2^w, or the number of the cause.
+use mathlib.Core.Path.{refl, sym, _∙_}
+use borrow.Author.Needs.{needs}
+use Rattle.exports.proofs.WordCount.{words-counted, faithful-legal}
+use Rattle.exports.proofs.dorykleth_check.Statement.{statement}
+use Rattle.exports.proofs.dorykleth_check.Tie as tie
+
+design-of-requires : tie.Need-design-of-requires
+design-of-requires c κs = search needs
+
+check-requires : tie.Need-check-requires
+check-requires c κs = search needs
+
+enum-told : tie.Need-enum-told
+enum-told c = search needs
+
+words-of-requires : tie.Need-words-of-requires
+words-of-requires c κs = search needs
+
+enum-known-x : tie.Need-enum-known-x
+enum-known-x c = search needs
+
+cast-first : tie.Need-cast-first
+cast-first c = search needs
+
+enum-known-cause : tie.Need-enum-known-cause
+enum-known-cause c = search needs
+
+number-requires : tie.Need-number-requires
+number-requires c κs = search needs
+
+returns : tie.Need-returns
+returns c =
+    let a = c .before .before .before in
+    let faithful = sym (a .check .ensures .0) ∙ c .before .enum-told .given .1 in
+    rw (← a .before .design-of .ensures, faithful) (refl, c .words-of .ensures ∙ words-counted _ (faithful-legal _ _ _ faithful))
+
+returns-2 : tie.Need-returns-2
+returns-2 c =
+    let m = c .before in
+    let a = m .before .before in
+    rw (← a .before .design-of .ensures, ← a .check .ensures .0, m .x .given .1) (refl, refl)
+
+returns-3 : tie.Need-returns-3
+returns-3 c =
+    let m = c .before .before in
+    let a = m .before .before in
+    rw (← a .before .design-of .ensures, ← a .check .ensures .0, m .cause .given .1) (c .number .ensures, refl)
+
+pub dorykleth-check-spec : {M : Type 1} → statement M
+dorykleth-check-spec =
+    tie.close
+    (tie.spec
+    design-of-requires
+    check-requires
+    enum-told
+    words-of-requires
+    enum-known-x
+    cast-first
+    enum-known-cause
+    number-requires
+    returns
+    returns-2
+    returns-3)

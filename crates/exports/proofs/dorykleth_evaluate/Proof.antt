@@ -1,0 +1,44 @@
+-- `exports::dorykleth_evaluate` meets its contract: the word is stored, or the number of the cause is returned.
+use mathlib.Core.Path.{refl}
+use borrow.Author.Needs.{needs}
+use Rattle.exports.proofs.dorykleth_evaluate.Statement.{statement}
+use Rattle.exports.proofs.dorykleth_evaluate.Tie as tie
+
+design-of-requires : tie.Need-design-of-requires
+design-of-requires c κs = search needs
+
+evaluate-requires : tie.Need-evaluate-requires
+evaluate-requires c κs = search needs
+
+enum-known-units : tie.Need-enum-known-units
+enum-known-units c = search needs
+
+enum-known-cause : tie.Need-enum-known-cause
+enum-known-cause c = search needs
+
+number-requires : tie.Need-number-requires
+number-requires c κs = search needs
+
+returns : tie.Need-returns
+returns c =
+    let m = c .before in
+    let a = m .before .before in
+    rw (← a .before .design-of .ensures, ← a .evaluate .ensures .0, m .units .given .1) (refl, refl)
+
+returns-2 : tie.Need-returns-2
+returns-2 c =
+    let m = c .before .before in
+    let a = m .before .before in
+    rw (← a .before .design-of .ensures, ← a .evaluate .ensures .0, m .cause .given .1) (c .number .ensures, refl)
+
+pub dorykleth-evaluate-spec : {M : Type 1} → statement M
+dorykleth-evaluate-spec =
+    tie.close
+    (tie.spec
+    design-of-requires
+    evaluate-requires
+    enum-known-units
+    enum-known-cause
+    number-requires
+    returns
+    returns-2)

@@ -1,0 +1,36 @@
+-- `exports::dorykleth_value` meets its contract: the value is stored, or the number of the cause is returned.
+use mathlib.Core.Path.{refl}
+use borrow.Author.Needs.{needs}
+use mir.Syntax.{w64}
+use mir.ValLaws.{toZ-ofZ}
+use Rattle.exports.proofs.dorykleth_value.Statement.{statement}
+use Rattle.exports.proofs.dorykleth_value.Tie as tie
+
+value-requires : tie.Need-value-requires
+value-requires c κs = search needs
+
+enum-known-found : tie.Need-enum-known-found
+enum-known-found c = search needs
+
+enum-known-cause : tie.Need-enum-known-cause
+enum-known-cause c = search needs
+
+number-requires : tie.Need-number-requires
+number-requires c κs = search needs
+
+returns : tie.Need-returns
+returns c =
+    let m = c .before .before in
+    let a = m .before .before in
+    rw (← a .value .ensures .0, m .found .given .1) (refl, toZ-ofZ w64 _ (record { sfits = c .struct-told .given .0 .1 }))
+
+returns-2 : tie.Need-returns-2
+returns-2 c =
+    let m = c .before .before in
+    let a = m .before .before in
+    rw (← a .value .ensures .0, m .cause .given .1) (c .number .ensures, refl)
+
+pub dorykleth-value-spec : {M : Type 1} → statement M
+dorykleth-value-spec =
+    tie.close
+    (tie.spec value-requires enum-known-found enum-known-cause number-requires returns returns-2)

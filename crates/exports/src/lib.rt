@@ -1,0 +1,230 @@
+// The calls for C and Rust to link, on numbers and slices. Each returns the number of the refusal, 0 where there is none, and puts
+// the answer behind a pointer; where it is refused, what is behind the pointer stands. Here are those on designs and tables.
+ghost use mathlib.Core.Path.{_≡_};
+ghost use mathlib.Core.Bool.{cond};
+ghost use Prim.Native.Nat.{_^_};
+ghost use lib.Dec.{leb};
+ghost use lib.ListN.{length};
+ghost use Rattle.refusal.specs.Numbers.{verdictNumber};
+ghost use Rattle.values.specs.Value.{valueOf};
+ghost use Rattle.values.specs.Value as Value;
+ghost use Rattle.design.specs.Answers.{budgetAnswer, sizeAnswer};
+ghost use Rattle.design.specs.Answers as Answers;
+ghost use Rattle.tables.specs.Fill.{fillVerdict, initialAfter, offsetsAfter};
+ghost use Rattle.tables.specs.Evaluate.{evaluateAnswer};
+ghost use Rattle.tables.specs.Evaluate as Evaluate;
+ghost use Rattle.tables.specs.Batch.{batchAnswer, outputAfter};
+ghost use Rattle.tables.specs.Batch as Batch;
+ghost use Rattle.tables.specs.Check.{checkAnswer};
+ghost use Rattle.tables.specs.Check as Check;
+ghost use Rattle.exports.specs.Numbers.{designOf};
+ghost use Rattle.exports.specs.Behind.{unitsAfter, measureAfter, sumVerdict, sumAfter, wordAfter, placeAfter, firstAfter};
+
+pub mod design_numbers;
+pub mod line_calls;
+
+use checking::check;
+use design::Design;
+use design::Measured;
+use design_numbers::design_of;
+use design_numbers::verdict_number;
+use evaluating::evaluate;
+use evaluating::evaluate_batch;
+use filling::fill;
+use refusal::Cause;
+use refusal::Verdict;
+use refusal::number;
+use tables::Batched;
+use tables::Checked;
+use tables::Evaluated;
+use tables::set_verdict;
+use tables::sums::sum_of;
+use values::Valued;
+use values::floor::pow2;
+use values::value;
+
+// The value, in table units.
+#[no_mangle]
+pub extern "C" fn dorykleth_value(kind: u32, w: u32, q: u32, g: u32, x: u32, units: &mut i64) -> u8
+    ensures number { λ r. ⌜ r ≡ Value.refusalOf (valueOf kind w q g x) ⌝ }
+    ensures units { λ _. ⌜ now (units .exit) ≡ unitsAfter (valueOf kind w q g x) (now (units .entry)) ⌝ }
+{
+    match value(kind, w, q, g, x) {
+        Valued::Value(found) => {
+            let count = found.0;
+            *units = count;
+            0
+        }
+        Valued::Refused(cause) => number(cause),
+    }
+}
+
+#[no_mangle]
+pub extern "C" fn dorykleth_budget(design: &[u32; 14], budget: &mut u64) -> u8
+    ensures number { λ r. ⌜ r ≡ Answers.refusalOf (budgetAnswer (designOf (now (design .entry)))) ⌝ }
+    ensures budget { λ _.
+        ⌜ now (budget .exit) ≡ measureAfter (budgetAnswer (designOf (now (design .entry)))) (now (budget .entry)) ⌝ }
+{
+    match design::budget(design_of(design)) {
+        Measured::Is(measure) => {
+            *budget = measure;
+            0
+        }
+        Measured::Refused(cause) => number(cause),
+    }
+}
+
+#[no_mangle]
+pub extern "C" fn dorykleth_size(design: &[u32; 14], bits: &mut u64) -> u8
+    ensures number { λ r. ⌜ r ≡ Answers.refusalOf (sizeAnswer (designOf (now (design .entry)))) ⌝ }
+    ensures bits { λ _. ⌜ now (bits .exit) ≡ measureAfter (sizeAnswer (designOf (now (design .entry)))) (now (bits .entry)) ⌝ }
+{
+    match design::size(design_of(design)) {
+        Measured::Is(measure) => {
+            *bits = measure;
+            0
+        }
+        Measured::Refused(cause) => number(cause),
+    }
+}
+
+#[no_mangle]
+pub extern "C" fn dorykleth_fill(design: &[u32; 14], initial: &mut [u32], offsets: &mut [i32]) -> u8
+    ensures number { λ r.
+        ⌜ r ≡ verdictNumber
+        (fillVerdict (designOf (now (design .entry))) (length (now (initial .entry))) (length (now (offsets .entry)))) ⌝ }
+    ensures initial_table { λ _.
+        ⌜ now (initial .exit) ≡ initialAfter (designOf (now (design .entry))) (now (initial .entry)) (now (offsets .entry)) ⌝ }
+    ensures offset_tables { λ _.
+        ⌜ now (offsets .exit) ≡ offsetsAfter (designOf (now (design .entry))) (now (initial .entry)) (now (offsets .entry)) ⌝ }
+{
+    verdict_number(fill(design_of(design), initial, offsets))
+}
+
+// How many input words a design has: 2^w. A width that no legal design has counts as none, so that any design may be asked.
+fn words_of(d: Design) -> u64
+    ensures { λ r. ⌜ r ≡ cond (leb (d .w) 16) (2 ^ d .w) 0 ⌝ }
+{
+    let w = d.w;
+    if 16 < w {
+        return 0;
+    }
+    pow2(w)
+}
+
+// Y itself, before it is cut off to a word: refusals 1 to 10 and 12.
+#[no_mangle]
+pub extern "C" fn dorykleth_sum(
+    design: &[u32; 14],
+    initial: &[u32],
+    offsets: &[i32],
+    x: u32,
+    sum: &mut i64,
+) -> u8
+    ensures number { λ r.
+        ⌜ r ≡ verdictNumber (sumVerdict (designOf (now (design .entry))) (now (initial .entry)) (now (offsets .entry)) x) ⌝ }
+    ensures sum { λ _.
+        ⌜ now (sum .exit) ≡ sumAfter (designOf (now (design .entry))) (now (initial .entry)) (now (offsets .entry)) x
+        (now (sum .entry)) ⌝ }
+{
+    let d = design_of(design);
+    if let Verdict::Refused(cause) = set_verdict(d, initial.len(), offsets.len()) {
+        return number(cause);
+    }
+    if words_of(d) <= x as u64 {
+        return number(Cause::WordRange);
+    }
+    let units = sum_of(d, initial, offsets, x);
+    let total = units.0;
+    *sum = total;
+    0
+}
+
+#[no_mangle]
+pub extern "C" fn dorykleth_evaluate(
+    design: &[u32; 14],
+    initial: &[u32],
+    offsets: &[i32],
+    x: u32,
+    word: &mut u32,
+) -> u8
+    ensures number { λ r.
+        ⌜ r ≡ Evaluate.refusalOf
+        (evaluateAnswer (designOf (now (design .entry))) (now (initial .entry)) (now (offsets .entry)) x) ⌝ }
+    ensures word { λ _.
+        ⌜ now (word .exit)
+        ≡ wordAfter (evaluateAnswer (designOf (now (design .entry))) (now (initial .entry)) (now (offsets .entry)) x)
+        (now (word .entry)) ⌝ }
+{
+    match evaluate(design_of(design), initial, offsets, x) {
+        Evaluated::Word(units) => {
+            *word = units.0;
+            0
+        }
+        Evaluated::Refused(cause) => number(cause),
+    }
+}
+
+// The place is always stored: how many words there are, or where the batch is refused the place of the word.
+#[no_mangle]
+pub extern "C" fn dorykleth_evaluate_batch(
+    design: &[u32; 14],
+    initial: &[u32],
+    offsets: &[i32],
+    words: &[u32],
+    output: &mut [u32],
+    place: &mut usize,
+) -> u8
+    ensures number { λ r.
+        ⌜ r ≡ Batch.refusalOf
+        (batchAnswer (designOf (now (design .entry))) (now (initial .entry)) (now (offsets .entry)) (now (words .entry))
+        (length (now (output .entry)))) ⌝ }
+    ensures contents { λ _.
+        ⌜ now (output .exit)
+        ≡ outputAfter (designOf (now (design .entry))) (now (initial .entry)) (now (offsets .entry)) (now (words .entry))
+        (now (output .entry)) ⌝ }
+    ensures place { λ _.
+        ⌜ now (place .exit) ≡ placeAfter
+        (batchAnswer (designOf (now (design .entry))) (now (initial .entry)) (now (offsets .entry)) (now (words .entry))
+        (length (now (output .entry)))) ⌝ }
+{
+    match evaluate_batch(design_of(design), initial, offsets, words, output) {
+        Batched::Count(count) => {
+            *place = count;
+            0
+        }
+        Batched::Refused(cause, at) => {
+            *place = at;
+            number(cause)
+        }
+    }
+}
+
+// The lowest unfaithful word, or where all are faithful 2^w, which is no word.
+#[no_mangle]
+pub extern "C" fn dorykleth_check(
+    design: &[u32; 14],
+    initial: &[u32],
+    offsets: &[i32],
+    first: &mut u64,
+) -> u8
+    ensures number { λ r.
+        ⌜ r ≡ Check.refusalOf (checkAnswer (designOf (now (design .entry))) (now (initial .entry)) (now (offsets .entry))) ⌝ }
+    ensures first { λ _.
+        ⌜ now (first .exit) ≡ firstAfter (designOf (now (design .entry)) .w)
+        (checkAnswer (designOf (now (design .entry))) (now (initial .entry)) (now (offsets .entry)))
+        (now (first .entry)) ⌝ }
+{
+    let d = design_of(design);
+    match check(d, initial, offsets) {
+        Checked::Faithful => {
+            *first = words_of(d);
+            0
+        }
+        Checked::Unfaithful(x) => {
+            *first = x as u64;
+            0
+        }
+        Checked::Refused(cause) => number(cause),
+    }
+}
