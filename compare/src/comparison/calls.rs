@@ -1,0 +1,312 @@
+//! Each call made on both versions with the same input, and everything it leaves compared.
+
+use std::fmt::{Debug, Write as _};
+use std::process::exit;
+
+use super::tally::Tally;
+use crate::library;
+use crate::random::Tables;
+use crate::wide::reference::{self, Checked, Design, Reading};
+
+type Fill = fn(&Design, &mut [u32], &mut [i32]) -> Result<(), u8>;
+type Batch = fn(&Design, &[u32], &[i32], &[u32], &mut [u32]) -> Result<usize, (u8, usize)>;
+type Write = fn(&Design, &[u32], &[i32], usize, &mut [u8]) -> Result<usize, u8>;
+
+/// What a call leaves: its answer and the whole contents of the buffers lent for writing.
+#[derive(PartialEq)]
+struct Outcome<A> {
+    answer: A,
+    tables: Tables,
+    output: Vec<u32>,
+    line: Vec<u8>,
+}
+
+impl<A: PartialEq + Debug> Outcome<A> {
+    fn of(answer: A) -> Outcome<A> {
+        Outcome {
+            answer,
+            tables: Tables::default(),
+            output: Vec::new(),
+            line: Vec::new(),
+        }
+    }
+
+    fn differences(&self, library: &Outcome<A>) -> String {
+        let mut text = format!(
+            "reference: {:?}\nlibrary:   {:?}\n",
+            self.answer, library.answer
+        );
+        difference(
+            &mut text,
+            "initial",
+            &self.tables.initial,
+            &library.tables.initial,
+        );
+        difference(
+            &mut text,
+            "offsets",
+            &self.tables.offsets,
+            &library.tables.offsets,
+        );
+        difference(&mut text, "output", &self.output, &library.output);
+        difference(&mut text, "line", &self.line, &library.line);
+        text
+    }
+}
+
+/// The places where two buffers differ afterwards.
+fn difference<T: PartialEq + Debug>(text: &mut String, name: &str, reference: &[T], library: &[T]) {
+    for (place, (left, right)) in reference.iter().zip(library).enumerate() {
+        if left != right {
+            let _ = writeln!(
+                text,
+                "{name}[{place}]: reference {left:?}, library {right:?}"
+            );
+        }
+    }
+}
+
+fn refusal<T>(answer: &Result<T, u8>) -> u8 {
+    *answer.as_ref().err().unwrap_or(&0)
+}
+
+fn shown<T: Debug>(name: &str, entries: &[T]) -> String {
+    let mut text = format!("{name}, {} elements:\n", entries.len());
+    for row in entries.chunks(16) {
+        let _ = writeln!(text, "  {row:?}");
+    }
+    text
+}
+
+/// An input with tables in a form that can be read.
+fn input(d: &Design, tables: &Tables, rest: String) -> String {
+    let initial = shown("initial", &tables.initial);
+    let offsets = shown("offsets", &tables.offsets);
+    format!("{d:?}\n{initial}{offsets}{rest}\n")
+}
+
+#[derive(Default)]
+pub struct Calls {
+    pub tally: Tally,
+}
+
+impl Calls {
+    /// Counts the call and ends the program at a difference.
+    fn same<A: PartialEq + Debug>(
+        &mut self,
+        call: &'static str,
+        refusal: u8,
+        (reference, library): (&Outcome<A>, &Outcome<A>),
+        input: impl FnOnce() -> String,
+    ) {
+        self.tally.count(call, refusal);
+        if reference != library {
+            print!(
+                "{call} differs\n{}{}",
+                input(),
+                reference.differences(library)
+            );
+            exit(1);
+        }
+    }
+
+    /// The same for a call that leaves nothing but its answer.
+    fn same_answer<T: PartialEq + Debug + Copy>(
+        &mut self,
+        call: &'static str,
+        (reference, library): (Result<T, u8>, Result<T, u8>),
+        input: impl FnOnce() -> String,
+    ) -> Result<T, u8> {
+        let outcomes = (&Outcome::of(reference), &Outcome::of(library));
+        self.same(call, refusal(&reference), outcomes, input);
+        reference
+    }
+
+    pub fn value(&mut self, kind: u32, w: u32, q: u32, g: u32, x: u32) {
+        let reference = reference::value(kind, w, q, g, x);
+        let library = library::value(kind, w, q, g, x);
+        let input = || format!("kind {kind}, w {w}, q {q}, g {g}, x {x}\n");
+        let _ = self.same_answer("value", (reference, library), input);
+    }
+
+    /// Legality, budget and size.
+    pub fn design(&mut self, d: &Design) {
+        let input = || format!("{d:?}\n");
+        let _ = self.same_answer("legal", (reference::legal(d), library::legal(d)), input);
+        let _ = self.same_answer("budget", (reference::budget(d), library::budget(d)), input);
+        let _ = self.same_answer("size", (reference::size(d), library::size(d)), input);
+    }
+
+    pub fn fill(&mut self, d: &Design, before: &Tables) -> Result<Tables, u8> {
+        let run = |fill: Fill| {
+            let mut tables = before.clone();
+            let answer = fill(d, &mut tables.initial, &mut tables.offsets);
+            Outcome {
+                tables,
+                ..Outcome::of(answer)
+            }
+        };
+        let (reference, library) = (run(reference::fill), run(library::fill));
+        let refusal = refusal(&reference.answer);
+        let shown = || input(d, before, String::new());
+        self.same("fill", refusal, (&reference, &library), shown);
+        if refusal == 0 {
+            self.tally.note(&format!("fill: kind {}", d.kind));
+        }
+        reference.answer.map(|()| reference.tables)
+    }
+
+    /// Y and the word.
+    pub fn word(&mut self, d: &Design, tables: &Tables, x: u32) {
+        let Tables { initial, offsets } = tables;
+        let shown = || input(d, tables, format!("x {x}"));
+        let reference = reference::sum(d, initial, offsets, x);
+        let library = library::sum(d, initial, offsets, x);
+        let sum = self.same_answer("sum", (reference, library), shown);
+        let reference = reference::evaluate(d, initial, offsets, x);
+        let library = library::evaluate(d, initial, offsets, x);
+        let word = self.same_answer("evaluate", (reference, library), shown);
+        if word == Err(13) {
+            let below = sum.is_ok_and(|sum| sum < 0);
+            self.tally.note(if below {
+                "sum below 0"
+            } else {
+                "sum out of range"
+            });
+        }
+    }
+
+    pub fn batch(&mut self, d: &Design, tables: &Tables, words: &[u32], before: &[u32]) {
+        let run = |batch: Batch| {
+            let mut output = before.to_vec();
+            let answer = batch(d, &tables.initial, &tables.offsets, words, &mut output);
+            Outcome {
+                output,
+                ..Outcome::of(answer)
+            }
+        };
+        let reference = run(reference::evaluate_batch);
+        let library = run(library::evaluate_batch);
+        let (refusal, place) = reference.answer.err().unwrap_or((0, 0));
+        let shown = || {
+            let rest = shown("words", words) + &shown("output", before);
+            input(d, tables, rest)
+        };
+        self.same("evaluate_batch", refusal, (&reference, &library), shown);
+        if place > 0 {
+            self.tally.note("batch refused at a place above 0");
+        }
+    }
+
+    pub fn check(&mut self, d: &Design, tables: &Tables) {
+        let Tables { initial, offsets } = tables;
+        let reference = reference::check(d, initial, offsets);
+        let library = library::check(d, initial, offsets);
+        let shown = || input(d, tables, String::new());
+        match self.same_answer("check", (reference, library), shown) {
+            Ok(Checked::Faithful) => self.tally.note("check: faithful"),
+            Ok(Checked::Unfaithful(0)) => self.tally.note("check: unfaithful, word 0"),
+            Ok(_) => self.tally.note("check: unfaithful, another word"),
+            Err(_) => {}
+        }
+    }
+
+    /// Returns the written line.
+    pub fn write(
+        &mut self,
+        d: &Design,
+        tables: &Tables,
+        number: usize,
+        before: &[u8],
+    ) -> Result<Vec<u8>, u8> {
+        let run = |write: Write| {
+            let mut line = before.to_vec();
+            let answer = write(d, &tables.initial, &tables.offsets, number, &mut line);
+            Outcome {
+                line,
+                ..Outcome::of(answer)
+            }
+        };
+        let (reference, library) = (run(reference::write_line), run(library::write_line));
+        let refusal = refusal(&reference.answer);
+        let shown = || {
+            let rest = format!("line number {number}\n{}", shown("line", before));
+            input(d, tables, rest)
+        };
+        self.same("write_line", refusal, (&reference, &library), shown);
+        reference
+            .answer
+            .map(|length| reference.line[..length].to_vec())
+    }
+
+    /// Returns the answer with the state and the tables that are left.
+    pub fn read(
+        &mut self,
+        state: Reading,
+        before: Tables,
+        line: &[u8],
+    ) -> (Result<(), u8>, Reading, Tables) {
+        let mut tables = before.clone();
+        let (answer, next) = state.read_line(&mut tables.initial, &mut tables.offsets, line);
+        let reference = Outcome {
+            tables,
+            ..Outcome::of((answer, next.design, next.taken))
+        };
+
+        let Reading { design, taken } = state;
+        let mut tables = before.clone();
+        let (answer, next) = library::Reading { design, taken }.read_line(
+            &mut tables.initial,
+            &mut tables.offsets,
+            line,
+        );
+        let library = Outcome {
+            tables,
+            ..Outcome::of((answer, next.design, next.taken))
+        };
+
+        let shown = || {
+            let text = String::from_utf8_lossy(line).into_owned();
+            input(
+                &design,
+                &before,
+                format!("lines taken {taken}\nline {text:?}"),
+            )
+        };
+        let (answer, design, taken) = reference.answer;
+        self.same("read_line", refusal(&answer), (&reference, &library), shown);
+        let state = Reading { design, taken };
+        self.finished(state);
+        (answer, state, reference.tables)
+    }
+
+    pub fn finished(&mut self, state: Reading) {
+        let Reading { design, taken } = state;
+        let reference = state.is_finished();
+        let library = library::Reading { design, taken }.is_finished();
+        let shown = || format!("{state:?}\n");
+        let _ = self.same_answer("is_finished", (Ok(reference), Ok(library)), shown);
+        self.tally.note(if reference {
+            "is_finished: yes"
+        } else {
+            "is_finished: no"
+        });
+    }
+
+    pub fn report(&mut self, line: &[u8]) {
+        let reference = reference::report(line);
+        let library = library::report(line);
+        let refused = reference.strip_prefix("REFUSED ");
+        let refusal = refused
+            .and_then(|number| number.trim_end().parse().ok())
+            .unwrap_or(0);
+        if reference.ends_with("NOT ADMITTED\n") {
+            self.tally.note("report: NOT ADMITTED");
+        } else if refusal == 0 {
+            self.tally.note("report: ADMITTED");
+        }
+        let outcomes = (&Outcome::of(reference), &Outcome::of(library));
+        let shown = || format!("line {:?}\n", String::from_utf8_lossy(line));
+        self.same("report", refusal, outcomes, shown);
+    }
+}

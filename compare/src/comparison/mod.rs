@@ -1,0 +1,61 @@
+//! The comparison: both versions on the same input, with fixed seeds.
+
+mod calls;
+mod lines;
+mod sets;
+mod tally;
+
+use std::time::Instant;
+
+use crate::random::Random;
+use calls::Calls;
+
+pub struct Comparison {
+    random: Random,
+    calls: Calls,
+}
+
+type Part = fn(&mut Comparison);
+
+/// The parts of the comparison, each with a seed of its own.
+const PARTS: [(&str, Part); 12] = [
+    ("values", Comparison::values),
+    ("designs", Comparison::designs),
+    ("fills", Comparison::fills),
+    ("budgets at the limit", Comparison::budgets_at_limit),
+    ("filled sets", Comparison::filled_sets),
+    ("other sets", Comparison::other_sets),
+    ("long batches", Comparison::long_batches),
+    ("example", Comparison::example),
+    ("stored sets", Comparison::stored_sets),
+    ("written lines", Comparison::written_lines),
+    ("read lines", Comparison::read_lines),
+    ("reports", Comparison::reports),
+];
+
+/// Ends the program at the first difference. Returns whether all that should come up did.
+pub fn run() -> bool {
+    let random = Random::new(0);
+    let calls = Calls::default();
+    let mut comparison = Comparison { random, calls };
+    for (seed, (name, part)) in (1..).zip(PARTS) {
+        let (start, before) = (Instant::now(), comparison.calls.tally.calls());
+        comparison.random = Random::new(seed);
+        part(&mut comparison);
+        let calls = comparison.calls.tally.calls() - before;
+        println!(
+            "{name}: {calls} calls in {:.1} s",
+            start.elapsed().as_secs_f64()
+        );
+    }
+    let tally = &comparison.calls.tally;
+    tally.print();
+    let missing = tally.missing();
+    for missing in &missing {
+        println!("did not come up: {missing}");
+    }
+    if missing.is_empty() {
+        println!("compare: {} calls, no difference", tally.calls());
+    }
+    missing.is_empty()
+}

@@ -1,0 +1,135 @@
+//! How many calls were made, and which refusals and answers they met.
+
+use std::collections::BTreeMap;
+
+/// A kind of call with the refusals it can give (0 when accepted), in the order of their checks.
+pub struct Call {
+    pub name: &'static str,
+    pub refusals: &'static [u8],
+}
+
+const fn call(name: &'static str, refusals: &'static [u8]) -> Call {
+    Call { name, refusals }
+}
+
+/// The document's "Checks in order".
+pub const CALLS: [Call; 12] = [
+    call("value", &[0, 1, 2, 3, 4, 12]),
+    call("legal", &[0, 1, 2, 3, 4, 5, 6, 7, 8, 9]),
+    call("budget", &[0, 1, 2, 3, 4, 5, 6, 7, 8, 9]),
+    call("size", &[0, 1, 2, 3, 4, 5, 6, 7, 8, 9]),
+    call("fill", &[0, 1, 2, 3, 4, 5, 6, 7, 8, 9, 10, 11]),
+    call("sum", &[0, 1, 2, 3, 4, 5, 6, 7, 8, 9, 10, 12]),
+    call("evaluate", &[0, 1, 2, 3, 4, 5, 6, 7, 8, 9, 10, 12, 13]),
+    call(
+        "evaluate_batch",
+        &[0, 1, 2, 3, 4, 5, 6, 7, 8, 9, 10, 14, 12, 13],
+    ),
+    call("check", &[0, 1, 2, 3, 4, 5, 6, 7, 8, 9, 10]),
+    call(
+        "write_line",
+        &[0, 1, 2, 3, 4, 5, 6, 7, 8, 9, 10, 19, 18, 14],
+    ),
+    call("read_line", &[0, 17, 15, 16, 1, 2, 3, 4, 5, 6, 7, 8, 9, 10]),
+    call("report", &[0, 15, 16, 1, 2, 3, 4, 5, 6, 7, 8, 9]),
+];
+
+/// The calls without refusals.
+const PLAIN: Call = call("is_finished", &[0]);
+
+/// Things that must come up, and how often at the least.
+const WANTED: [(&str, u64); 23] = [
+    ("budget equal to the limit", 5),
+    ("budget one below the limit", 5),
+    ("check: faithful", 1000),
+    ("check: unfaithful, word 0", 100),
+    ("check: unfaithful, another word", 1000),
+    ("is_finished: no", 1000),
+    ("is_finished: yes", 1000),
+    ("report: ADMITTED", 500),
+    ("report: NOT ADMITTED", 500),
+    ("fill: kind 0", 300),
+    ("fill: kind 1", 300),
+    ("fill: kind 2", 300),
+    ("fill: kind 3", 300),
+    ("fill: kind 4", 300),
+    ("whole set stored: kind 0", 200),
+    ("whole set stored: kind 1", 200),
+    ("whole set stored: kind 2", 200),
+    ("whole set stored: kind 3", 200),
+    ("whole set stored: kind 4", 200),
+    ("whole set of 20480 entries stored", 5),
+    ("batch refused at a place above 0", 1000),
+    ("sum out of range", 1000),
+    ("sum below 0", 500),
+];
+
+#[derive(Default)]
+pub struct Tally {
+    refusals: BTreeMap<(&'static str, u8), u64>,
+    answers: BTreeMap<String, u64>,
+}
+
+impl Tally {
+    pub fn count(&mut self, call: &'static str, refusal: u8) {
+        *self.refusals.entry((call, refusal)).or_default() += 1;
+    }
+
+    pub fn note(&mut self, answer: &str) {
+        match self.answers.get_mut(answer) {
+            Some(count) => *count += 1,
+            None => drop(self.answers.insert(answer.to_string(), 1)),
+        }
+    }
+
+    fn met(&self, call: &'static str, refusal: u8) -> u64 {
+        self.refusals.get(&(call, refusal)).copied().unwrap_or(0)
+    }
+
+    pub fn calls(&self) -> u64 {
+        self.refusals.values().sum()
+    }
+
+    fn print_call(&self, call: &Call) {
+        let of_call = self
+            .refusals
+            .iter()
+            .filter(|((name, _), _)| *name == call.name);
+        let all: u64 = of_call.map(|(_, count)| count).sum();
+        let each = call.refusals.iter().map(|&refusal| {
+            let count = self.met(call.name, refusal);
+            format!("{refusal}: {count}")
+        });
+        println!(
+            "{:15} {all:8}   {}",
+            call.name,
+            each.collect::<Vec<_>>().join("  ")
+        );
+    }
+
+    pub fn print(&self) {
+        println!("call               calls   times each refusal came up (0: accepted)");
+        for call in CALLS.iter().chain([&PLAIN]) {
+            self.print_call(call);
+        }
+        for (answer, count) in &self.answers {
+            println!("{answer}: {count}");
+        }
+    }
+
+    /// What did not come up though it should have.
+    pub fn missing(&self) -> Vec<String> {
+        let refusals = CALLS.iter().flat_map(|call| {
+            let unmet = call
+                .refusals
+                .iter()
+                .filter(|&&refusal| self.met(call.name, refusal) == 0);
+            unmet.map(|refusal| format!("refusal {refusal} of {}", call.name))
+        });
+        let answers = WANTED.iter().filter_map(|&(answer, least)| {
+            let count = self.answers.get(answer).copied().unwrap_or(0);
+            (count < least).then(|| format!("{answer}: {count}, fewer than {least}"))
+        });
+        refusals.chain(answers).collect()
+    }
+}

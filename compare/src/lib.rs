@@ -1,0 +1,11 @@
+//! Document 01 written a second time, in Rust, and what is needed to hold it against the proved
+//! library.
+
+// The reference is compiled twice on purpose, see `wide` and `narrow`.
+#![allow(clippy::duplicate_mod)]
+
+pub mod comparison;
+pub mod library;
+pub mod narrow;
+pub mod random;
+pub mod wide;

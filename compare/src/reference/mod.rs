@@ -1,0 +1,30 @@
+//! Document 01: multipartite tables for reciprocal, root and reciprocal root.
+//!
+//! Names are the document's: kind, w, q, g, alpha, m, a, b, P, hi, lo, budget. `Int` is the type
+//! of every intermediate product and comes from the module that includes this one.
+
+// Casts from `Int` change nothing in one of its two types.
+#![allow(clippy::unnecessary_cast)]
+
+pub use super::Int;
+
+mod check;
+mod design;
+mod evaluate;
+mod fill;
+mod function;
+mod lines;
+pub mod refusal;
+mod report;
+mod slopes;
+#[cfg(test)]
+mod tests;
+
+pub use check::{check, Checked};
+pub use design::{legal, size, Design};
+pub use evaluate::{evaluate, evaluate_batch, sum};
+pub use fill::fill;
+pub use function::value;
+pub use lines::{write_line, Reading};
+pub use report::report;
+pub use slopes::budget;

@@ -1,0 +1,404 @@
+//! The document's examples, starred or not, and its traps.
+
+use super::*;
+
+/// G is kind 0, w 8, q 8, g 4, alpha 5, m 1, (3,3).
+fn example() -> Design {
+    Design {
+        kind: 0,
+        w: 8,
+        q: 8,
+        g: 4,
+        alpha: 5,
+        m: 1,
+        pairs: [(3, 3), (0, 0), (0, 0), (0, 0)],
+    }
+}
+
+fn with_pair(a: u32, b: u32) -> Design {
+    let mut d = example();
+    d.pairs[0] = (a, b);
+    d
+}
+
+/// An admitted design with three tables.
+fn three_tables(kind: u32) -> Design {
+    Design {
+        kind,
+        w: 9,
+        q: 8,
+        g: 6,
+        alpha: 5,
+        m: 3,
+        pairs: [(3, 1), (4, 2), (5, 1), (0, 0)],
+    }
+}
+
+fn filled(d: &Design) -> (Vec<u32>, Vec<i32>) {
+    let (mut initial, mut offsets) = (vec![0; 8192], vec![0; 16384]);
+    assert_eq!(fill(d, &mut initial, &mut offsets), Ok(()));
+    (initial, offsets)
+}
+
+#[test]
+fn values() {
+    assert_eq!(value(1, 8, 8, 4, 255), Ok(5786));
+    assert_eq!(value(4, 8, 8, 4, 0), Ok(2896));
+    assert!(value(0, 8, 8, 4, 255).is_ok());
+    assert_eq!(value(0, 8, 8, 4, 256), Err(12));
+    assert_eq!(value(5, 5, 8, 4, 0), Err(1));
+}
+
+/// The greatest n of each kind's own inequality, at every limit of the widths.
+#[test]
+fn values_by_definition() {
+    let c = [1u128, 1, 2, 1, 2];
+    for kind in 0..5 {
+        for (w, q, g) in [(6, 6, 2), (6, 16, 4), (16, 6, 2), (16, 14, 6), (16, 16, 4)] {
+            for x in [0, 1, 2, (1 << w) / 3, (1 << w) - 2, (1 << w) - 1] {
+                let n = value(kind, w, q, g, x).unwrap() as u128;
+                let (p, argument) = (q + g, (1u128 << w) + u128::from(x));
+                let scaled = c[kind as usize] * argument;
+                let at_most = |n: u128| match kind {
+                    0 => n * argument <= 1 << (p + w),
+                    1 | 2 => (n * n) << w <= scaled << (2 * p),
+                    _ => n * n * scaled <= 1 << (2 * p + w),
+                };
+                assert!(at_most(n) && !at_most(n + 1), "{kind} {w} {q} {g} {x}");
+            }
+        }
+    }
+}
+
+#[test]
+fn budgets() {
+    assert_eq!(budget(&example()), Ok(1895955));
+    assert_eq!(budget(&with_pair(2, 3)), Ok(3008038));
+    assert_eq!(budget(&Design { g: 3, ..example() }), Ok(1146283));
+    let (mut initial, mut offsets) = (vec![7; 32], vec![7; 64]);
+    for d in [with_pair(2, 3), Design { g: 3, ..example() }] {
+        assert_eq!(fill(&d, &mut initial, &mut offsets), Err(11));
+    }
+    assert_eq!(initial, vec![7; 32]);
+    assert_eq!(offsets, vec![7; 64]);
+    assert_eq!(size(&example()), Ok(2304));
+}
+
+#[test]
+fn entries() {
+    let (initial, offsets) = filled(&example());
+    assert_eq!(initial[0], 4050);
+    assert_eq!(offsets[..8], [50, 35, 21, 7, -8, -22, -36, -51]);
+    assert_eq!((initial[32], offsets[64]), (0, 0));
+}
+
+#[test]
+fn words() {
+    let d = example();
+    let (initial, offsets) = filled(&d);
+    for (x, y, word) in [(0, 4100, 256), (7, 3999, 249), (255, 2060, 128)] {
+        assert_eq!(sum(&d, &initial, &offsets, x), Ok(y));
+        assert_eq!(evaluate(&d, &initial, &offsets, x), Ok(word));
+    }
+    assert_eq!(evaluate(&d, &initial, &offsets, 256), Err(12));
+    assert_eq!(evaluate(&d, &initial[..31], &offsets, 256), Err(10));
+    assert_eq!(evaluate(&d, &initial, &offsets[..63], 256), Err(10));
+}
+
+#[test]
+fn batches() {
+    let d = example();
+    let (mut initial, offsets) = filled(&d);
+    let mut output = [9; 4];
+    let mut batch = |initial: &[u32], words: &[u32]| {
+        let answer = evaluate_batch(&d, initial, &offsets, words, &mut output);
+        (answer, output)
+    };
+    assert_eq!(batch(&initial, &[]), (Ok(0), [9; 4]));
+    assert_eq!(batch(&initial, &[0, 7, 256, 999]), (Err((12, 2)), [9; 4]));
+    assert_eq!(batch(&initial, &[0; 5]), (Err((14, 0)), [9; 4]));
+    assert_eq!(batch(&initial, &[0, 7, 255]), (Ok(3), [256, 249, 128, 9]));
+    initial[0] = 1 << 14;
+    let kept = [256, 249, 128, 9];
+    assert_eq!(batch(&initial, &[8, 0, 256]), (Err((13, 1)), kept));
+    assert_eq!(batch(&initial, &[8, 256, 0]), (Err((12, 1)), kept));
+}
+
+/// A batch longer than the set is judged in another way than a short one.
+#[test]
+fn long_batches() {
+    let d = example();
+    let (mut initial, offsets) = filled(&d);
+    let mut words: Vec<u32> = (0..256).cycle().take(1000).collect();
+    let mut output = vec![9; 1001];
+    let accepted = evaluate_batch(&d, &initial, &offsets, &words, &mut output);
+    assert_eq!(accepted, Ok(1000));
+    for (&x, &word) in words.iter().zip(&output) {
+        assert_eq!(evaluate(&d, &initial, &offsets, x), Ok(word));
+    }
+    let before = output.clone();
+    words[700] = 256;
+    let refused = evaluate_batch(&d, &initial, &offsets, &words, &mut output);
+    assert_eq!((refused, &output), (Err((12, 700)), &before));
+    words[700] = 0;
+    initial[2] = 0;
+    let refused = evaluate_batch(&d, &initial, &offsets, &words, &mut output);
+    assert_eq!((refused, &output), (Err((13, 20)), &before));
+}
+
+#[test]
+fn verdicts() {
+    let d = example();
+    let (mut initial, offsets) = filled(&d);
+    assert_eq!(check(&d, &initial, &offsets), Ok(Checked::Faithful));
+    initial[0] = 4046;
+    assert_eq!(check(&d, &initial, &offsets), Ok(Checked::Faithful));
+    initial[0] = 4045;
+    assert_eq!(check(&d, &initial, &offsets), Ok(Checked::Unfaithful(0)));
+    initial[0] = 4046;
+    initial[31] = 1 << 31;
+    assert_eq!(check(&d, &initial, &offsets), Ok(Checked::Unfaithful(248)));
+}
+
+#[test]
+fn refused_designs() {
+    let g = example();
+    let refused = |d: Design| legal(&d).err().unwrap_or(0);
+    assert_eq!(refused(Design { q: 16, g: 4, ..g }), 0);
+    assert_eq!(refused(Design { q: 16, g: 5, ..g }), 4);
+    assert_eq!(refused(Design { kind: 5, w: 5, ..g }), 1);
+    let twelve = |a, b| Design {
+        w: 16,
+        alpha: 12,
+        m: 1,
+        pairs: [(a, b); 4],
+        ..g
+    };
+    assert_eq!(refused(twelve(8, 4)), 0);
+    assert_eq!(refused(twelve(9, 4)), 8);
+    assert_eq!(refused(with_pair(3, u32::MAX)), 8);
+    assert_eq!(refused(with_pair(u32::MAX, 3)), 7);
+    assert_eq!(refused(Design { m: u32::MAX, ..g }), 6);
+    assert_eq!(refused(Design { alpha: 8, ..g }), 5);
+    assert_eq!(refused(with_pair(3, 2)), 9);
+    // 7 is tried on all tables before 8.
+    assert_eq!(
+        refused(Design {
+            m: 2,
+            pairs: [(3, 9), (6, 1), (0, 0), (0, 0)],
+            ..g
+        }),
+        7
+    );
+}
+
+#[test]
+fn written_lines() {
+    let d = example();
+    let (initial, offsets) = filled(&d);
+    let mut line = [b'.'; 40];
+    let lines = [
+        (0, "010008080405010303DF"),
+        (1, "020000000FD21D"),
+        (33, "03000000000032CB"),
+        (40, "03000007FFFFCD2B"),
+        (97, "0400619B"),
+    ];
+    for (number, text) in lines {
+        line.fill(b'.');
+        let length = write_line(&d, &initial, &offsets, number, &mut line).unwrap();
+        assert_eq!(&line[..length], text.as_bytes());
+        assert!(line[length..].iter().all(|&character| character == b'.'));
+    }
+    assert_eq!(write_line(&d, &initial, &offsets, 98, &mut line), Err(19));
+    assert_eq!(
+        write_line(&d, &initial, &offsets, 97, &mut line[..7]),
+        Err(14)
+    );
+}
+
+#[test]
+fn entries_that_do_not_fit() {
+    let d = example();
+    let (mut initial, mut offsets) = filled(&d);
+    let mut line = [0; 16];
+    for (entry, answer) in [(1 << 24, Err(18)), ((1 << 24) - 1, Ok(14))] {
+        initial[0] = entry;
+        assert_eq!(write_line(&d, &initial, &offsets, 1, &mut line), answer);
+    }
+    for (entry, answer) in [
+        (1 << 23, Err(18)),
+        ((1 << 23) - 1, Ok(16)),
+        (-(1 << 23), Ok(16)),
+        (-(1 << 23) - 1, Err(18)),
+    ] {
+        offsets[0] = entry;
+        assert_eq!(write_line(&d, &initial, &offsets, 33, &mut line), answer);
+    }
+}
+
+/// A whole set written and read back, with what comes after the end.
+#[test]
+fn lines_read_back() {
+    let d = three_tables(2);
+    let (initial, offsets) = filled(&d);
+    let (mut read_initial, mut read_offsets) = (vec![5; 33], vec![5; 145]);
+    let mut line = [0; 32];
+    let mut state = Reading {
+        design: Design { kind: 77, ..d },
+        taken: 0,
+    };
+    while !state.is_finished() {
+        let length = write_line(&d, &initial, &offsets, state.taken, &mut line).unwrap();
+        let line = &line[..length];
+        let (answer, next) = state.read_line(&mut read_initial, &mut read_offsets, line);
+        assert_eq!((answer, next.taken), (Ok(()), state.taken + 1));
+        state = next;
+    }
+    assert_eq!(
+        state,
+        Reading {
+            design: d,
+            taken: 2 + 32 + 16 + 64 + 64
+        }
+    );
+    assert_eq!((&read_initial[..32], read_initial[32]), (&initial[..32], 5));
+    assert_eq!(
+        (&read_offsets[..144], read_offsets[144]),
+        (&offsets[..144], 5)
+    );
+}
+
+#[test]
+fn lines_refused() {
+    let d = example();
+    let mut tables = (vec![5; 32], vec![5; 64]);
+    let mut read = |taken, design, line: &str| {
+        let state = Reading { design, taken };
+        let (answer, next) = state.read_line(&mut tables.0, &mut tables.1, line.as_bytes());
+        assert!(answer.is_ok() || next == state);
+        answer.err().unwrap_or(0)
+    };
+    let illegal = Design { kind: 9, ..d };
+    assert_eq!(read(1, illegal, ""), 17);
+    assert_eq!(read(99, d, ""), 17);
+    assert_eq!(read(98, d, ""), 15);
+    assert_eq!(read(98, d, "0400619B"), 16);
+    assert_eq!(read(97, d, "0400609C"), 16);
+    assert_eq!(read(97, d, "0400619B"), 0);
+    assert_eq!(read(0, illegal, "010008080405010303DF"), 0);
+    assert_eq!(read(0, d, "010008080405010303DE"), 15);
+    assert_eq!(read(0, d, "010008080405010303df"), 15);
+    assert_eq!(read(0, d, "010008080405010303DF\r"), 15);
+    assert_eq!(read(0, d, "00"), 16);
+    assert_eq!(read(0, d, "01FF"), 16);
+    assert_eq!(read(1, d, "010008080405010303DF"), 16);
+    assert_eq!(read(1, d, "020001000FD21C"), 16);
+    assert_eq!(read(1, d, "020000000FD21D"), 0);
+    // m = 0 has a frame of its own length and is turned down as a design.
+    assert_eq!(read(0, d, "01000808040500E6"), 6);
+    assert_eq!(tables.0[..2], [4050, 5]);
+}
+
+#[test]
+fn tables_come_last() {
+    let d = example();
+    let state = Reading {
+        design: d,
+        taken: 1,
+    };
+    let (mut initial, mut offsets) = (vec![5; 31], vec![5; 64]);
+    let mut read = |line: &str| {
+        state
+            .read_line(&mut initial, &mut offsets, line.as_bytes())
+            .0
+    };
+    assert_eq!(read("020000000FD21D"), Err(10));
+    assert_eq!(read("020001000FD21C"), Err(16));
+    assert_eq!(initial[0], 5);
+}
+
+#[test]
+fn reports() {
+    assert_eq!(
+        report(b"010008080405010303DF"),
+        "BUDGET 1895955 LIMIT 2097152 BITS 2304 ADMITTED\n"
+    );
+    assert_eq!(
+        report(b"010008080405010203E0"),
+        "BUDGET 3008038 LIMIT 2097152 BITS 1536 NOT ADMITTED\n"
+    );
+    assert_eq!(report(b""), "REFUSED 15\n");
+    assert_eq!(report(b"0400619B"), "REFUSED 16\n");
+    assert_eq!(report(b"01050508040501030 3DF"), "REFUSED 15\n");
+}
+
+/// Trap: A_i cut from the low end of A. With a_i < alpha the two words of x differ, and only the
+/// top bits give tables that are faithful for every x.
+#[test]
+fn every_word_of_three_tables_is_faithful() {
+    for kind in 0..5 {
+        let d = three_tables(kind);
+        let (initial, offsets) = filled(&d);
+        assert_eq!(check(&d, &initial, &offsets), Ok(Checked::Faithful));
+    }
+}
+
+/// Trap: D_i without 2^(p_i). Each table's share of the budget is D_i times a whole number.
+#[test]
+fn budget_shares_grow_with_p() {
+    let one = |w, pair| Design {
+        w,
+        m: 1,
+        pairs: [pair; 4],
+        ..example()
+    };
+    let fixed = |m: u64| (m + 2) << 17;
+    // The same segments (w 7, a 3), once as the only table and once above another.
+    let first = budget(&one(7, (3, 2))).unwrap() - fixed(1);
+    let both = Design {
+        w: 7,
+        m: 2,
+        pairs: [(3, 1), (3, 1), (0, 0), (0, 0)],
+        ..example()
+    };
+    // D is 3 for the table of 2 bits, and 1 + 2 for the two of one bit.
+    assert_eq!(budget(&both).unwrap() - fixed(2), first);
+}
+
+/// Trap: "at most one unit" for "less than". 2^8 / 2^8·2^8 is 256 exactly, so 255 and 257 are one
+/// whole unit away.
+#[test]
+fn one_whole_unit_is_too_far() {
+    let d = example();
+    let (mut initial, offsets) = filled(&d);
+    for (y, verdict) in [(255, false), (256, true), (257, false)] {
+        initial[0] = y * 16 + 8 - 50;
+        assert_eq!(evaluate(&d, &initial, &offsets, 0), Ok(y));
+        let named = check(&d, &initial, &offsets) == Ok(Checked::Unfaithful(0));
+        assert_eq!(named, !verdict);
+    }
+}
+
+/// A sum of 0 to 2^g - 1 is in range and its word 0 is not faithful.
+#[test]
+fn word_zero_is_not_faithful() {
+    let d = example();
+    let (mut initial, mut offsets) = filled(&d);
+    initial[0] = 0;
+    offsets[0] = 0;
+    assert_eq!(evaluate(&d, &initial, &offsets, 0), Ok(0));
+    assert_eq!(check(&d, &initial, &offsets), Ok(Checked::Unfaithful(0)));
+    offsets[0] = -1;
+    assert_eq!(sum(&d, &initial, &offsets, 0), Ok(-1));
+    assert_eq!(evaluate(&d, &initial, &offsets, 0), Err(13));
+    assert_eq!(check(&d, &initial, &offsets), Ok(Checked::Unfaithful(0)));
+}
+
+/// Trap: the half unit added at filling and again at evaluation. The sum is of entries alone.
+#[test]
+fn nothing_is_added_at_evaluation() {
+    let d = three_tables(0);
+    let (initial, offsets) = (vec![100; 32], vec![-3; 160]);
+    assert_eq!(sum(&d, &initial, &offsets, 0), Ok(91));
+}

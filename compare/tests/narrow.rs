@@ -1,0 +1,82 @@
+//! The reference gives the same in 64 bits as in 128.
+
+use compare::narrow::reference as narrow;
+use compare::random::{Random, Tables};
+use compare::wide::reference as wide;
+
+fn same(d: &wide::Design) -> narrow::Design {
+    let wide::Design {
+        kind,
+        w,
+        q,
+        g,
+        alpha,
+        m,
+        pairs,
+    } = *d;
+    narrow::Design {
+        kind,
+        w,
+        q,
+        g,
+        alpha,
+        m,
+        pairs,
+    }
+}
+
+fn named(checked: wide::Checked) -> Option<u32> {
+    match checked {
+        wide::Checked::Faithful => None,
+        wide::Checked::Unfaithful(x) => Some(x),
+    }
+}
+
+fn named_narrow(checked: narrow::Checked) -> Option<u32> {
+    match checked {
+        narrow::Checked::Faithful => None,
+        narrow::Checked::Unfaithful(x) => Some(x),
+    }
+}
+
+fn compare_set(random: &mut Random, d: &wide::Design) {
+    let n = same(d);
+    assert_eq!(wide::budget(d), narrow::budget(&n), "{d:?}");
+    let mut left = random.filled(d);
+    let mut right = left.clone();
+    let filled = wide::fill(d, &mut left.initial, &mut left.offsets);
+    let filled_narrow = narrow::fill(&n, &mut right.initial, &mut right.offsets);
+    assert_eq!((filled, &left), (filled_narrow, &right), "{d:?}");
+    random.damage(d, &mut left);
+    let Tables { initial, offsets } = &left;
+    let checked = wide::check(d, initial, offsets).map(named);
+    let checked_narrow = narrow::check(&n, initial, offsets).map(named_narrow);
+    assert_eq!(checked, checked_narrow, "{d:?}");
+}
+
+#[test]
+fn values() {
+    for kind in 0..=4 {
+        for (w, q, g) in [(6, 6, 2), (6, 16, 4), (16, 14, 6), (16, 16, 4), (16, 6, 2)] {
+            for x in (0..1 << w).step_by(7) {
+                assert_eq!(
+                    wide::value(kind, w, q, g, x),
+                    narrow::value(kind, w, q, g, x)
+                );
+            }
+        }
+    }
+}
+
+#[test]
+fn sets() {
+    let mut random = Random::new(5);
+    for kind in 0..=4 {
+        for _ in 0..200 {
+            let d = random.legal(kind);
+            compare_set(&mut random, &d);
+        }
+        let d = random.largest(kind);
+        compare_set(&mut random, &d);
+    }
+}
