@@ -6,6 +6,7 @@ use design::Measured;
 use design::Pair;
 use filling::fill;
 use libc::STDOUT_FILENO;
+use refusal::Cause;
 use set_console::print_checked;
 use set_console::print_line;
 use values::Valued;
@@ -59,24 +60,30 @@ fn filled_set() {
     lines(&initial, &offsets);
 }
 
+fn print_passed() {
+    io::write_all(STDOUT_FILENO, b"passes\n");
+}
+
+fn print_refused(cause: Cause) {
+    console::print_refused(cause);
+}
+
 // Whether a value is turned down.
 fn value(label: &[u8], kind: u32, w: u32, q: u32, g: u32, x: u32) {
     io::write_all(STDOUT_FILENO, label);
     match values::value(kind, w, q, g, x) {
-        Valued::Value(_) => io::write_all(STDOUT_FILENO, b"passes\n"),
-        Valued::Refused(cause) => console::print_refused(cause),
+        Valued::Value(_) => print_passed(),
+        Valued::Refused(cause) => print_refused(cause),
     }
-    ;
 }
 
 // Whether a design of 16 bits, of which 8 are initial, is turned down.
 fn size(label: &[u8], a: u32, b: u32) {
     io::write_all(STDOUT_FILENO, label);
     match design::size(of_one_table(16, 8, a, b)) {
-        Measured::Is(_) => io::write_all(STDOUT_FILENO, b"passes\n"),
-        Measured::Refused(cause) => console::print_refused(cause),
+        Measured::Is(_) => print_passed(),
+        Measured::Refused(cause) => print_refused(cause),
     }
-    ;
 }
 
 fn refusals() {
