@@ -268,27 +268,35 @@ pub fn write_line(
     settled(refusal, length, UNTOUCHED as usize)
 }
 
+/// A reading state as the library takes it, with the numbers of its design.
 #[derive(Clone, Copy, PartialEq, Eq, Debug)]
 pub struct Reading {
-    pub design: Design,
+    numbers: [u32; 14],
     pub taken: usize,
 }
 
 impl Reading {
+    pub fn new(d: &Design, taken: usize) -> Reading {
+        let numbers = numbers(d);
+        Reading { numbers, taken }
+    }
+
+    pub fn design(&self) -> Design {
+        design(&self.numbers)
+    }
+
     pub fn read_line(
-        self,
+        mut self,
         initial: &mut [u32],
         offsets: &mut [i32],
         line: &[u8],
     ) -> (Result<(), u8>, Reading) {
-        let mut numbers = numbers(&self.design);
-        let mut taken = self.taken;
         // SAFETY: 14 numbers, a live variable and two slices, each lent alone and with its
         // length, to change; a slice with its length to read.
         let refusal = unsafe {
             c::dorykleth_read_line(
-                numbers.as_mut_ptr(),
-                &mut taken,
+                self.numbers.as_mut_ptr(),
+                &mut self.taken,
                 initial.as_mut_ptr(),
                 initial.len(),
                 offsets.as_mut_ptr(),
@@ -297,13 +305,12 @@ impl Reading {
                 line.len(),
             )
         };
-        let design = design(&numbers);
-        (settled(refusal, (), ()), Reading { design, taken })
+        (settled(refusal, (), ()), self)
     }
 
     pub fn is_finished(self) -> bool {
         // SAFETY: 14 numbers to read.
-        unsafe { c::dorykleth_is_finished(numbers(&self.design).as_ptr(), self.taken) }
+        unsafe { c::dorykleth_is_finished(self.numbers.as_ptr(), self.taken) }
     }
 }
 

@@ -273,10 +273,7 @@ fn time_read(set: &mut Set) -> [f64; 2] {
     medians([
         &mut || {
             let Tables { initial, offsets } = &mut **tables.borrow_mut();
-            let mut state = library::Reading {
-                design: *d,
-                taken: 0,
-            };
+            let mut state = library::Reading::new(d, 0);
             for line in lines.iter() {
                 (_, state) = black_box(state).read_line(initial, offsets, line);
             }

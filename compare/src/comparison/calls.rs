@@ -255,14 +255,14 @@ impl Calls {
 
         let Reading { design, taken } = state;
         let mut tables = before.clone();
-        let (answer, next) = library::Reading { design, taken }.read_line(
+        let (answer, next) = library::Reading::new(&design, taken).read_line(
             &mut tables.initial,
             &mut tables.offsets,
             line,
         );
         let library = Outcome {
             tables,
-            ..Outcome::of((answer, next.design, next.taken))
+            ..Outcome::of((answer, next.design(), next.taken))
         };
 
         let shown = || {
@@ -283,7 +283,7 @@ impl Calls {
     pub fn finished(&mut self, state: Reading) {
         let Reading { design, taken } = state;
         let reference = state.is_finished();
-        let library = library::Reading { design, taken }.is_finished();
+        let library = library::Reading::new(&design, taken).is_finished();
         let shown = || format!("{state:?}\n");
         let _ = self.same_answer("is_finished", (Ok(reference), Ok(library)), shown);
         self.tally.note(if reference {
