@@ -59,15 +59,14 @@ pub extern "C" fn dorykleth_value(kind: u32, w: u32, q: u32, g: u32, x: u32, uni
     }
 }
 
-#[no_mangle]
-pub extern "C" fn dorykleth_budget(design: &[u32; 14], budget: &mut u64) -> u8
-    ensures number { λ r. ⌜ r ≡ Answers.refusalOf (budgetAnswer (designOf (now (design .entry)))) ⌝ }
-    ensures budget { λ _.
-        ⌜ now (budget .exit) ≡ measureAfter (budgetAnswer (designOf (now (design .entry)))) (now (budget .entry)) ⌝ }
+// A budget or a size behind a pointer.
+fn put_measure(measured: Measured, place: &mut u64) -> u8
+    ensures { λ r. ⌜ r ≡ Answers.refusalOf measured ⌝ }
+    ensures { λ _. ⌜ now (place .exit) ≡ measureAfter measured (now (place .entry)) ⌝ }
 {
-    match design::budget(design_of(design)) {
+    match measured {
         Measured::Is(measure) => {
-            *budget = measure;
+            *place = measure;
             0
         }
         Measured::Refused(cause) => number(cause),
@@ -75,17 +74,20 @@ pub extern "C" fn dorykleth_budget(design: &[u32; 14], budget: &mut u64) -> u8
 }
 
 #[no_mangle]
+pub extern "C" fn dorykleth_budget(design: &[u32; 14], budget: &mut u64) -> u8
+    ensures number { λ r. ⌜ r ≡ Answers.refusalOf (budgetAnswer (designOf (now (design .entry)))) ⌝ }
+    ensures budget { λ _.
+        ⌜ now (budget .exit) ≡ measureAfter (budgetAnswer (designOf (now (design .entry)))) (now (budget .entry)) ⌝ }
+{
+    put_measure(design::budget(design_of(design)), budget)
+}
+
+#[no_mangle]
 pub extern "C" fn dorykleth_size(design: &[u32; 14], bits: &mut u64) -> u8
     ensures number { λ r. ⌜ r ≡ Answers.refusalOf (sizeAnswer (designOf (now (design .entry)))) ⌝ }
     ensures bits { λ _. ⌜ now (bits .exit) ≡ measureAfter (sizeAnswer (designOf (now (design .entry)))) (now (bits .entry)) ⌝ }
 {
-    match design::size(design_of(design)) {
-        Measured::Is(measure) => {
-            *bits = measure;
-            0
-        }
-        Measured::Refused(cause) => number(cause),
-    }
+    put_measure(design::size(design_of(design)), bits)
 }
 
 #[no_mangle]

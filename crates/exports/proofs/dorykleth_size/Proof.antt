@@ -1,5 +1,4 @@
--- `exports::dorykleth_size` meets its contract: the size is stored, or the number of the cause is returned.
-use mathlib.Core.Path.{refl}
+-- `exports::dorykleth_size` meets its contract: what `put_measure` does with the answer.
 use borrow.Author.Needs.{needs}
 use Rattle.exports.proofs.dorykleth_size.Statement.{statement}
 use Rattle.exports.proofs.dorykleth_size.Tie as tie
@@ -10,35 +9,14 @@ design-of-requires c κs = search needs
 size-requires : tie.Need-size-requires
 size-requires c κs = search needs
 
-enum-known-measure : tie.Need-enum-known-measure
-enum-known-measure c = search needs
-
-enum-known-cause : tie.Need-enum-known-cause
-enum-known-cause c = search needs
-
-number-requires : tie.Need-number-requires
-number-requires c κs = search needs
+put-measure-requires : tie.Need-put-measure-requires
+put-measure-requires c κs = search needs
 
 returns : tie.Need-returns
 returns c =
-    let m = c .before in
-    let a = m .before .before in
-    rw (← a .before .design-of .ensures, ← a .size .ensures .0, m .measure .given .1) (refl, refl)
-
-returns-2 : tie.Need-returns-2
-returns-2 c =
-    let m = c .before .before in
-    let a = m .before .before in
-    rw (← a .before .design-of .ensures, ← a .size .ensures .0, m .cause .given .1) (c .number .ensures, refl)
+    let a = c .before .before in
+    rw (← a .before .design-of .ensures, ← a .size .ensures .0) (c .put-measure .ensures .0, c .put-measure .ensures .1)
 
 pub dorykleth-size-spec : {M : Type 1} → statement M
 dorykleth-size-spec =
-    tie.close
-    (tie.spec
-    design-of-requires
-    size-requires
-    enum-known-measure
-    enum-known-cause
-    number-requires
-    returns
-    returns-2)
+    tie.close (tie.spec design-of-requires size-requires put-measure-requires returns)
