@@ -6,11 +6,14 @@ ghost use Rattle.refusal.specs.Numbers.{verdictNumber};
 ghost use Rattle.values.specs.Inputs.{FloorInput};
 ghost use Rattle.design.specs.Cut as Cut;
 ghost use Rattle.tables.specs.Inputs.{Usable};
+ghost use Rattle.tables.specs.Lookup.{lookupsOf};
 ghost use Rattle.tables.specs.Faithful.{isFaithful};
 ghost use Rattle.tables.specs.Check.{faithfulAt, wordsBelow, checkVerdict, checkAnswer, refusalOf};
 use design::Design;
 use refusal::Verdict;
 use tables::Checked;
+use tables::lookups::Lookups;
+use tables::lookups::lookups_of;
 use tables::set_verdict;
 use tables::sums::sum_of;
 use tables::sums::sum_outside;
@@ -34,12 +37,20 @@ fn is_faithful(row: Row, w: u32, q: u32, x: u64, y: OutputUnits) -> bool
 }
 
 // A word whose sum is refused counts as unfaithful.
-fn word_is_faithful(d: Design, row: Row, initial: &[u32], offsets: &[i32], x: u32) -> bool
+fn word_is_faithful(
+    d: Design,
+    lookups: Lookups,
+    row: Row,
+    initial: &[u32],
+    offsets: &[i32],
+    x: u32,
+) -> bool
     requires { ⌜ Usable d (length (now initial)) (length (now offsets)) ⌝ }
+    requires { ⌜ lookups ≡ lookupsOf d ⌝ }
     requires { ⌜ (row ≡ Cut.row d) × (x < 2 ^ d .w) ⌝ }
     ensures { λ r. ⌜ r ≡ faithfulAt d (now (initial .entry)) (now (offsets .entry)) x ⌝ }
 {
-    let sum = sum_of(d, initial, offsets, x);
+    let sum = sum_of(d, lookups, initial, offsets, x);
     if sum_outside(d, sum) {
         return false;
     }
@@ -47,8 +58,9 @@ fn word_is_faithful(d: Design, row: Row, initial: &[u32], offsets: &[i32], x: u3
 }
 
 // From 0 upwards, over each interval A and the rest of x, to the lowest unfaithful word.
-fn search(d: Design, row: Row, initial: &[u32], offsets: &[i32]) -> Checked
+fn search(d: Design, lookups: Lookups, row: Row, initial: &[u32], offsets: &[i32]) -> Checked
     requires { ⌜ Usable d (length (now initial)) (length (now offsets)) ⌝ }
+    requires { ⌜ lookups ≡ lookupsOf d ⌝ }
     requires { ⌜ row ≡ Cut.row d ⌝ }
     ensures { λ r. ⌜ r ≡ wordsBelow (2 ^ d .w) (faithfulAt d (now (initial .entry)) (now (offsets .entry))) ⌝ }
 {
@@ -59,7 +71,7 @@ fn search(d: Design, row: Row, initial: &[u32], offsets: &[i32]) -> Checked
         let start = interval * rests;
         for rest in 0..rests {
             let x = start + rest;
-            if !word_is_faithful(d, row, initial, offsets, x) {
+            if !word_is_faithful(d, lookups, row, initial, offsets, x) {
                 answer = Checked::Unfaithful(x);
                 break 'words;
             }
@@ -76,5 +88,5 @@ pub fn check(d: Design, initial: &[u32], offsets: &[i32]) -> Checked
     if let Verdict::Refused(cause) = set_verdict(d, initial.len(), offsets.len()) {
         return Checked::Refused(cause);
     }
-    search(d, row_of(d.kind), initial, offsets)
+    search(d, lookups_of(d), row_of(d.kind), initial, offsets)
 }

@@ -17,8 +17,12 @@ pub fn pair_at(d: Design, i: u32) -> Pair
     requires { ⌜ (i < d .m) × (d .m ≤ 4) ⌝ }
     ensures { λ r. ⌜ r ≡ pairAt d i ⌝ }
 {
-    let place = i as usize;
-    d.pairs[place]
+    match i {
+        0 => d.pairs[0],
+        1 => d.pairs[1],
+        2 => d.pairs[2],
+        _ => d.pairs[3],
+    }
 }
 
 // What is asked of each table: 7 is tried on all tables before 8 is tried on any.

@@ -6,6 +6,7 @@ ghost use lib.ListN.{length, drop};
 ghost use Rattle.refusal.specs.Numbers.{verdictNumber};
 ghost use Rattle.refusal.specs.Checks.{verdict};
 ghost use Rattle.tables.specs.Inputs.{Usable};
+ghost use Rattle.tables.specs.Lookup.{lookupsOf};
 ghost use Rattle.tables.specs.Sum.{wordAt};
 ghost use Rattle.tables.specs.Evaluate.{wordChecks, evaluated, evaluateVerdict, evaluateAnswer};
 ghost use Rattle.tables.specs.Evaluate as Evaluate;
@@ -22,6 +23,8 @@ use refusal::Cause;
 use refusal::Verdict;
 use tables::Batched;
 use tables::Evaluated;
+use tables::lookups::Lookups;
+use tables::lookups::lookups_of;
 use tables::set_verdict;
 use tables::sums::sum_of;
 use tables::sums::sum_outside;
@@ -30,15 +33,16 @@ use values::OutputUnits;
 use values::floor::pow2;
 
 // Refusals 12 and 13 of a word, or the word itself: one sum, m + 1 lookups.
-fn word_answer(d: Design, initial: &[u32], offsets: &[i32], x: u32) -> Evaluated
+fn word_answer(d: Design, lookups: Lookups, initial: &[u32], offsets: &[i32], x: u32) -> Evaluated
     requires { ⌜ Usable d (length (now initial)) (length (now offsets)) ⌝ }
+    requires { ⌜ lookups ≡ lookupsOf d ⌝ }
     ensures { λ r. ⌜ r ≡ evaluated (verdict (wordChecks d (now (initial .entry)) (now (offsets .entry)) x))
         (wordAt d (now (initial .entry)) (now (offsets .entry)) x) ⌝ }
 {
     if pow2(d.w) <= x as u64 {
         return Evaluated::Refused(Cause::WordRange);
     }
-    let sum = sum_of(d, initial, offsets, x);
+    let sum = sum_of(d, lookups, initial, offsets, x);
     if sum_outside(d, sum) {
         return Evaluated::Refused(Cause::SumRange);
     }
@@ -53,7 +57,7 @@ pub fn evaluate(d: Design, initial: &[u32], offsets: &[i32], x: u32) -> Evaluate
     if let Verdict::Refused(cause) = set_verdict(d, initial.len(), offsets.len()) {
         return Evaluated::Refused(cause);
     }
-    word_answer(d, initial, offsets, x)
+    word_answer(d, lookups_of(d), initial, offsets, x)
 }
 
 // Refusals 1 to 10 and 14 of a batch: what is tried once, before any of its words.
@@ -70,13 +74,20 @@ fn room_verdict(d: Design, initial: &[u32], offsets: &[i32], words: usize, outpu
 }
 
 // Each word in turn, with its sum: how many words there are, or the lowest that is refused.
-fn summed_verdict(d: Design, initial: &[u32], offsets: &[i32], words: &[u32]) -> Batched
+fn summed_verdict(
+    d: Design,
+    lookups: Lookups,
+    initial: &[u32],
+    offsets: &[i32],
+    words: &[u32],
+) -> Batched
     requires { ⌜ Usable d (length (now initial)) (length (now offsets)) ⌝ }
+    requires { ⌜ lookups ≡ lookupsOf d ⌝ }
     ensures { λ r. ⌜ r ≡ wordsBelow (length (now (words .entry)))
         (placeVerdict d (now (initial .entry)) (now (offsets .entry)) (now (words .entry))) ⌝ }
 {
     for i in 0..words.len() {
-        if let Evaluated::Refused(cause) = word_answer(d, initial, offsets, words[i]) {
+        if let Evaluated::Refused(cause) = word_answer(d, lookups, initial, offsets, words[i]) {
             return Batched::Refused(cause, i);
         }
     }
@@ -85,8 +96,15 @@ fn summed_verdict(d: Design, initial: &[u32], offsets: &[i32], words: &[u32]) ->
 
 // The first pass: how many words there are, or the lowest that is refused. It writes nothing. Where there are more words than entries, it is
 // cheaper to ask first whether any sum can be out of range.
-fn words_verdict(d: Design, initial: &[u32], offsets: &[i32], words: &[u32]) -> Batched
+fn words_verdict(
+    d: Design,
+    lookups: Lookups,
+    initial: &[u32],
+    offsets: &[i32],
+    words: &[u32],
+) -> Batched
     requires { ⌜ Usable d (length (now initial)) (length (now offsets)) ⌝ }
+    requires { ⌜ lookups ≡ lookupsOf d ⌝ }
     ensures { λ r. ⌜ r ≡ wordsBelow (length (now (words .entry)))
         (placeVerdict d (now (initial .entry)) (now (offsets .entry)) (now (words .entry))) ⌝ }
 {
@@ -94,28 +112,37 @@ fn words_verdict(d: Design, initial: &[u32], offsets: &[i32], words: &[u32]) -> 
     if entries < words.len() as u64 && sums_in_range(d, initial, offsets) {
         return width_answer(d.w, words);
     }
-    summed_verdict(d, initial, offsets, words)
+    summed_verdict(d, lookups, initial, offsets, words)
 }
 
 // A word that is known to pass.
-fn word(d: Design, initial: &[u32], offsets: &[i32], x: u32) -> OutputUnits
+fn word(d: Design, lookups: Lookups, initial: &[u32], offsets: &[i32], x: u32) -> OutputUnits
     requires { ⌜ Usable d (length (now initial)) (length (now offsets)) ⌝ }
+    requires { ⌜ lookups ≡ lookupsOf d ⌝ }
     requires { ⌜ verdict (wordChecks d (now initial) (now offsets) x) ≡ Verdict.Passed ⌝ }
     ensures { λ r. ⌜ r ≡ record { 0 = wordAt d (now (initial .entry)) (now (offsets .entry)) x } ⌝ }
 {
-    word_of(d, sum_of(d, initial, offsets, x))
+    word_of(d, sum_of(d, lookups, initial, offsets, x))
 }
 
 // The second pass, once every word has passed: each word's output at its place.
-fn write_words(d: Design, initial: &[u32], offsets: &[i32], words: &[u32], output: &mut [u32])
+fn write_words(
+    d: Design,
+    lookups: Lookups,
+    initial: &[u32],
+    offsets: &[i32],
+    words: &[u32],
+    output: &mut [u32],
+)
     requires { ⌜ Usable d (length (now initial)) (length (now offsets)) ⌝ }
+    requires { ⌜ lookups ≡ lookupsOf d ⌝ }
     requires { ⌜ ((i : ℕ) → i < length (now words) → placeVerdict d (now initial) (now offsets) (now words) i ≡ Verdict.Passed) ⌝ }
     requires { ⌜ length (now words) ≤ length (now output) ⌝ }
     ensures { λ r. ⌜ now (output .exit) ≡ map (wordAt d (now (initial .entry)) (now (offsets .entry))) (now (words .entry))
         ++ drop (length (now (words .entry))) (now (output .entry)) ⌝ }
 {
     for n in 0..words.len() {
-        let units = word(d, initial, offsets, words[n]);
+        let units = word(d, lookups, initial, offsets, words[n]);
         output[n] = units.0;
     }
 }
@@ -138,10 +165,11 @@ pub fn evaluate_batch(
     if let Verdict::Refused(cause) = room_verdict(d, initial, offsets, words.len(), output.len()) {
         return Batched::Refused(cause, 0);
     }
-    let answer = words_verdict(d, initial, offsets, words);
+    let lookups = lookups_of(d);
+    let answer = words_verdict(d, lookups, initial, offsets, words);
     if let Batched::Refused(cause, place) = answer {
         return Batched::Refused(cause, place);
     }
-    write_words(d, initial, offsets, words, output);
+    write_words(d, lookups, initial, offsets, words, output);
     answer
 }

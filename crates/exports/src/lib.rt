@@ -37,6 +37,7 @@ use refusal::number;
 use tables::Batched;
 use tables::Checked;
 use tables::Evaluated;
+use tables::lookups::lookups_of;
 use tables::set_verdict;
 use tables::sums::sum_of;
 use values::Valued;
@@ -136,7 +137,7 @@ pub extern "C" fn dorykleth_sum(
     if words_of(d) <= x as u64 {
         return number(Cause::WordRange);
     }
-    let units = sum_of(d, initial, offsets, x);
+    let units = sum_of(d, lookups_of(d), initial, offsets, x);
     let total = units.0;
     *sum = total;
     0

@@ -1,4 +1,5 @@
 -- What a reader has to believe of filled tables, sums and words, batches and the check.
+pub mod Lookup
 pub mod Inputs
 pub mod Entries
 pub mod Sum

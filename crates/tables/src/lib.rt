@@ -4,6 +4,7 @@ ghost use Rattle.refusal.specs.Checks.{verdict};
 ghost use Rattle.design.specs.Legal.{Legal};
 ghost use Rattle.tables.specs.Fill.{tablesCheck, setChecks};
 
+pub mod lookups;
 pub mod sums;
 
 use design::Design;

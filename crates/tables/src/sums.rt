@@ -1,70 +1,55 @@
 // The sum Y of an input word over any tables, whoever filled them, and the word that it comes to.
 ghost use mathlib.Core.Path.{_≡_};
 ghost use mathlib.Core.Bool.{false};
-ghost use Prim.Native.Nat.{_-_, _/_, _%_, _^_, _≤_, _<_};
-ghost use lib.ListN.{length};
-ghost use Rattle.design.specs.Cut.{segmentWord, offsetWord, offsetPlace, offsetTotal};
+ghost use Prim.Native.Nat.{_+_, _^_, _≤_, _<_};
+ghost use lib.ListN.{length, getD};
+ghost use lib.IntN.{pos, _+ℤ_};
+ghost use lib.Signed.{mag};
 ghost use Rattle.design.specs.Legal.{Legal};
-ghost use Rattle.tables.specs.Inputs.{Usable, TableAt};
+ghost use Rattle.tables.specs.Inputs.{Usable, Placed};
+ghost use Rattle.tables.specs.Lookup.{lookupsOf, placeAt};
 ghost use Rattle.tables.specs.Sum.{sumAt, sumOutside, wordOf};
+use crate::lookups::Lookup;
+use crate::lookups::Lookups;
+use crate::lookups::place_of;
 use design::Design;
-use design::Pair;
-use design::legal::pair_at;
 use values::OutputUnits;
 use values::TableUnits;
 use values::floor::pow2;
 
-// A_i, the top a bits of x.
-fn segment_word(w: u32, pair: Pair, x: u32) -> u64
-    requires { ⌜ (pair .a ≤ w) × (w ≤ 16) ⌝ }
-    ensures { λ r. ⌜ r ≡ x / 2 ^ (w - pair .a) ⌝ }
+// One offset more.
+fn add_offset(lookup: Lookup, sum: TableUnits, offsets: &[i32], x: u32) -> TableUnits
+    requires { ⌜ Placed lookup x ⌝ }
+    requires { ⌜ (placeAt lookup x < length (now offsets)) × (mag (sum .0) ≤ 2 ^ 40) ⌝ }
+    ensures { λ r. ⌜ (r ≡ record { 0 = sum .0 +ℤ getD (now (offsets .entry)) (placeAt lookup x) (pos 0) })
+        × (mag (r .0) ≤ mag (sum .0) + 2 ^ 32) ⌝ }
 {
-    let below = w - pair.a;
-    (x >> below) as u64
+    let offset = offsets[place_of(lookup, x) as usize];
+    TableUnits(sum.0 + offset as i64)
 }
 
-// B_i, the b bits of x that begin at the position.
-fn offset_word(pair: Pair, position: u32, x: u32) -> u64
-    requires { ⌜ (pair .b ≤ 16) × (position ≤ 16) ⌝ }
-    ensures { λ r. ⌜ r ≡ x / 2 ^ position % 2 ^ pair .b ⌝ }
-{
-    (x >> position) as u64 % pow2(pair.b)
-}
-
-// Where x's offset of table i lies among all offsets, for a table of this pair that begins at `start` and whose bits of x begin at
-// `position`.
-fn offset_place(d: Design, i: u32, pair: Pair, start: u64, position: u32, x: u32) -> u64
-    requires { ⌜ Legal d ⌝ }
-    requires { ⌜ TableAt d i pair start position ⌝ }
-    requires { ⌜ x < 2 ^ d .w ⌝ }
-    ensures { λ r. ⌜ (r ≡ offsetPlace d i (segmentWord d i x) (offsetWord d i x)) × (r < offsetTotal d) ⌝ }
-{
-    let segment = segment_word(d.w, pair, x);
-    start + (segment * pow2(pair.b) + offset_word(pair, position, x))
-}
-
-// inner: Y, summed from the tables: m + 1 lookups, shifts and adds. The loop counts to 4, the most tables there are, so that the
-// compiler unrolls it and keeps each table's numbers at hand from word to word.
-pub fn sum_of(d: Design, initial: &[u32], offsets: &[i32], x: u32) -> TableUnits
+// inner: Y, summed from the tables: m + 1 lookups, shifts and adds.
+pub fn sum_of(d: Design, lookups: Lookups, initial: &[u32], offsets: &[i32], x: u32) -> TableUnits
     requires { ⌜ Usable d (length (now initial)) (length (now offsets)) ⌝ }
+    requires { ⌜ lookups ≡ lookupsOf d ⌝ }
     requires { ⌜ x < 2 ^ d .w ⌝ }
     ensures { λ r. ⌜ r ≡ record { 0 = sumAt d (now (initial .entry)) (now (offsets .entry)) x } ⌝ }
 {
     let m = d.m;
-    let mut sum = initial[(x >> (d.w - d.alpha)) as usize] as i64;
-    let mut start = 0;
-    let mut position = 0;
-    for i in 0..4 {
-        if m <= i {
-            return TableUnits(sum);
-        }
-        let pair = pair_at(d, i);
-        let offset = offsets[offset_place(d, i, pair, start, position, x) as usize];
-        sum += offset as i64;
-        start += pow2(pair.a + pair.b);
-        position += pair.b;
+    let entry = initial[(x >> (d.w - d.alpha)) as usize] as i64;
+    let one = add_offset(lookups.first, TableUnits(entry), offsets, x);
+    if m == 1 {
+        return one;
     }
-    TableUnits(sum)
+    let two = add_offset(lookups.second, one, offsets, x);
+    if m == 2 {
+        return two;
+    }
+    let three = add_offset(lookups.third, two, offsets, x);
+    if m == 3 {
+        return three;
+    }
+    add_offset(lookups.fourth, three, offsets, x)
 }
 
 // inner: whether Y is out of range, not 0 ≤ Y < 2^(P+2).

@@ -23,11 +23,12 @@ pub fn power(n: u64, k: u32) -> u64
     requires { ⌜ (n ≤ 2 ^ 21) × (k ≤ 3) ⌝ }
     ensures { λ r. ⌜ r ≡ n ^ k ⌝ }
 {
-    let mut product = 1;
-    for _ in 0..k {
-        product *= n;
+    match k {
+        0 => 1,
+        1 => n,
+        2 => n * n,
+        _ => n * n * n,
     }
-    product
 }
 
 // The square root of the limit, rounded down, by Newton's method: a step from anywhere comes to the root or above it, and a step from

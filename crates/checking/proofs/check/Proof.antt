@@ -50,19 +50,22 @@ set : (c : tie.After-enum-told) → let a = c .before .before .before .before .a
     Usable (a .d) (length (a .initial .now)) (length (a .offsets .now))
 set c = usable _ _ _ (sym (c .before .before .set-verdict .ensures) ∙ c .enum-told .given .1)
 
+lookups-of-requires : tie.Need-lookups-of-requires
+lookups-of-requires c κs = set c .legal
+
 row-of-requires : tie.Need-row-of-requires
-row-of-requires c κs = omega (arith, limits _ (set c .legal) .widths .kind-high)
+row-of-requires c κs = omega (arith, limits _ (set (c .before) .legal) .widths .kind-high)
 
 search-requires : tie.Need-search-requires
-search-requires c κs = (set (c .before), c .row-of .ensures)
+search-requires c κs = (set (c .before .before), (c .before .lookups-of .ensures, c .row-of .ensures))
 
 returns-2 : tie.Need-returns-2
 unfolding checkVerdict
 returns-2 c =
-    let b = c .before .before in
+    let b = c .before .before .before in
     searched _ _ _ (sym (b .before .before .set-verdict .ensures) ∙ b .enum-told .given .1) _ (c .search .ensures)
 
 pub check-spec : {M : Type 1} → statement M
 check-spec =
     tie.close
-    (tie.spec set-verdict-requires enum-known-cause returns enum-told row-of-requires search-requires returns-2)
+    (tie.spec set-verdict-requires enum-known-cause returns enum-told lookups-of-requires row-of-requires search-requires returns-2)

@@ -25,18 +25,18 @@ use Rattle.checking.proofs.search.Statement.{statement}
 use Rattle.checking.proofs.search.Tie as tie
 
 abbrev Inv-loop : tie.InvT-loop
-Inv-loop d row initial offsets intervals rests answer₀ interval start rest₀ answer rest =
+Inv-loop d lookups row initial offsets intervals rests answer₀ interval start rest₀ answer rest =
     Searched (faithfulAt d initial offsets) answer (start + rest) × (rest ≤ rests)
 
 abbrev μ-loop : tie.MeasureT-loop
-μ-loop d row initial offsets intervals rests answer₀ interval start rest₀ answer rest = rests - rest
+μ-loop d lookups row initial offsets intervals rests answer₀ interval start rest₀ answer rest = rests - rest
 
 abbrev Inv-words : tie.InvT-words
-Inv-words d row initial offsets intervals rests answer₀ interval₀ answer interval =
+Inv-words d lookups row initial offsets intervals rests answer₀ interval₀ answer interval =
     Searched (faithfulAt d initial offsets) answer (interval * rests) × (interval ≤ intervals)
 
 abbrev μ-words : tie.MeasureT-words
-μ-words d row initial offsets intervals rests answer₀ interval₀ answer interval = intervals - interval
+μ-words d lookups row initial offsets intervals rests answer₀ interval₀ answer interval = intervals - interval
 
 pow2-requires : tie.Need-pow2-requires Inv-loop μ-loop Inv-words μ-words
 pow2-requires c κs = omega (arith, limits _ (c .before .pre .0 .legal) .alpha-high)
@@ -82,7 +82,7 @@ add-x c = omega (arith, inside c, counted (c .before .before .before .before) .w
 word-is-faithful-requires : tie.Need-word-is-faithful-requires Inv-loop μ-loop Inv-words μ-words
 word-is-faithful-requires c κs =
     let p = c .before .before .before .before .before .before .before .before .pre in
-    (p .0, (p .1, inside c))
+    (p .0, (p .1 .0, (p .1 .1, inside c)))
 
 add-rest : tie.Need-add-rest Inv-loop μ-loop Inv-words μ-words
 add-rest c = omega (arith, counted (c .before .before .before .before .before .before) .rests-small)

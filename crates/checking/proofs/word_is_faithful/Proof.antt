@@ -72,7 +72,7 @@ pow2-requires c κs = omega (arith, limits _ (c .before .before .before .before 
 add-is-faithful : tie.Need-add-is-faithful
 add-is-faithful c =
     let p = c .before .before .before .before .before .pre in
-    omega (arith, width-small _ (limits _ (p .0 .legal)), c .pow2 .ensures, p .1 .1)
+    omega (arith, width-small _ (limits _ (p .0 .legal)), c .pow2 .ensures, p .1 .1 .1)
 
 word-of-requires : tie.Need-word-of-requires
 word-of-requires c κs =
@@ -84,7 +84,7 @@ is-faithful-requires c κs =
     let b = c .before .before in
     let p = b .before .before .before .before .pre in
     let l = limits _ (p .0 .legal) in (
-      rw (p .1 .0, c .before .pow2 .ensures) (exact-at _ l _ (p .1 .1)),
+      rw (p .1 .1 .0, c .before .pow2 .ensures) (exact-at _ l _ (p .1 .1 .1)),
       rw (c .word-of .ensures) (word-small _ l _ (tested (b .before .sum-outside .ensures) (b .if1 .left))),
     )
 
@@ -93,7 +93,7 @@ returns-2 c =
     let b = c .before .before .before in
     c .is-faithful .ensures
     ∙ by-word _ _ _ _ _ _ (b .before .before .sum-of .ensures) (b .before .sum-outside .ensures) (b .if1 .left) _ _ _
-    (b .before .before .before .before .pre .1 .0) (c .before .before .pow2 .ensures) (c .before .word-of .ensures)
+    (b .before .before .before .before .pre .1 .1 .0) (c .before .before .pow2 .ensures) (c .before .word-of .ensures)
 
 pub word-is-faithful-spec : {M : Type 1} → statement M
 word-is-faithful-spec =

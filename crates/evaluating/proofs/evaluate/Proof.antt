@@ -56,13 +56,16 @@ returns c = refused _ _ _ _ _ (sym (c .before .before .before .set-verdict .ensu
 enum-told : tie.Need-enum-told
 enum-told c = search needs
 
+lookups-of-requires : tie.Need-lookups-of-requires
+lookups-of-requires c κs = usable _ _ _ (set-passed c) .legal
+
 word-answer-requires : tie.Need-word-answer-requires
-word-answer-requires c κs = usable _ _ _ (set-passed c)
+word-answer-requires c κs = (usable _ _ _ (set-passed (c .before)), c .lookups-of .ensures)
 
 returns-2 : tie.Need-returns-2
-returns-2 c = answered _ _ _ _ (set-passed (c .before)) _ (c .word-answer .ensures)
+returns-2 c = answered _ _ _ _ (set-passed (c .before .before)) _ (c .word-answer .ensures)
 
 pub evaluate-spec : {M : Type 1} → statement M
 evaluate-spec =
     tie.close
-    (tie.spec set-verdict-requires enum-known-cause returns enum-told word-answer-requires returns-2)
+    (tie.spec set-verdict-requires enum-known-cause returns enum-told lookups-of-requires word-answer-requires returns-2)

@@ -59,7 +59,7 @@ room-passed c = sym (c .before .before .room-verdict .ensures) ∙ c .enum-told 
 
 -- where the words passed
 words-passed : (c : tie.After-enum-told2) →
-    let a = c .before .before .before .before .before .before .before .before .before .args in
+    let a = c .before .before .before .before .before .before .before .before .before .before .args in
     (i : ℕ) → i < length (a .words .now) → placeVerdict (a .d) (a .initial .now) (a .offsets .now) (a .words .now) i ≡ Verdict.Passed
 words-passed c = batch-passed _ _ _ (sym (c .before .before .words-verdict .ensures) ∙ c .enum-told2 .given .1)
 
@@ -75,15 +75,18 @@ returns c = room-refused _ _ _ _ _ _ (sym (c .before .before .before .room-verdi
 enum-told : tie.Need-enum-told
 enum-told c = search needs
 
+lookups-of-requires : tie.Need-lookups-of-requires
+lookups-of-requires c κs = room-tells _ _ _ _ _ (room-passed c) .0 .legal
+
 words-verdict-requires : tie.Need-words-verdict-requires
-words-verdict-requires c κs = room-tells _ _ _ _ _ (room-passed c) .0
+words-verdict-requires c κs = (room-tells _ _ _ _ _ (room-passed (c .before)) .0, c .lookups-of .ensures)
 
 enum-known-answer : tie.Need-enum-known-answer
 enum-known-answer c = search needs
 
 returns-2 : tie.Need-returns-2
 returns-2 c =
-    word-refused _ _ _ _ _ (room-passed (c .before .before .before .before)) _ _
+    word-refused _ _ _ _ _ (room-passed (c .before .before .before .before .before)) _ _
     (sym (c .before .before .before .words-verdict .ensures) ∙ c .before .answer .given .1)
 
 enum-told-2 : tie.Need-enum-told-2
@@ -91,15 +94,16 @@ enum-told-2 c = search needs
 
 write-words-requires : tie.Need-write-words-requires
 write-words-requires c κs =
-    let tells = room-tells _ _ _ _ _ (room-passed (c .before .before .before .before)) in
-    (tells .0, (words-passed (c .before), tells .1))
+    let b = c .before .before .before .before in
+    let tells = room-tells _ _ _ _ _ (room-passed (b .before)) in
+    (tells .0, (b .lookups-of .ensures, (words-passed (c .before), tells .1)))
 
 same-length : tie.Need-same-length
 same-length c = search needs
 
 returns-3 : tie.Need-returns-3
 returns-3 c =
-    accepted _ _ _ _ _ (room-passed (c .before .before .before .before .before .before .before))
+    accepted _ _ _ _ _ (room-passed (c .before .before .before .before .before .before .before .before))
     (words-passed (c .before .before .before .before)) _ _ (c .before .before .before .before .before .before .words-verdict .ensures)
     (c .before .before .write-words .ensures)
 
@@ -111,6 +115,7 @@ evaluate-batch-spec =
     enum-known-cause
     returns
     enum-told
+    lookups-of-requires
     words-verdict-requires
     enum-known-answer
     returns-2

@@ -13,11 +13,11 @@ use Rattle.evaluating.proofs.summed_verdict.Statement.{statement}
 use Rattle.evaluating.proofs.summed_verdict.Tie as tie
 
 abbrev Inv-loop : tie.InvT-loop
-Inv-loop d initial offsets words i₀ i-end i =
+Inv-loop d lookups initial offsets words i₀ i-end i =
     (i ≤ length words) × ((j : ℕ) → j < i → placeVerdict d initial offsets words j ≡ Verdict.Passed)
 
 abbrev μ-loop : tie.MeasureT-loop
-μ-loop d initial offsets words i₀ i-end i = i-end - i
+μ-loop d lookups initial offsets words i₀ i-end i = i-end - i
 
 loop-holds : tie.Need-loop-holds Inv-loop μ-loop
 loop-holds c = (omega arith, below-none _)

@@ -12,7 +12,7 @@ use Rattle.evaluating.proofs.word_answer.Statement.{statement}
 use Rattle.evaluating.proofs.word_answer.Tie as tie
 
 pow2-requires : tie.Need-pow2-requires
-pow2-requires c κs = omega (arith, limits _ (c .before .pre .legal) .widths .w-high)
+pow2-requires c κs = omega (arith, limits _ (c .before .pre .0 .legal) .widths .w-high)
 
 returns : tie.Need-returns
 returns c =
@@ -24,7 +24,7 @@ within : (c : tie.Else1) → c .before .before .before .args .x < 2 ^ c .before 
 within c = rw (c .before .pow2 .ensures) at (c .if1 .left)
 
 sum-of-requires : tie.Need-sum-of-requires
-sum-of-requires c κs = (c .before .before .before .pre, within c)
+sum-of-requires c κs = let p = c .before .before .before .pre in (p .0, (p .1, within c))
 
 sum-outside-requires : tie.Need-sum-outside-requires
 sum-outside-requires c κs = search needs
@@ -47,7 +47,7 @@ in-range c = sym (tested (c .before)) ∙ c .if2 .left
 
 word-of-requires : tie.Need-word-of-requires
 word-of-requires c κs =
-    (c .before .before .before .before .before .before .pre .legal, rw (c .before .before .sum-of .ensures) (in-range c))
+    (c .before .before .before .before .before .before .pre .0 .legal, rw (c .before .before .sum-of .ensures) (in-range c))
 
 returns-3 : tie.Need-returns-3
 unfolding wordAt

@@ -10,21 +10,21 @@ use Rattle.evaluating.proofs.words_verdict.Statement.{statement}
 use Rattle.evaluating.proofs.words_verdict.Tie as tie
 
 pow2-requires : tie.Need-pow2-requires
-pow2-requires c κs = omega (arith, limits _ (c .before .before .pre .legal) .alpha-high)
+pow2-requires c κs = omega (arith, limits _ (c .before .before .pre .0 .legal) .alpha-high)
 
 offset-total-requires : tie.Need-offset-total-requires
 offset-total-requires c κs = search needs
 
 add-entries : tie.Need-add-entries
 add-entries c =
-    let l = limits _ (c .before .before .before .before .pre .legal) in
+    let l = limits _ (c .before .before .before .before .pre .0 .legal) in
     omega (arith, c .before .pow2 .ensures, pow-mono {j = 13} (l .alpha-high), c .offset-total .ensures, offset-total-small _ l)
 
 sums-in-range-requires : tie.Need-sums-in-range-requires
 sums-in-range-requires c κs = search needs
 
 width-answer-requires : tie.Need-width-answer-requires
-width-answer-requires c κs = limits _ (c .before .before .before .before .before .before .before .pre .legal) .widths .w-high
+width-answer-requires c κs = limits _ (c .before .before .before .before .before .before .before .pre .0 .legal) .widths .w-high
 
 returns : tie.Need-returns
 returns c =

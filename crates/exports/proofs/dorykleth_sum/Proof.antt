@@ -62,16 +62,22 @@ returns-2 c =
     (by-verdict _ _ _ _ _ (word-refuses _ _ _ _ (set-passed t) (rw (counted w) at (c .before .if1 .taken))) _
     (c .number2 .ensures) _ _ refl)
 
+lookups-of-requires : tie.Need-lookups-of-requires
+lookups-of-requires c κs = usable _ _ _ (set-passed (c .before .before)) .legal
+
 sum-of-requires : tie.Need-sum-of-requires
-sum-of-requires c κs = (usable _ _ _ (set-passed (c .before .before)), rw (counted (c .before)) at (c .if1 .left))
+sum-of-requires c κs =
+    let b = c .before in
+    (usable _ _ _ (set-passed (b .before .before)), (c .lookups-of .ensures, rw (counted (b .before)) at (b .if1 .left)))
 
 returns-3 : tie.Need-returns-3
 returns-3 c =
     let s = c .before in
-    let w = s .before .before in
+    let b = s .before .before in
+    let w = b .before in
     let t = w .before in
     rw (← t .before .before .before .design-of .ensures)
-    (by-verdict _ _ _ _ _ (none-refuses _ _ _ _ (set-passed t) (rw (counted w) at (s .before .if1 .left))) _ refl _ _
+    (by-verdict _ _ _ _ _ (none-refuses _ _ _ _ (set-passed t) (rw (counted w) at (b .if1 .left))) _ refl _ _
     (toZ-ofZ w64 _ (record { sfits = c .struct-told .given .0 .1 }) ∙ ap (λ (units : TableUnits). units .0) (s .sum-of .ensures)))
 
 pub dorykleth-sum-spec : {M : Type 1} → statement M
@@ -87,5 +93,6 @@ dorykleth-sum-spec =
     words-of-requires
     number-requires-2
     returns-2
+    lookups-of-requires
     sum-of-requires
     returns-3)

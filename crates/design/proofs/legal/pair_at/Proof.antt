@@ -1,20 +1,53 @@
 -- `design::legal::pair_at` meets its contract: below m the pairs that are read are the design's.
-use mathlib.Core.Path.{sym}
+use mathlib.Core.Path.{_≡_, sym}
+use Prim.Native.Nat.{ℕ, _<_}
+use native.Mathlib.Omega.{arith}
 use borrow.Author.Needs.{needs}
+use lib.ListN.{getD}
 use lib.Seq.{getD-take}
+use Rattle.design.specs.declared.Design.{Design}
 use Rattle.design.specs.Cut.{tables, pairAt}
 use Rattle.design.proofs.legal.pair_at.Statement.{statement}
 use Rattle.design.proofs.legal.pair_at.Tie as tie
 
-mul-result : tie.Need-mul-result
-mul-result c = search needs
+-- the pair at the place that the branch reads
+read : (d : Design) (i place : ℕ) → i ≡ place → i < d .m → getD (d .pairs) place (record { a = 0; b = 0 }) ≡ pairAt d i
+unfolding pairAt tables
+read d i place e h = rw (← e) (sym (getD-take _ _ _ _ h))
 
 element-copy-out-result : tie.Need-element-copy-out-result
 element-copy-out-result c = search needs
 
+element-copy-out-result-2 : tie.Need-element-copy-out-result-2
+element-copy-out-result-2 c = search needs
+
+element-copy-out-result-3 : tie.Need-element-copy-out-result-3
+element-copy-out-result-3 c = search needs
+
+element-copy-out-result-4 : tie.Need-element-copy-out-result-4
+element-copy-out-result-4 c = search needs
+
 returns : tie.Need-returns
-unfolding pairAt tables
-returns c = sym (getD-take _ _ _ _ (c .before .pre .0))
+returns c = read _ _ 0 (c .before .match .keys1) (c .before .before .pre .0)
+
+returns-2 : tie.Need-returns-2
+returns-2 c = read _ _ 1 (c .before .match .keys2) (c .before .before .pre .0)
+
+returns-3 : tie.Need-returns-3
+returns-3 c = read _ _ 2 (c .before .match .keys3) (c .before .before .pre .0)
+
+returns-4 : tie.Need-returns-4
+returns-4 c = read _ _ 3 (omega (arith, c .before .match .rest, c .before .before .pre)) (c .before .before .pre .0)
 
 pub pair-at-spec : {M : Type 1} → statement M
-pair-at-spec = tie.close (tie.spec mul-result element-copy-out-result returns)
+pair-at-spec =
+    tie.close
+    (tie.spec
+    element-copy-out-result
+    element-copy-out-result-2
+    element-copy-out-result-3
+    element-copy-out-result-4
+    returns
+    returns-2
+    returns-3
+    returns-4)

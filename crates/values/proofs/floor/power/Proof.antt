@@ -1,49 +1,50 @@
--- `values::floor::power` meets its contract: after i turns the product is n^i, which stays below 2^64 up to the third power.
-use mathlib.Core.Path.{_≡_, sym, ap, _∙_}
-use Prim.Native.Nat.{ℕ, suc, _*_, _-_, _^_, _≤_}
-use native.Mathlib.Nat.{pow-zero, pow-suc, le-trans, pow-le-pow-left, pow-le-pow-right}
-use native.Mathlib.Numerals.{add-one}
+-- `values::floor::power` meets its contract: each degree by its own product, which stays below 2^64 up to the third.
+use mathlib.Core.Path.{_≡_}
+use Prim.Native.Nat.{ℕ, _*_, _^_, _≤_}
+use native.Mathlib.Nat.{pow-zero, pow-suc, one-mul, mul-le-mul}
 use native.Mathlib.Omega.{arith}
 use Rattle.values.proofs.floor.power.Statement.{statement}
 use Rattle.values.proofs.floor.power.Tie as tie
 
-abbrev Inv-loop : tie.InvT-loop
-Inv-loop n k product₀ counter₀ product counter = (product ≡ n ^ counter) × (counter ≤ k)
+module _ (n : ℕ) where
+  first : n ≡ n ^ 1
+  first = rw (pow-suc n 0, pow-zero, one-mul)
 
-abbrev μ-loop : tie.MeasureT-loop
-μ-loop n k product₀ counter₀ product counter = k - counter
+  second : n * n ≡ n ^ 2
+  second = rw (pow-suc n 1, ← first)
 
--- the product after one turn more
-next : (n i : ℕ) {product : ℕ} → product ≡ n ^ i → product * n ≡ n ^ suc i
-next n i e = ap (λ (p : ℕ). p * n) e ∙ sym (pow-suc n i)
+  third : n * n * n ≡ n ^ 3
+  third = rw (pow-suc n 2, ← second)
 
-small : {n i : ℕ} → n ≤ 2 ^ 21 → i ≤ 3 → n ^ i ≤ 2 ^ 63
-small {n} {i} n-small i-small = le-trans (pow-le-pow-left n-small i) (pow-le-pow-right {n = 2 ^ 21} (omega arith) i-small)
+  square-small : n ≤ 2 ^ 21 → n * n ≤ 2 ^ 42
+  square-small h = mul-le-mul h h
 
-loop-holds : tie.Need-loop-holds Inv-loop μ-loop
-loop-holds c = (sym (pow-zero _), omega arith)
+  cube-small : n ≤ 2 ^ 21 → n * n * n ≤ 2 ^ 63
+  cube-small h = mul-le-mul (square-small h) h
 
-mul-product : tie.Need-mul-product Inv-loop μ-loop
-mul-product c =
-    let e = next _ _ (c .before .loop .inv .0) in
-    let s = small {i = suc (c .before .loop .counter)} (c .before .before .pre .0) (omega arith) in
-    omega arith
+mul-result : tie.Need-mul-result
+mul-result c = omega (arith, square-small _ (c .before .pre .0))
 
-add-counter : tie.Need-add-counter Inv-loop μ-loop
-add-counter c = omega arith
+mul-result-2 : tie.Need-mul-result-2
+mul-result-2 c = omega (arith, square-small _ (c .before .pre .0))
 
-loop-less : tie.Need-loop-less Inv-loop μ-loop
-loop-less c = omega arith
+mul-result-3 : tie.Need-mul-result-3
+mul-result-3 c = omega (arith, cube-small _ (c .before .pre .0))
 
-loop-again : tie.Need-loop-again Inv-loop μ-loop
-loop-again c = (rw add-one (next _ _ (c .before .loop .inv .0)), omega arith)
+returns : tie.Need-returns
+returns c = rw (c .match .keys1, pow-zero)
 
-returns : tie.Need-returns Inv-loop μ-loop
-returns c =
-    let e : c .before .loop .counter ≡ c .before .before .args .k = omega arith in
-    rw e at (c .before .loop .inv .0)
+returns-2 : tie.Need-returns-2
+returns-2 c = rw (c .match .keys2) (first _)
+
+returns-3 : tie.Need-returns-3
+returns-3 c = rw (c .match .keys3) (second _)
+
+returns-4 : tie.Need-returns-4
+returns-4 c =
+    let e : c .before .args .k ≡ 3 = omega (arith, c .match .rest) in
+    rw e (third _)
 
 pub power-spec : {M : Type 1} → statement M
 power-spec =
-    tie.close
-    (tie.spec Inv-loop μ-loop loop-holds mul-product add-counter loop-less loop-again returns)
+    tie.close (tie.spec mul-result mul-result-2 mul-result-3 returns returns-2 returns-3 returns-4)

@@ -1,0 +1,34 @@
+-- `tables::lookups::lookups_of` meets its contract: nothing lies before the first table, and each of the others follows from the one before.
+use mathlib.Core.Path.{refl}
+use borrow.Author.Needs.{needs}
+use Rattle.design.specs.Cut.{sumBelow, position, tableStart}
+use Rattle.tables.specs.Lookup.{lookupsOf}
+use Rattle.tables.proofs.lookups.lookups_of.Statement.{statement}
+use Rattle.tables.proofs.lookups.lookups_of.Tie as tie
+
+lookup-of-requires : tie.Need-lookup-of-requires
+unfolding position tableStart sumBelow
+lookup-of-requires c κs = (c .pre, (refl, refl))
+
+lookup-after-requires : tie.Need-lookup-after-requires
+lookup-after-requires c κs = search needs
+
+lookup-after-requires-2 : tie.Need-lookup-after-requires-2
+lookup-after-requires-2 c κs = search needs
+
+lookup-after-requires-3 : tie.Need-lookup-after-requires-3
+lookup-after-requires-3 c κs = search needs
+
+returns : tie.Need-returns
+unfolding lookupsOf
+returns c = cc
+
+pub lookups-of-spec : {M : Type 1} → statement M
+lookups-of-spec =
+    tie.close
+    (tie.spec
+    lookup-of-requires
+    lookup-after-requires
+    lookup-after-requires-2
+    lookup-after-requires-3
+    returns)

@@ -1,0 +1,97 @@
+-- `tables::sums::add_offset` meets its contract: an offset of 32 bits is the same number in 64, which hold its sum with one that is small.
+use mathlib.Core.Path.{_≡_, sym, ap, ap₂, subst, _∙_}
+use mathlib.Core.List.{List}
+use Prim.Native.Nat.{ℕ, _+_, _^_, _≤_, _<_}
+use native.Mathlib.Omega.{arith}
+use borrow.Author.Needs.{needs}
+use lib.ListN.{getD}
+use lib.IntN.{ℤ, pos, _+ℤ_}
+use lib.Signed.{mag}
+use mir.Syntax.{w32, w64}
+use mir.Val.{SFits, ofZ, toZ}
+use mir.ValLaws.{toZ-ofZ}
+use Rattle.values.specs.declared.TableUnits.{TableUnits}
+use Rattle.tables.proofs.SignedLaws.{mag-add}
+use Rattle.tables.proofs.sums.add_offset.Statement.{statement}
+use Rattle.tables.proofs.sums.add_offset.Tie as tie
+
+abbrev units : ℤ → TableUnits
+units z = record { 0 = z }
+
+wide : (z : ℤ) → mag z < 2 ^ 31 → toZ w64 (ofZ w64 (toZ w32 (ofZ w32 z))) ≡ z
+wide z small =
+    ap (λ (y : ℤ). toZ w64 (ofZ w64 y)) (toZ-ofZ w32 z (record { sfits = small })) ∙ toZ-ofZ w64 z (record { sfits = omega arith })
+
+narrow-fits : (z : ℤ) → mag z < 2 ^ 31 → SFits w64 (toZ w32 (ofZ w32 z))
+narrow-fits z small =
+    subst (SFits w64) (sym (toZ-ofZ w32 z (record { sfits = small }))) (record { sfits = omega arith })
+
+-- the sum that the machine holds, and the offset at the place that it found
+module _ (offsets : List ℤ) (sum held : ℤ) (place here : ℕ) (held-is : held ≡ sum) (here-is : here ≡ place) (low : mag sum ≤ 2 ^ 40)
+    (small : mag (getD offsets here (pos 0)) < 2 ^ 31) where
+  abbrev offset : ℤ
+  offset = getD offsets here (pos 0)
+
+  abbrev made : ℤ
+  made = held +ℤ toZ w64 (ofZ w64 (toZ w32 (ofZ w32 offset)))
+
+  made-is : made ≡ sum +ℤ offset
+  made-is = ap₂ _+ℤ_ held-is (wide offset small)
+
+  sum-fits : SFits w64 (sum +ℤ offset)
+  sum-fits = record { sfits = omega (arith, mag-add sum offset) }
+
+  made-fits : SFits w64 made
+  made-fits = subst (SFits w64) (sym made-is) sum-fits
+
+  added : toZ w64 (ofZ w64 made) ≡ sum +ℤ offset
+  added = ap (λ (y : ℤ). toZ w64 (ofZ w64 y)) made-is ∙ toZ-ofZ w64 (sum +ℤ offset) sum-fits
+
+  promised : (units (toZ w64 (ofZ w64 made)) ≡ units (sum +ℤ getD offsets place (pos 0))) × (mag (toZ w64 (ofZ w64 made)) ≤ mag sum + 2 ^ 32)
+  promised = (
+    ap units (added ∙ ap (λ (n : ℕ). sum +ℤ getD offsets n (pos 0)) here-is),
+    subst (λ (z : ℤ). mag z ≤ mag sum + 2 ^ 32) (sym added) (omega (arith, mag-add sum offset)),
+  )
+
+place-of-requires : tie.Need-place-of-requires
+place-of-requires c κs = search needs
+
+cast-offset : tie.Need-cast-offset
+cast-offset c = search needs
+
+mul-offset : tie.Need-mul-offset
+mul-offset c = search needs
+
+shared-slice-copy-out-offset : tie.Need-shared-slice-copy-out-offset
+shared-slice-copy-out-offset c = search needs
+
+cast-t11 : tie.Need-cast-t11
+cast-t11 c = narrow-fits (getD (c .before .before .args .offsets .now) (c .before .place-of .result) (pos 0)) (c .offset .given)
+
+-- the sum of this call is held as it came
+held : (c : tie.After-struct-told) → let sum = c .before .before .before .before .args .sum .0 in toZ w64 (ofZ w64 sum) ≡ sum
+held c = toZ-ofZ w64 (c .before .before .before .before .args .sum .0) (record { sfits = c .struct-told .given .0 .1 })
+
+add-t12 : tie.Need-add-t12
+add-t12 c =
+    let s = c .before .before .before .before in
+    made-fits (s .args .offsets .now) (s .args .sum .0) _ _ _ (held c) (c .before .before .before .place-of .ensures) (s .pre .1 .1)
+    (c .before .before .offset .given)
+
+returns : tie.Need-returns
+returns c =
+    let s = c .before .before .before .before in
+    promised (s .args .offsets .now) (s .args .sum .0) _ _ _ (held c) (c .before .before .before .place-of .ensures) (s .pre .1 .1)
+    (c .before .before .offset .given)
+
+pub add-offset-spec : {M : Type 1} → statement M
+add-offset-spec =
+    tie.close
+    (tie.spec
+    place-of-requires
+    cast-offset
+    mul-offset
+    shared-slice-copy-out-offset
+    cast-t11
+    add-t12
+    returns)
