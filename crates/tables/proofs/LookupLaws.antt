@@ -2,7 +2,7 @@
 -- offset.
 use mathlib.Core.Path.{_≡_, sym, ap, _∙_}
 use Prim.Native.Nat.{ℕ, _+_, _-_, _*_, _/_, _%_, _^_, _≤_, _<_}
-use native.Mathlib.Nat.{lt-of-lt-of-le, mod-eq-of-lt, one-mul}
+use native.Mathlib.Nat.{mod-eq-of-lt, one-mul}
 use native.Mathlib.Decide.{decLt}
 use native.Mathlib.Omega.{arith}
 use lib.ListN.{take, List·getD-eq-default, length-take}
@@ -24,11 +24,11 @@ use Rattle.design.specs.Cut.{
 }
 use Rattle.design.proofs.Sums.{sum-bounded, sum-next}
 use Rattle.design.proofs.LegalLaws.{Limits, bits-end}
-use Rattle.design.proofs.CutLaws.{place-in-total, segment-word-lt, offset-word-lt, offset-total-small}
+use Rattle.design.proofs.CutLaws.{place-in-total, segment-word-lt, offset-word-lt}
 use Rattle.tables.specs.declared.lookups.Lookup.{Lookup}
 use Rattle.tables.specs.declared.lookups.Lookups.{Lookups}
 use Rattle.tables.specs.Lookup.{lookupOf, lookupsOf, placeAt}
-use Rattle.tables.specs.Inputs.{Placed}
+use Rattle.tables.specs.Inputs.{Small}
 
 -- A power of two that 32 bits hold, as a shift makes it
 pub shl-one : (n : ℕ) → n < 32 → 1 * 2 ^ n % 2 ^ 32 ≡ 2 ^ n
@@ -44,13 +44,6 @@ pub record Few (d : Design) (i : ℕ) : Type 0 where
   pub b-small : bOf d i ≤ 8
   pub bits-small : aOf d i + bOf d i ≤ 12
   pub bits-within : aOf d i + bOf d i ≤ d .w
-
--- How large the numbers of a lookup are
-pub record Small (lookup : Lookup) : Type 0 where
-  pub shift-small : lookup .shift ≤ 16
-  pub b-small : lookup .b ≤ 8
-  pub position-small : lookup .position ≤ 24
-  pub start-small : lookup .start ≤ 3 * 4096
 
 -- The lookup of a table of no bits
 abbrev no-bits : ℕ → ℕ → ℕ → Lookup
@@ -144,21 +137,10 @@ module _ (d : Design) (l : Limits d) (i x : ℕ) (more : i < d .m) where
       let e : d .w - (aOf d i + bOf d i) + bOf d i ≡ d .w - aOf d i = omega (arith, few d l i .bits-within) in
       rw (whole x (d .w - (aOf d i + bOf d i)) (bOf d i), e)
 
-  module _ (word : x < 2 ^ d .w) where
-    pub place-lt : placeAt (lookupOf d i) x < offsetTotal d
-    place-lt =
-        rw place-is
-        (place-in-total d i _ _ more (record { A-lt = segment-word-lt d l i x more word; B-lt = offset-word-lt d i x }))
-
-    pub placed : Placed (lookupOf d i) x
-    unfolding lookupOf
-    placed =
-        record {
-          shift-small = omega (arith, l .widths .w-high);
-          b-small = few d l i .b-small;
-          position-small = omega (arith, bits-end d l i more, l .widths .w-high);
-          place-small = lt-of-lt-of-le place-lt (offset-total-small d l);
-        }
+  pub place-lt : x < 2 ^ d .w → placeAt (lookupOf d i) x < offsetTotal d
+  place-lt word =
+      rw place-is
+      (place-in-total d i _ _ more (record { A-lt = segment-word-lt d l i x more word; B-lt = offset-word-lt d i x }))
 
 -- The four lookups of a design, one by one
 pub record Looked (d : Design) (lookups : Lookups) : Type 0 where

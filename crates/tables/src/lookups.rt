@@ -1,10 +1,10 @@
 // What a lookup in each offset table needs of the design, found once, so that a word costs shifts, masks and adds only.
 ghost use mathlib.Core.Path.{_≡_};
-ghost use Prim.Native.Nat.{_+_, _<_};
+ghost use Prim.Native.Nat.{_+_, _^_, _<_};
 ghost use Rattle.design.specs.Cut as Cut;
 ghost use Rattle.design.specs.Cut.{tableStart};
 ghost use Rattle.design.specs.Legal.{Legal};
-ghost use Rattle.tables.specs.Inputs.{Placed};
+ghost use Rattle.tables.specs.Inputs.{Small};
 ghost use Rattle.tables.specs.Lookup.{lookupOf, lookupsOf, placeAt};
 use design::Design;
 use design::legal::pair_at;
@@ -83,7 +83,8 @@ pub fn lookups_of(d: Design) -> Lookups
 
 // inner: where x's offset lies among all offsets. The top a + b bits of x are A·2^b and b bits more, which make room for B.
 pub fn place_of(lookup: Lookup, x: u32) -> u32
-    requires { ⌜ Placed lookup x ⌝ }
+    requires { ⌜ Small lookup ⌝ }
+    requires { ⌜ x < 2 ^ 16 ⌝ }
     ensures { λ r. ⌜ r ≡ placeAt lookup x ⌝ }
 {
     let size = 1 << lookup.b;

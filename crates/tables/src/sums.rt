@@ -6,7 +6,7 @@ ghost use lib.ListN.{length, getD};
 ghost use lib.IntN.{pos, _+ℤ_};
 ghost use lib.Signed.{mag};
 ghost use Rattle.design.specs.Legal.{Legal};
-ghost use Rattle.tables.specs.Inputs.{Usable, Placed};
+ghost use Rattle.tables.specs.Inputs.{Usable, Small};
 ghost use Rattle.tables.specs.Lookup.{lookupsOf, placeAt};
 ghost use Rattle.tables.specs.Sum.{sumAt, sumOutside, wordOf};
 use crate::lookups::Lookup;
@@ -19,7 +19,8 @@ use values::floor::pow2;
 
 // One offset more.
 fn add_offset(lookup: Lookup, sum: TableUnits, offsets: &[i32], x: u32) -> TableUnits
-    requires { ⌜ Placed lookup x ⌝ }
+    requires { ⌜ Small lookup ⌝ }
+    requires { ⌜ x < 2 ^ 16 ⌝ }
     requires { ⌜ (placeAt lookup x < length (now offsets)) × (mag (sum .0) ≤ 2 ^ 40) ⌝ }
     ensures { λ r. ⌜ (r ≡ record { 0 = sum .0 +ℤ getD (now (offsets .entry)) (placeAt lookup x) (pos 0) })
         × (mag (r .0) ≤ mag (sum .0) + 2 ^ 32) ⌝ }

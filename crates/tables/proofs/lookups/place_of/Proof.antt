@@ -1,38 +1,34 @@
 -- `tables::lookups::place_of` meets its contract: the shifts and remainders of the definition, none of which wraps.
 use mathlib.Core.Path.{_≡_}
-use Prim.Native.Nat.{ℕ, _+_, _-_, _*_, _/_, _%_, _^_, _<_}
-use native.Mathlib.Nat.{mod-le}
+use Prim.Native.Nat.{ℕ, _+_, _-_, _*_, _/_, _%_, _^_, _≤_, _<_}
+use native.Mathlib.Nat.{mod-le, lt-of-lt-of-le}
 use native.Mathlib.Omega.{arith}
 use borrow.Author.Needs.{needs}
-use lib.Pow.{pow-pos}
+use lib.Pow.{pow-pos, shr-le}
 use Rattle.tables.specs.declared.lookups.Lookup.{Lookup}
-use Rattle.tables.specs.Inputs.{Placed}
+use Rattle.tables.specs.Inputs.{Small}
 use Rattle.tables.specs.Lookup.{placeAt}
 use Rattle.tables.proofs.LookupLaws.{shl-one}
 use Rattle.tables.proofs.lookups.place_of.Statement.{statement}
 use Rattle.tables.proofs.lookups.place_of.Tie as tie
 
-module _ (lookup : Lookup) (x : ℕ) (p : Placed lookup x) where
-  -- how many offset words the table has, as the shift makes it
-  abbrev size : ℕ
-  size = 1 * 2 ^ lookup .b % 2 ^ 32
+size-pos : (n : ℕ) → n < 32 → 0 < 1 * 2 ^ n % 2 ^ 32
+size-pos n h = rw (shl-one n h) (pow-pos n)
 
-  size-is : size ≡ 2 ^ lookup .b
-  size-is = shl-one _ (omega arith)
+-- two parts of x, however they are cut, and the start of a table before them
+parts-small : (x s p cut size : ℕ) → x < 2 ^ 16 → x / 2 ^ s - cut + x / 2 ^ p % size < 2 ^ 17
+parts-small x s p cut size word = omega (arith, shr-le x s, shr-le x p, mod-le (x / 2 ^ p) size)
 
-  size-pos : 0 < size
-  size-pos = rw size-is (pow-pos _)
+place-small : (start x s p cut size : ℕ) → start ≤ 3 * 4096 → x < 2 ^ 16 → start + (x / 2 ^ s - cut + x / 2 ^ p % size) < 2 ^ 18
+place-small start x s p cut size h word = omega (arith, parts-small x s p cut size word)
 
-  -- the place, as the code adds it up
-  abbrev place : ℕ
-  place = lookup .start + (x / 2 ^ lookup .shift - x / 2 ^ lookup .shift % size + x / 2 ^ lookup .position % size)
-
-  place-is : place ≡ placeAt lookup x
-  unfolding placeAt
-  place-is = rw size-is
-
-  place-small : place < 2 ^ 14
-  place-small = rw place-is (p .place-small)
+-- the place, where the remainders are by what the shift makes
+place-is : (lookup : Lookup) (x : ℕ) → Small lookup →
+    let size = 1 * 2 ^ lookup .b % 2 ^ 32 in
+    let top = x / 2 ^ lookup .shift in
+    lookup .start + (top - top % size + x / 2 ^ lookup .position % size) ≡ placeAt lookup x
+unfolding placeAt
+place-is lookup x small = rw (shl-one (lookup .b) (omega arith))
 
 shl-size : tie.Need-shl-size
 shl-size c = search needs
@@ -44,22 +40,24 @@ shr-low : tie.Need-shr-low
 shr-low c = search needs
 
 rem-result : tie.Need-rem-result
-rem-result c = omega (arith, size-pos _ _ (c .before .before .before .pre))
+rem-result c = size-pos _ (omega (arith, c .before .before .before .pre .0))
 
 sub-result : tie.Need-sub-result
 sub-result c = mod-le _ _
 
 rem-result-2 : tie.Need-rem-result-2
-rem-result-2 c = omega (arith, size-pos _ _ (c .before .before .before .pre))
+rem-result-2 c = size-pos _ (omega (arith, c .before .before .before .pre .0))
 
 add-result : tie.Need-add-result
-add-result c = omega (arith, place-small _ _ (c .before .before .before .pre))
+add-result c = record { fits = lt-of-lt-of-le (parts-small _ _ _ _ _ (c .before .before .before .pre .1)) (omega arith) }
 
 add-result-2 : tie.Need-add-result-2
-add-result-2 c = omega (arith, place-small _ _ (c .before .before .before .before .pre))
+add-result-2 c =
+    let p = c .before .before .before .before .pre in
+    record { fits = lt-of-lt-of-le (place-small _ _ _ _ _ _ (p .0 .start-small) (p .1)) (omega arith) }
 
 returns : tie.Need-returns
-returns c = place-is _ _ (c .before .before .before .before .pre)
+returns c = place-is _ _ (c .before .before .before .before .pre .0)
 
 pub place-of-spec : {M : Type 1} → statement M
 place-of-spec =

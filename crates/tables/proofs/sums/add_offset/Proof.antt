@@ -75,13 +75,13 @@ held c = toZ-ofZ w64 (c .before .before .before .before .args .sum .0) (record {
 add-t12 : tie.Need-add-t12
 add-t12 c =
     let s = c .before .before .before .before in
-    made-fits (s .args .offsets .now) (s .args .sum .0) _ _ _ (held c) (c .before .before .before .place-of .ensures) (s .pre .1 .1)
+    made-fits (s .args .offsets .now) (s .args .sum .0) _ _ _ (held c) (c .before .before .before .place-of .ensures) (s .pre .1 .1 .1)
     (c .before .before .offset .given)
 
 returns : tie.Need-returns
 returns c =
     let s = c .before .before .before .before in
-    promised (s .args .offsets .now) (s .args .sum .0) _ _ _ (held c) (c .before .before .before .place-of .ensures) (s .pre .1 .1)
+    promised (s .args .offsets .now) (s .args .sum .0) _ _ _ (held c) (c .before .before .before .place-of .ensures) (s .pre .1 .1 .1)
     (c .before .before .offset .given)
 
 pub add-offset-spec : {M : Type 1} → statement M

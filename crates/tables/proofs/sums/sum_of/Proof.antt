@@ -6,7 +6,7 @@ use native.Mathlib.Nat.{lt-of-le-of-lt, lt-of-lt-of-le, mul-le-mul-right}
 use native.Mathlib.Omega.{arith}
 use lib.ListN.{length, getD}
 use lib.IntN.{ℤ, pos, _+ℤ_}
-use lib.Pow.{shr-le}
+use lib.Pow.{pow-mono, shr-le}
 use lib.Signed.{mag}
 use mir.Syntax.{w64}
 use mir.Val.{toZ}
@@ -17,10 +17,10 @@ use Rattle.design.specs.Cut.{initialWord}
 use Rattle.design.proofs.LegalLaws.{limits}
 use Rattle.design.proofs.CutLaws.{initial-word-lt}
 use Rattle.tables.specs.declared.lookups.Lookup.{Lookup}
-use Rattle.tables.specs.Inputs.{Usable, Placed}
+use Rattle.tables.specs.Inputs.{Usable, Small}
 use Rattle.tables.specs.Lookup.{lookupOf, placeAt}
 use Rattle.tables.specs.Sum.{offsetFor}
-use Rattle.tables.proofs.LookupLaws.{place-is, place-lt, placed, looked}
+use Rattle.tables.proofs.LookupLaws.{lookup-small, place-is, place-lt, looked}
 use Rattle.tables.proofs.SumLaws.{Summing, start, step, finish}
 use Rattle.tables.proofs.sums.sum_of.Statement.{statement}
 use Rattle.tables.proofs.sums.sum_of.Tie as tie
@@ -31,11 +31,15 @@ units z = record { 0 = z }
 -- One table, which is read: what the addition of its offset asks, and what it comes to
 module _ {d : Design} {initial : List ℕ} {offsets : List ℤ} {x : ℕ} (u : Usable d (length initial) (length offsets)) (word : x < 2 ^ d .w)
     (i : ℕ) (more : i < d .m) {lookup : Lookup} (e : lookup ≡ lookupOf d i) {sum : ℤ} (s : Summing d initial offsets x sum i) where
-  asked : Placed lookup x × ((placeAt lookup x < length offsets) × (mag sum ≤ 2 ^ 40))
+  asked : Small lookup × ((x < 2 ^ 16) × ((placeAt lookup x < length offsets) × (mag sum ≤ 2 ^ 40)))
   asked =
-      let l = limits d (u .legal) in
-      rw e
-      (placed d l i x more word, (lt-of-lt-of-le (place-lt d l i x more word) (u .offsets-long), omega (arith, s .small, l .m-high)))
+      let l = limits d (u .legal) in (
+        lookup-small d l i lookup e (omega (arith, l .m-high)),
+        (
+          lt-of-lt-of-le word (pow-mono {j = 16} (l .widths .w-high)),
+          (rw e (lt-of-lt-of-le (place-lt d l i x more word) (u .offsets-long)), omega (arith, s .small, l .m-high)),
+        ),
+      )
 
   added : (next : TableUnits)
       → (next ≡ record { 0 = sum +ℤ getD offsets (placeAt lookup x) (pos 0) }) × (mag (next .0) ≤ mag sum + 2 ^ 32)
