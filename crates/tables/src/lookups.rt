@@ -18,7 +18,7 @@ pub struct Lookup {
     pub start: u32,
 }
 
-// The most tables that there are. Those at m and beyond are not looked up.
+// The tables by name, so that none of their numbers is read at a place that only the run tells. Those at m and beyond are not looked up.
 pub struct Lookups {
     pub first: Lookup,
     pub second: Lookup,
