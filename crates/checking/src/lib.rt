@@ -19,7 +19,7 @@ use tables::sums::sum_of;
 use tables::sums::sum_outside;
 use tables::sums::word_of;
 use values::OutputUnits;
-use values::exact::number_side;
+use values::exact::number_sides;
 use values::exact::value_side;
 use values::floor::pow2;
 use values::rows::Row;
@@ -32,8 +32,12 @@ fn is_faithful(row: Row, w: u32, q: u32, x: u64, y: OutputUnits) -> bool
     ensures { λ r. ⌜ r ≡ isFaithful row w q x (y .0) ⌝ }
 {
     let word = y.0 as u64;
+    if word == 0 {
+        return false;
+    }
     let exact = value_side(row, w, q, x);
-    0 < word && number_side(row, w, x, word - 1) < exact && exact < number_side(row, w, x, word + 1)
+    let sides = number_sides(row, w, x, word - 1, word + 1);
+    sides.low < exact && exact < sides.high
 }
 
 // A word whose sum is refused counts as unfaithful.

@@ -1,6 +1,6 @@
 -- Newton's method for the k-th root of a limit, of every degree k = suc j: a step from r comes to floor((j·r + floor(limit / r^j)) / k).
 -- From anywhere it comes to the root, rounded down, or above it; from above the root it comes closer.
-use mathlib.Core.Path.{_≡_, subst}
+use mathlib.Core.Path.{_≡_, refl, subst}
 use Prim.Native.Nat.{ℕ, suc, _+_, _-_, _*_, _/_, _^_, _≤_, _<_}
 use native.Mathlib.Nat.{pow-zero, pow-suc, one-mul, mul-le-mul-right, div-lt-iff-lt-mul, lt-div-mul-add, lt-of-not-le}
 use native.Mathlib.Decide.{decLe}
@@ -47,6 +47,9 @@ module _ (j : ℕ) where
 -- The same for squares.
 pub first-power : (r : ℕ) → r ^ 1 ≡ r
 first-power r = rw (pow-suc r 0, pow-zero r) (one-mul r)
+
+pub square : (n : ℕ) → n ^ 2 ≡ n * n
+square n = rw (pow-suc n 1, first-power n) refl
 
 pub square-above : (limit r : ℕ) → 0 < r → limit < ((r + limit / r) / 2 + 1) ^ 2
 square-above limit r h = rw (first-power r, one-mul r) at (newton-above 1 limit r (rw (first-power r) h))

@@ -5,7 +5,6 @@ ghost use Rattle.values.specs.Exact.{numberSide, valueSide};
 ghost use Rattle.values.specs.Exact as Exact;
 ghost use Rattle.values.specs.Inputs.{ExactInput, FloorInput};
 use crate::floor::pow2;
-use crate::floor::power;
 use crate::rows::Row;
 
 // The argument is c·X / 2^w: the exact value's k-th power is it where the function rises, and one over it where it falls.
@@ -24,13 +23,29 @@ pub fn den(row: Row, w: u32, x: u64) -> u64
     if row.rising { pow2(w) } else { row.c * x }
 }
 
-// inner: the number's side, n^k·den.
-pub fn number_side(row: Row, w: u32, x: u64, n: u64) -> u64
+// The sides of two numbers.
+pub struct Sides {
+    pub low: u64,
+    pub high: u64,
+}
+
+// inner: the numbers' sides, n^k·den, with one look at the degree for both.
+pub fn number_sides(row: Row, w: u32, x: u64, low: u64, high: u64) -> Sides
     requires { ⌜ ExactInput row w x ⌝ }
-    requires { ⌜ n ≤ 2 ^ 21 ⌝ }
-    ensures { λ r. ⌜ r ≡ numberSide row w x n ⌝ }
+    requires { ⌜ (low ≤ 2 ^ 21) × (high ≤ 2 ^ 21) ⌝ }
+    ensures { λ r. ⌜ r ≡ record { low = numberSide row w x low; high = numberSide row w x high } ⌝ }
 {
-    power(n, row.k) * den(row, w, x)
+    let divisor = den(row, w, x);
+    if row.k == 1 {
+        return Sides {
+            low: low * divisor,
+            high: high * divisor,
+        };
+    }
+    Sides {
+        low: low * low * divisor,
+        high: high * high * divisor,
+    }
 }
 
 // inner: the value's side, (2^k)^s·num, for s fraction bits.

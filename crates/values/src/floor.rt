@@ -18,19 +18,6 @@ pub fn pow2(n: u32) -> u64
     1 << n
 }
 
-// inner: n^k.
-pub fn power(n: u64, k: u32) -> u64
-    requires { ⌜ (n ≤ 2 ^ 21) × (k ≤ 3) ⌝ }
-    ensures { λ r. ⌜ r ≡ n ^ k ⌝ }
-{
-    match k {
-        0 => 1,
-        1 => n,
-        2 => n * n,
-        _ => n * n * n,
-    }
-}
-
 // The square root of the limit, rounded down, by Newton's method: a step from anywhere comes to the root or above it, and a step from
 // above comes closer. The first is taken from 2^p, so that its division is a shift.
 fn square_root(p: u32, limit: u64) -> u64

@@ -1,84 +1,84 @@
 -- `checking::is_faithful` meets its contract: its three tests, each tried where those before it hold, are the three of `isFaithful`.
-use mathlib.Core.Path.{_≡_, _∙_}
-use mathlib.Core.Bool.{Bool, true, false, _&&_}
-use mathlib.Core.Logic.{⊎-elim}
+use mathlib.Core.Path.{_≡_, ap, _∙_}
+use mathlib.Core.Bool.{false}
 use Prim.Native.Nat.{ℕ, _+_, _-_, _<_, _≤_}
+use native.Mathlib.Omega.{arith}
 use borrow.Author.Needs.{needs}
 use borrow.Author.Tests.{lt-ltb, le-ltb}
 use lib.Dec.{ltb}
 use Rattle.values.specs.declared.rows.Row.{Row}
+use Rattle.values.specs.declared.exact.Sides.{Sides}
 use Rattle.values.specs.Exact.{numberSide, valueSide}
 use Rattle.tables.specs.Faithful.{isFaithful}
 use Rattle.checking.proofs.is_faithful.Statement.{statement}
 use Rattle.checking.proofs.is_faithful.Tie as tie
 
--- the first two tests
-abbrev low : Row → ℕ → ℕ → ℕ → ℕ → Bool
-low row w q X y = ltb 0 y && ltb (numberSide row w X (y - 1)) (valueSide row w q X)
-
 module _ (row : Row) (w q X y : ℕ) where
-  low-zero : y ≤ 0 → ltb 0 y ≡ low row w q X y
-  low-zero h = rw (le-ltb 0 y h)
+  zero-word : y ≡ 0 → false ≡ isFaithful row w q X y
+  unfolding isFaithful
+  zero-word e = rw (e, le-ltb 0 0 (omega arith))
 
-  low-tried : (exact below : ℕ) → exact ≡ valueSide row w q X → below ≡ numberSide row w X (y - 1) → 0 < y
-      → ltb below exact ≡ low row w q X y
-  low-tried exact below exact-is below-is h = rw (lt-ltb 0 y h, exact-is, below-is)
-
-  -- and the third
-  module _ (test : Bool) (test-is : test ≡ low row w q X y) where
-    refuted : test ≡ false → test ≡ isFaithful row w q X y
+  module _ (exact low high : ℕ) (exact-is : exact ≡ valueSide row w q X) (low-is : low ≡ numberSide row w X (y - 1))
+      (high-is : high ≡ numberSide row w X (y + 1)) (positive : 0 < y) where
+    too-high : exact ≤ low → false ≡ isFaithful row w q X y
     unfolding isFaithful
-    refuted e = rw (← test-is, e)
+    too-high h = rw (← exact-is, ← low-is, lt-ltb 0 y positive, le-ltb low exact h)
 
-    tried : (exact above : ℕ) → exact ≡ valueSide row w q X → above ≡ numberSide row w X (y + 1) → test ≡ true
-        → ltb exact above ≡ isFaithful row w q X y
+    near : low < exact → ltb exact high ≡ isFaithful row w q X y
     unfolding isFaithful
-    tried exact above exact-is above-is e = rw (← test-is, e, exact-is, above-is)
+    near h = rw (← exact-is, ← low-is, ← high-is, lt-ltb 0 y positive, lt-ltb low exact h)
 
 cast-word : tie.Need-cast-word
 cast-word c = search needs
 
+returns : tie.Need-returns
+returns c = zero-word _ _ _ _ _ (c .if1 .taken)
+
 value-side-requires : tie.Need-value-side-requires
 value-side-requires c κs = search needs
 
-sub-number-side : tie.Need-sub-number-side
-sub-number-side c = search needs
+sub-number-sides : tie.Need-sub-number-sides
+sub-number-sides c = search needs
 
-number-side-requires : tie.Need-number-side-requires
-number-side-requires c κs = search needs
+add-number-sides : tie.Need-add-number-sides
+add-number-sides c = search needs
 
-add-number-side : tie.Need-add-number-side
-add-number-side c = search needs
+number-sides-requires : tie.Need-number-sides-requires
+number-sides-requires c κs = search needs
 
-number-side-requires-2 : tie.Need-number-side-requires-2
-number-side-requires-2 c κs = search needs
+-- the word is not 0, and the two sides are those of its neighbours
+positive : (c : tie.Else1) → 0 < c .before .before .args .y .0
+positive c = omega (arith, c .if1 .left)
 
--- what the first two tests come to
-first-two : (c : tie.Joined1) → let a = c .before .before .before .args in
-    c .if1 .if2 ≡ low (a .row) (a .w) (a .q) (a .x) (a .y .0)
-first-two c =
-    ⊎-elim
-    (λ t. t .2 ∙ low-tried _ _ _ _ _ _ _ (c .before .value-side .ensures) (t .1 .ensures) (t .0 .taken))
-    (λ t. t .1 ∙ low-zero _ _ _ _ _ (t .0 .left))
-    (c .if1 .came)
+low-side : (c : tie.After-number-sides) → let a = c .before .before .before .before .args in
+    c .number-sides .result .low ≡ numberSide (a .row) (a .w) (a .x) (a .y .0 - 1)
+low-side c = ap (λ (s : Sides). s .low) (c .number-sides .ensures)
 
-returns : tie.Need-returns
-returns c =
-    let j = c .before .before in
-    tried _ _ _ _ _ _ (first-two j) _ _ (j .before .value-side .ensures) (c .number-side2 .ensures) (c .before .if2 .taken)
+high-side : (c : tie.After-number-sides) → let a = c .before .before .before .before .args in
+    c .number-sides .result .high ≡ numberSide (a .row) (a .w) (a .x) (a .y .0 + 1)
+high-side c = ap (λ (s : Sides). s .high) (c .number-sides .ensures)
 
 returns-2 : tie.Need-returns-2
-returns-2 c = refuted _ _ _ _ _ _ (first-two (c .before)) (c .if2 .left)
+returns-2 c =
+    let n = c .before .before .before in
+    let v = n .before in
+    near _ _ _ _ _ _ _ _ (v .value-side .ensures) (low-side n) (high-side n) (positive (v .before)) (c .before .if2 .taken)
+
+returns-3 : tie.Need-returns-3
+returns-3 c =
+    let n = c .before .before in
+    let v = n .before in
+    le-ltb _ _ (c .if2 .left) ∙ too-high _ _ _ _ _ _ _ _ (v .value-side .ensures) (low-side n) (high-side n) (positive (v .before)) (c .if2 .left)
 
 pub is-faithful-spec : {M : Type 1} → statement M
 is-faithful-spec =
     tie.close
     (tie.spec
     cast-word
-    value-side-requires
-    sub-number-side
-    number-side-requires
-    add-number-side
-    number-side-requires-2
     returns
-    returns-2)
+    value-side-requires
+    sub-number-sides
+    add-number-sides
+    number-sides-requires
+    returns-2
+    returns-3)

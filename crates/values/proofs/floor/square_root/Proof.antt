@@ -1,13 +1,12 @@
 -- `values::floor::square_root` meets its contract. The invariant: the root, rounded down, is not above what the steps have come to.
 use Prim.Native.Nat.{ℕ, zero, suc, _+_, _*_, _/_, _^_, _≤_, _<_}
-use mathlib.Core.Path.{_≡_, refl}
-use native.Mathlib.Nat.{pow-suc, two-pow-succ, div-lt-iff-lt-mul, lt-of-lt-of-le, le-of-lt, mul-le-mul-right}
+use native.Mathlib.Nat.{two-pow-succ, div-lt-iff-lt-mul, lt-of-lt-of-le, le-of-lt, mul-le-mul-right}
 use native.Mathlib.Numerals.{add-one}
 use native.Mathlib.Omega.{arith}
 use lib.Pow.{pow-mono, pow-pos}
 use Rattle.values.specs.Inputs.{RootInput}
 use Rattle.values.proofs.FloorLaws.{root-found}
-use Rattle.values.proofs.NewtonLaws.{first-power, square-above, square-closer}
+use Rattle.values.proofs.NewtonLaws.{square, square-above, square-closer}
 use Rattle.values.proofs.floor.square_root.Statement.{statement}
 use Rattle.values.proofs.floor.square_root.Tie as tie
 
@@ -20,9 +19,6 @@ Inv-loop p limit root₀ root = Inv limit root
 
 abbrev μ-loop : tie.MeasureT-loop
 μ-loop p limit root₀ root = root
-
-square : (n : ℕ) → n ^ 2 ≡ n * n
-square n = rw (pow-suc n 1, first-power n) refl
 
 -- The first step, from 2^p.
 power-small : (p : ℕ) → p ≤ 20 → 2 ^ p ≤ 2 ^ 20
