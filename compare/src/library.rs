@@ -233,7 +233,7 @@ pub fn check(d: &Design, initial: &[u32], offsets: &[i32]) -> Result<Checked, u8
         )
     };
     let first = settled(refusal, first, UNTOUCHED)?;
-    // An accepted design has w ≤ 16; "2^w if there is none".
+    // An accepted design has w ≤ 16; 2^w stands for none.
     if first == 1 << d.w {
         return Ok(Checked::Faithful);
     }
@@ -315,9 +315,13 @@ impl Reading {
 }
 
 pub fn report(line: &[u8]) -> String {
-    let mut text = [0; 96];
+    let mut text = [UNTOUCHED as u8; 96];
     // SAFETY: a slice with its length to read, and 96 bytes to write.
     let length = unsafe { c::dorykleth_report(line.as_ptr(), line.len(), text.as_mut_ptr()) };
-    let text = text.get(..length).unwrap_or(&text);
-    String::from_utf8_lossy(text).into_owned()
+    match text.split_at_checked(length) {
+        Some((text, zeros)) if zeros.iter().all(|&byte| byte == 0) => {
+            String::from_utf8_lossy(text).into_owned()
+        }
+        _ => format!("length {length}, and all 96 bytes: {text:?}"),
+    }
 }

@@ -175,14 +175,22 @@ impl Random {
         }
     }
 
-    /// An admitted design, and how many legal ones were tried to find it.
-    pub fn admitted(&mut self, kind: u32) -> (Design, u64) {
-        let mut tried = 0;
+    /// An admitted design.
+    pub fn admitted(&mut self, kind: u32) -> Design {
         loop {
             let d = self.legal(kind);
-            tried += 1;
             if is_admitted(&d) {
-                return (d, tried);
+                return d;
+            }
+        }
+    }
+
+    /// A legal design with at most 512 words.
+    pub fn small(&mut self, kind: u32) -> Design {
+        loop {
+            let d = self.legal(kind);
+            if d.w <= 9 {
+                return d;
             }
         }
     }

@@ -41,7 +41,7 @@ impl Comparison {
         for kind in 0..=4 {
             let mut stored = 0;
             while stored < 220 {
-                let (d, _) = self.random.admitted(kind);
+                let d = self.random.admitted(kind);
                 if lines_of(&d) < 700 || (stored % 20 == 0 && lines_of(&d) < 3000) {
                     self.stored_set(&d);
                     stored += 1;

@@ -18,7 +18,7 @@ pub struct Comparison {
 type Part = fn(&mut Comparison);
 
 /// The parts of the comparison, each with a seed of its own.
-const PARTS: [(&str, Part); 12] = [
+const PARTS: [(&str, Part); 13] = [
     ("values", Comparison::values),
     ("designs", Comparison::designs),
     ("fills", Comparison::fills),
@@ -26,6 +26,10 @@ const PARTS: [(&str, Part); 12] = [
     ("filled sets", Comparison::filled_sets),
     ("other sets", Comparison::other_sets),
     ("long batches", Comparison::long_batches),
+    (
+        "batches at the ends of the range",
+        Comparison::batches_at_range_ends,
+    ),
     ("example", Comparison::example),
     ("stored sets", Comparison::stored_sets),
     ("written lines", Comparison::written_lines),

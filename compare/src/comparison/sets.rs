@@ -152,7 +152,7 @@ impl Comparison {
     pub fn filled_sets(&mut self) {
         for kind in 0..=4 {
             for _ in 0..300 {
-                let (d, _) = self.random.admitted(kind);
+                let d = self.random.admitted(kind);
                 self.filled_set(&d);
             }
             for _ in 0..4 {
@@ -254,7 +254,7 @@ impl Comparison {
     pub fn long_batches(&mut self) {
         for kind in 0..=4 {
             for _ in 0..40 {
-                let (d, _) = self.random.admitted(kind);
+                let d = self.random.admitted(kind);
                 let mut tables = self.random.filled(&d);
                 if self.random.once_in(2) {
                     self.random.damage(&d, &mut tables);
@@ -273,6 +273,27 @@ impl Comparison {
         let place = self.random.place(words.len());
         words[place] = self.random.bad_word(d.w);
         self.calls.batch(d, tables, &words, &output);
+    }
+
+    /// Sets whose lowest or highest sum lies at an end of the range or next to it, and sets whose
+    /// initial entries are just as far from an end as all offsets together can reach, or one less.
+    pub fn batches_at_range_ends(&mut self) {
+        for round in 0..40 {
+            let d = self.random.small(round % 5);
+            let size = self.random.within(1..=500);
+            let (reach, limit) = (d.m * size, 1 << (d.q + d.g + 2));
+            let near = [0, size, reach, limit - reach, limit - size, limit];
+            for entry in near
+                .into_iter()
+                .flat_map(|n: u32| n.saturating_sub(2)..=n + 1)
+            {
+                let (initial, offsets) = lengths(&d);
+                let ends = [-(size as i32), size as i32 - 1, 0];
+                let initial = vec![entry; initial];
+                let offsets = (0..offsets).map(|_| self.random.pick(&ends)).collect();
+                self.long_batch(&d, &Tables { initial, offsets });
+            }
+        }
     }
 
     /// The document's own example, exhaustively: each initial entry of G within 64 of its own.

@@ -1,7 +1,7 @@
 //! "Evaluating".
 
 use super::design::{Design, Legal};
-use super::refusal;
+use super::{fitting, refusal, Signed};
 
 /// One offset table, ready to be looked up.
 #[derive(Clone, Copy)]
@@ -69,35 +69,34 @@ impl<'a, const M: usize> Set<'a, M> {
 
     /// Y: the initial entry plus the m offsets, each offset signed.
     #[inline(always)]
-    fn sum(&self, x: u32) -> i64 {
+    fn sum(&self, x: u32) -> Signed {
         let initial = self.initial[(x >> self.low) as usize];
         let offsets = self.tables.iter().map(|table| {
             let place = table.place(x);
-            i64::from(table.entries[place as usize])
+            Signed::from(table.entries[place as usize])
         });
-        i64::from(initial) + offsets.sum::<i64>()
+        Signed::from(initial) + offsets.sum::<Signed>()
     }
 
     /// The same for all x of one initial entry, which share A_i in every table: a sum for each
     /// word, given as its last w-alpha bits.
     #[inline(always)]
-    pub fn sums_of(&self, number: u32) -> impl Fn(u32) -> i64 + use<'a, '_, M> {
-        let initial = i64::from(self.initial[number as usize]);
+    pub fn sums_of(&self, number: u32) -> impl Fn(u32) -> Signed + use<'a, '_, M> {
+        let initial = Signed::from(self.initial[number as usize]);
         let rows = self.tables.map(|table| table.row(number << self.low));
         move |rest| {
             let offsets = rows.iter().zip(&self.tables).map(|(row, table)| {
                 let place = table.b(rest);
-                i64::from(row[place as usize])
+                Signed::from(row[place as usize])
             });
-            initial + offsets.sum::<i64>()
+            initial + offsets.sum::<Signed>()
         }
     }
 
     /// "If 0 ≤ Y < 2^(P+2) the word is floor(Y / 2^g)"; else refusal 13.
     #[inline(always)]
-    pub fn word(&self, y: i64) -> Result<u32, u8> {
-        // A negative Y has its high bits set as well.
-        if y as u64 >> (self.p + 2) == 0 {
+    pub fn word(&self, y: Signed) -> Result<u32, u8> {
+        if (0..1 << (self.p + 2)).contains(&y) {
             Ok((y >> self.g) as u32)
         } else {
             Err(refusal::RANGE)
@@ -122,11 +121,11 @@ impl<'a, const M: usize> Set<'a, M> {
     /// Whether no word at all can have its Y out of range, whichever entries come together.
     fn always_in_range(&self) -> bool {
         let (least, greatest) = extremes(self.initial);
-        let (mut least, mut greatest) = (i64::from(least), i64::from(greatest));
+        let (mut least, mut greatest) = (Signed::from(least), Signed::from(greatest));
         for table in &self.tables {
             let (low, high) = extremes(table.entries);
-            least += i64::from(low);
-            greatest += i64::from(high);
+            least += Signed::from(low);
+            greatest += Signed::from(high);
         }
         least >= 0 && self.word(greatest).is_ok()
     }
@@ -164,17 +163,21 @@ fn extremes<T: Copy + Ord + Default>(entries: &[T]) -> (T, T) {
         })
 }
 
-/// Y; refusals 1 to 10, 12.
+/// Y with A, A_i and B_i worked out as the document has them; refusals 1 to 10, 12.
 pub fn sum(d: &Design, initial: &[u32], offsets: &[i32], x: u32) -> Result<i64, u8> {
     let legal = Legal::new(d)?;
     legal.fits(initial, offsets)?;
     legal.function.accepts(x)?;
-    Ok(match legal.m {
-        1 => Set::<1>::new(&legal, initial, offsets).sum(x),
-        2 => Set::<2>::new(&legal, initial, offsets).sum(x),
-        3 => Set::<3>::new(&legal, initial, offsets).sum(x),
-        _ => Set::<4>::new(&legal, initial, offsets).sum(x),
-    })
+    let w = legal.function.w;
+    let number = x / (1 << (w - legal.alpha));
+    let mut y = Signed::from(initial[number as usize]);
+    for table in legal.tables() {
+        let a = x / (1 << (w - table.a));
+        let b = x / (1 << table.p) % (1 << table.b);
+        let entry = a * (1 << table.b) + b;
+        y += Signed::from(offsets[table.start + entry as usize]);
+    }
+    Ok(fitting(y))
 }
 
 /// The word of x; refusals 1 to 10, 12, 13.

@@ -3,7 +3,7 @@
 use super::design::{Design, Legal, Table};
 use super::function::Function;
 use super::slopes::{segment, slopes};
-use super::{refusal, Int};
+use super::{fitting, refusal, Int};
 
 /// Writes the tables of an admitted design; refusals 1 to 11. Elements beyond the set stay.
 pub fn fill(d: &Design, initial: &mut [u32], offsets: &mut [i32]) -> Result<(), u8> {
@@ -28,7 +28,7 @@ fn fill_initial(legal: &Legal, entries: &mut [u32]) {
     for (number, entry) in entries.iter_mut().enumerate() {
         let (s, e) = segment(function, legal.alpha, number);
         let middle = function.floor(s) + function.floor(e);
-        *entry = ((middle + rounding) / 2 + half) as u32;
+        *entry = fitting((middle + rounding) / 2 + half);
     }
 }
 
@@ -47,7 +47,7 @@ fn fill_segment(rises: bool, slope: Int, segment: &mut [i32]) {
     let (below, above) = segment.split_at_mut(segment.len() / 2);
     let mut product = slope;
     for (negative, positive) in below.iter_mut().rev().zip(above) {
-        let t = (product >> 18) as i32;
+        let t: i32 = fitting(product >> 18);
         (*negative, *positive) = if rises { (-1 - t, t) } else { (t, -1 - t) };
         product += 2 * slope;
     }

@@ -1,6 +1,6 @@
 //! "Functions and their exact values": the five kinds, L(X) and what faithful means.
 
-use super::{refusal, Int};
+use super::{fitting, refusal, Int};
 
 /// The three shapes that the defining inequalities have.
 #[derive(Clone, Copy, PartialEq, Eq, Debug)]
@@ -97,5 +97,5 @@ impl Function {
 pub fn value(kind: u32, w: u32, q: u32, g: u32, x: u32) -> Result<i64, u8> {
     let function = Function::new(kind, w, q, g)?;
     function.accepts(x)?;
-    Ok(function.floor(function.argument(x)) as i64)
+    Ok(fitting(function.floor(function.argument(x))))
 }

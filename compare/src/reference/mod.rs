@@ -1,12 +1,13 @@
 //! Document 01: multipartite tables for reciprocal, root and reciprocal root.
 //!
 //! Names are the document's: kind, w, q, g, alpha, m, a, b, P, hi, lo, budget. `Int` is the type
-//! of every intermediate product and comes from the module that includes this one.
+//! of every intermediate product, `Signed` that of sums; both come from the module that includes this
+//! one.
 
 // Casts from `Int` change nothing in one of its two types.
 #![allow(clippy::unnecessary_cast)]
 
-pub use super::Int;
+pub use super::{Int, Signed};
 
 mod check;
 mod design;
@@ -28,3 +29,13 @@ pub use function::value;
 pub use lines::{write_line, Reading};
 pub use report::report;
 pub use slopes::budget;
+
+/// The same number in a narrower type. Document 01's numbers fit; if one did not, nothing should
+/// go on as if it did.
+#[inline]
+fn fitting<T, U: TryFrom<T>>(n: T) -> U
+where
+    U::Error: std::fmt::Debug,
+{
+    U::try_from(n).expect("a number of document 01 fits its type")
+}

@@ -2,7 +2,7 @@
 
 use super::design::{Design, Legal, Table};
 use super::function::Function;
-use super::Int;
+use super::{fitting, Int};
 
 /// The first and last X of the segment with number `number` when the top `bits` bits of x number
 /// the segments.
@@ -51,5 +51,5 @@ impl Legal {
 
 /// The budget; refusals 1 to 9.
 pub fn budget(d: &Design) -> Result<u64, u8> {
-    Ok(Legal::new(d)?.budget() as u64)
+    Ok(fitting(Legal::new(d)?.budget()))
 }

@@ -344,6 +344,20 @@ fn every_word_of_three_tables_is_faithful() {
     }
 }
 
+/// Words are looked up by shifts and masks; the sum is worked out as the document has it.
+#[test]
+fn every_word_is_that_of_the_sum() {
+    for kind in 0..5 {
+        let d = three_tables(kind);
+        let (initial, offsets) = filled(&d);
+        for x in 0..1 << d.w {
+            let y = sum(&d, &initial, &offsets, x).expect("a sum");
+            let word = u32::try_from(y >> d.g);
+            assert_eq!(evaluate(&d, &initial, &offsets, x).ok(), word.ok());
+        }
+    }
+}
+
 /// Trap: D_i without 2^(p_i). Each table's share of the budget is D_i times a whole number.
 #[test]
 fn budget_shares_grow_with_p() {
