@@ -30,24 +30,27 @@ fn g() -> Design {
     of_one_table(8, 5, 3, 3)
 }
 
-fn line(label: &[u8], initial: &[u32], offsets: &[i32], number: usize) {
+fn show_line(label: &[u8], initial: &[u32], offsets: &[i32], number: usize) {
     io::write_all(STDOUT_FILENO, label);
-    print_line(g(), initial, offsets, number);
+    if !print_line(g(), initial, offsets, number) {
+        io::write_all(STDOUT_FILENO, b"none\n");
+    }
 }
 
 // The check of a filled set with its initial entry 0 changed.
-fn changed(label: &[u8], filled: [u32; 32], offsets: &[i32], first: u32) {
+fn check_changed(label: &[u8], filled: [u32; 32], offsets: &[i32], first: u32) {
     let mut initial = filled;
     initial[0] = first;
     io::write_all(STDOUT_FILENO, label);
     print_checked(check(g(), &initial, offsets));
 }
 
-fn lines(initial: &[u32], offsets: &[i32]) {
-    line(b"G's line 1: ", initial, offsets, 1);
-    line(b"G's line 33: ", initial, offsets, 33);
-    line(b"G's line 40: ", initial, offsets, 40);
-    line(b"G's line 97: ", initial, offsets, 97);
+fn show_lines(initial: &[u32], offsets: &[i32]) {
+    show_line(b"G's line 1: ", initial, offsets, 1);
+    show_line(b"G's line 33: ", initial, offsets, 33);
+    show_line(b"G's line 40: ", initial, offsets, 40);
+    show_line(b"G's line 97: ", initial, offsets, 97);
+    show_line(b"G's line 98: ", initial, offsets, 98);
 }
 
 // G is admitted; if it were not, the lines would be of zeros.
@@ -55,9 +58,9 @@ fn filled_set() {
     let mut initial = [0u32; 32];
     let mut offsets = [0i32; 64];
     fill(g(), &mut initial, &mut offsets);
-    changed(b"G, initial 0 changed to 4046: ", initial, &offsets, 4046);
-    changed(b"G, initial 0 changed to 4045: ", initial, &offsets, 4045);
-    lines(&initial, &offsets);
+    check_changed(b"G, initial 0 changed to 4046: ", initial, &offsets, 4046);
+    check_changed(b"G, initial 0 changed to 4045: ", initial, &offsets, 4045);
+    show_lines(&initial, &offsets);
 }
 
 fn print_passed() {
@@ -69,7 +72,7 @@ fn print_refused(cause: Cause) {
 }
 
 // Whether a value is turned down.
-fn value(label: &[u8], kind: u32, w: u32, q: u32, g: u32, x: u32) {
+fn show_value(label: &[u8], kind: u32, w: u32, q: u32, g: u32, x: u32) {
     io::write_all(STDOUT_FILENO, label);
     match values::value(kind, w, q, g, x) {
         Valued::Value(_) => print_passed(),
@@ -78,7 +81,7 @@ fn value(label: &[u8], kind: u32, w: u32, q: u32, g: u32, x: u32) {
 }
 
 // Whether a design of 16 bits, of which 8 are initial, is turned down.
-fn size(label: &[u8], a: u32, b: u32) {
+fn show_size(label: &[u8], a: u32, b: u32) {
     io::write_all(STDOUT_FILENO, label);
     match design::size(of_one_table(16, 8, a, b)) {
         Measured::Is(_) => print_passed(),
@@ -87,13 +90,13 @@ fn size(label: &[u8], a: u32, b: u32) {
 }
 
 fn refusals() {
-    value(b"q 16, g 4: ", 0, 8, 16, 4, 0);
-    value(b"q 16, g 5: ", 0, 8, 16, 5, 0);
-    size(b"a_0 + b_0 = 12: ", 4, 8);
-    size(b"a_0 + b_0 = 13: ", 5, 8);
-    value(b"kind 5, w 5: ", 5, 5, 8, 4, 0);
-    value(b"w 8, x 255: ", 0, 8, 8, 4, 255);
-    value(b"w 8, x 256: ", 0, 8, 8, 4, 256);
+    show_value(b"q 16, g 4: ", 0, 8, 16, 4, 0);
+    show_value(b"q 16, g 5: ", 0, 8, 16, 5, 0);
+    show_size(b"a_0 + b_0 = 12: ", 4, 8);
+    show_size(b"a_0 + b_0 = 13: ", 5, 8);
+    show_value(b"kind 5, w 5: ", 5, 5, 8, 4, 0);
+    show_value(b"w 8, x 255: ", 0, 8, 8, 4, 255);
+    show_value(b"w 8, x 256: ", 0, 8, 8, 4, 256);
 }
 
 fn main() {

@@ -1,5 +1,5 @@
-// Whether the sums of a set can be out of range at all. One pass over the tables tells it for most sets, those that the fill writes
-// among them, and saves a large batch the sums of its first pass.
+// Whether the sums of a set can be out of range at all. Where one pass over the tables tells that they cannot, a large batch is saved the
+// sums of its first pass.
 ghost use mathlib.Core.Path.{_≡_};
 ghost use mathlib.Core.Bool.{true};
 ghost use Prim.Native.Nat.{_≤_};

@@ -1,4 +1,5 @@
--- What stands behind the pointer of a call afterwards: the answer, or where it was refused what stood there before.
+-- What stands behind the pointer of a call afterwards: the answer, or where it was refused what stood there before; a batch's place is
+-- stored in either case.
 use mathlib.Core.List.{List, [], _∷_, _++_}
 use Prim.Native.Nat.{ℕ, _^_}
 use lib.ListN.{length}

@@ -7,12 +7,12 @@ use native.Mathlib.Nat.{pow-suc, lt-of-not-le}
 use native.Mathlib.Numerals.{add-one}
 use native.Mathlib.Decide.{decLe}
 use native.Mathlib.Omega.{arith}
-use borrow.Author.Tests.{lt-ltb, le-ltb, ne-eqb}
-use lib.Dec.{ltb, eqb}
+use borrow.Author.Tests.{lt-ltb, le-ltb, ltb-true, ltb-false, leb-true, leb-false, ne-eqb}
+use lib.Dec.{ltb, leb, eqb}
 use lib.ListN.{length, length-append}
 use Rattle.refusal.specs.Checks.{outside}
 use Rattle.word_text.specs.declared.ReadWord.{ReadWord}
-use Rattle.word_text.specs.Decimal.{allDigits, isDecimal, numberIn, wordIn, atMostLimit, readingOf}
+use Rattle.word_text.specs.Decimal.{allDigits, isDecimal, numberIn, wordIn, atMostLimit, readingOf, afterCharacter, wordOf}
 
 -- A number of a digit d in front of n, one place further up
 one-place-up : (d p n c : ℕ) → d * (p * 10) + (10 * n + c) ≡ 10 * (d * p + n) + c
@@ -77,19 +77,30 @@ module _ (t : List ℕ) (c : ℕ) where
       rw (digits-next c t, number-next c t, length-append t (c ∷ []), ne-eqb (length t + 1) 0 (λ none. omega arith))
 
   -- No word so far: no word.
-  pub no-word-yet : 2 ^ 32 ≤ readingOf t .value → record { value = 2 ^ 32; begun = true } ≡ readingOf (t ++ c ∷ [])
+  no-word-yet : 2 ^ 32 ≤ readingOf t .value → record { value = 2 ^ 32; begun = true } ≡ readingOf (t ++ c ∷ [])
   unfolding readingOf
   no-word-yet h = rw (reading-next, kept-at-limit (allDigits t) (not (outside 48 57 c)) (numberIn t) (c - 48) h)
 
   -- A character that is no digit
-  pub other-character : outside 48 57 c ≡ true → record { value = 2 ^ 32; begun = true } ≡ readingOf (t ++ c ∷ [])
+  other-character : outside 48 57 c ≡ true → record { value = 2 ^ 32; begun = true } ≡ readingOf (t ++ c ∷ [])
   other-character e = rw (reading-next, e, kept-other (allDigits t))
 
   -- One digit more
-  pub digit-more : readingOf t .value < 2 ^ 32 → outside 48 57 c ≡ false
+  digit-more : readingOf t .value < 2 ^ 32 → outside 48 57 c ≡ false
       → record { value = atMostLimit (10 * readingOf t .value + (c - 48)); begun = true } ≡ readingOf (t ++ c ∷ [])
   unfolding readingOf
   digit-more h e = rw (reading-next, e, kept-growing (allDigits t) (numberIn t) (c - 48) h)
+
+  by-tests : (full other : Bool) → leb (2 ^ 32) (readingOf t .value) ≡ full → outside 48 57 c ≡ other
+      → afterCharacter (readingOf t) c ≡ readingOf (t ++ c ∷ [])
+  unfolding afterCharacter
+  by-tests true other e f = rw e (no-word-yet (leb-true _ _ e))
+  by-tests false true e f = rw (e, f) (other-character f)
+  by-tests false false e f = rw (e, f) (digit-more (leb-false _ _ e) f)
+
+  -- What is kept of a line and one character more is what is kept of the longer line.
+  pub reading-goes-on : afterCharacter (readingOf t) c ≡ readingOf (t ++ c ∷ [])
+  reading-goes-on = by-tests _ _ refl refl
 
 -- What is kept tells whether the line is a word: it is begun, and its value is below the limit.
 word-if : Bool → Bool → ℕ → ReadWord
@@ -109,14 +120,23 @@ none-kept true false n h = refl
 none-kept true true n h = rw (le-ltb n (2 ^ 32) (still-from n h))
 
 module _ (t : List ℕ) where
-  pub is-word : readingOf t .begun ≡ true → readingOf t .value < 2 ^ 32 → ReadWord.Word (readingOf t .value) ≡ wordIn t
+  is-word : readingOf t .begun ≡ true → readingOf t .value < 2 ^ 32 → ReadWord.Word (readingOf t .value) ≡ wordIn t
   unfolding readingOf wordIn isDecimal word-if
   is-word e h = word-kept (not (eqb (length t) 0)) (allDigits t) (numberIn t) e h
 
-  pub no-character : readingOf t .begun ≡ false → ReadWord.NotAWord ≡ wordIn t
+  no-character : readingOf t .begun ≡ false → ReadWord.NotAWord ≡ wordIn t
   unfolding readingOf wordIn isDecimal
   no-character e = rw e
 
-  pub no-word : 2 ^ 32 ≤ readingOf t .value → ReadWord.NotAWord ≡ wordIn t
+  no-word : 2 ^ 32 ≤ readingOf t .value → ReadWord.NotAWord ≡ wordIn t
   unfolding readingOf wordIn isDecimal word-if
   no-word h = none-kept (not (eqb (length t) 0)) (allDigits t) (numberIn t) h
+
+  by-kept : (begun below : Bool) → readingOf t .begun ≡ begun → ltb (readingOf t .value) (2 ^ 32) ≡ below → wordOf (readingOf t) ≡ wordIn t
+  unfolding wordOf
+  by-kept true true e f = rw (e, f) (is-word e (ltb-true _ _ f))
+  by-kept true false e f = rw (e, f) (no-word (ltb-false _ _ f))
+  by-kept false below e f = rw e (no-character e)
+
+  pub reading-tells : wordOf (readingOf t) ≡ wordIn t
+  reading-tells = by-kept _ _ refl refl

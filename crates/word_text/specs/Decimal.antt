@@ -1,8 +1,8 @@
 -- A line as an input word: one digit 0-9 or more and nothing else, which stand for a number below 2^32.
-use mathlib.Core.Bool.{Bool, true, cond, not, _&&_}
+use mathlib.Core.Bool.{Bool, true, cond, not, _&&_, _||_}
 use mathlib.Core.List.{List, [], _∷_}
 use Prim.Native.Nat.{ℕ, _+_, _-_, _*_, _^_}
-use lib.Dec.{ltb, eqb}
+use lib.Dec.{ltb, leb, eqb}
 use lib.ListN.{length}
 use Rattle.refusal.specs.Checks.{outside}
 use Rattle.word_text.specs.declared.ReadWord.{ReadWord}
@@ -30,6 +30,19 @@ wordIn t = cond (isDecimal t && ltb (numberIn t) (2 ^ 32)) (ReadWord.Word (numbe
 unfoldable pub atMostLimit : ℕ → ℕ
 atMostLimit n = cond (ltb n (2 ^ 32)) n (2 ^ 32)
 
--- What is kept of a line while it is read: the number of digits alone, 2^32 where another character came, and whether any came.
+-- What is kept of a line while it is read: the number, where there are digits alone, 2^32 where another character came, and whether any
+-- character came. The proofs show that the two definitions below lead from there to what the whole line is.
 unfoldable pub readingOf : List ℕ → WordText
 readingOf t = record { value = cond (allDigits t) (atMostLimit (numberIn t)) (2 ^ 32); begun = not (eqb (length t) 0) }
+
+-- What is kept with one character more: once no word, it stays none.
+unfoldable pub afterCharacter : WordText → ℕ → WordText
+afterCharacter s c =
+    record {
+      value = cond (leb (2 ^ 32) (s .value) || outside 48 57 c) (2 ^ 32) (atMostLimit (10 * s .value + (c - 48)));
+      begun = true;
+    }
+
+-- What a line is, by what is kept of it
+unfoldable pub wordOf : WordText → ReadWord
+wordOf s = cond (s .begun && ltb (s .value) (2 ^ 32)) (ReadWord.Word (s .value)) ReadWord.NotAWord

@@ -1,8 +1,7 @@
 // An input word in decimal, read a character at a time, so that a line of any length needs no buffer.
 ghost use mathlib.Core.Path.{_≡_};
-ghost use mathlib.Core.List.{List, [], _∷_, _++_};
-ghost use Prim.Native.Nat.{ℕ};
-ghost use Rattle.word_text.specs.Decimal.{atMostLimit, wordIn, readingOf};
+ghost use mathlib.Core.List.{[]};
+ghost use Rattle.word_text.specs.Decimal.{atMostLimit, readingOf, afterCharacter, wordOf};
 
 // What a line is: an input word, or something else.
 pub enum ReadWord {
@@ -42,7 +41,7 @@ impl WordText {
 
     // The line with one more character. Below the limit, ten times the value and a digit are far below 2^64.
     pub fn with(self, c: u8) -> WordText
-        ensures { λ r. ⌜ ((t : List ℕ) → self ≡ readingOf t → r ≡ readingOf (t ++ c ∷ [])) ⌝ }
+        ensures { λ r. ⌜ r ≡ afterCharacter self c ⌝ }
     {
         if LIMIT <= self.value {
             return WordText {
@@ -64,7 +63,7 @@ impl WordText {
 
     // What the whole line is.
     pub fn word(self) -> ReadWord
-        ensures { λ r. ⌜ ((t : List ℕ) → self ≡ readingOf t → r ≡ wordIn t) ⌝ }
+        ensures { λ r. ⌜ r ≡ wordOf self ⌝ }
     {
         if self.begun && self.value < LIMIT {
             return ReadWord::Word(self.value as u32);

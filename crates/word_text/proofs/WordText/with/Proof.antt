@@ -1,19 +1,22 @@
--- `WordText::with` meets its contract: one law for each of its three answers.
+-- `WordText::with` meets its contract: its two tests are those of the definition.
 use native.Mathlib.Omega.{arith}
 use borrow.Author.Needs.{needs}
+use borrow.Author.Tests.{le-leb, lt-leb}
 use Rattle.refusal.proofs.Checks.{inside, tested}
-use Rattle.word_text.proofs.DecimalLaws.{no-word-yet, other-character, digit-more}
+use Rattle.word_text.specs.Decimal.{afterCharacter}
 use Rattle.word_text.proofs.WordText.with.Statement.{statement}
 use Rattle.word_text.proofs.WordText.with.Tie as tie
 
 returns : tie.Need-returns
-returns c t e = no-word-yet t _ (rw e at (c .if1 .taken))
+unfolding afterCharacter
+returns c = simp (le-leb _ _ (c .if1 .taken))
 
 outside-requires : tie.Need-outside-requires
 outside-requires c κs = search needs
 
 returns-2 : tie.Need-returns-2
-returns-2 c t e = other-character t _ (tested (c .before .outside .ensures) (c .if2 .taken))
+unfolding afterCharacter
+returns-2 c = simp (lt-leb _ _ (c .before .before .if1 .left), tested (c .before .outside .ensures) (c .if2 .taken))
 
 mul-at-most-limit : tie.Need-mul-at-most-limit
 mul-at-most-limit c = search needs
@@ -31,10 +34,10 @@ at-most-limit-requires : tie.Need-at-most-limit-requires
 at-most-limit-requires c κs = search needs
 
 returns-3 : tie.Need-returns-3
-returns-3 c t e =
+unfolding afterCharacter
+returns-3 c =
     let d = c .before .before in
-    rw (c .at-most-limit .ensures, e)
-    (digit-more t _ (rw e at (d .before .before .if1 .left)) (tested (d .before .outside .ensures) (d .if2 .left)))
+    simp (c .at-most-limit .ensures, lt-leb _ _ (d .before .before .if1 .left), tested (d .before .outside .ensures) (d .if2 .left))
 
 pub with-spec : {M : Type 1} → statement M
 with-spec =
