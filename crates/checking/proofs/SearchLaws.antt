@@ -2,14 +2,16 @@
 use mathlib.Core.Path.{_≡_, refl, sym, _∙_}
 use mathlib.Core.Bool.{Bool, true, false}
 use Prim.Native.Nat.{ℕ, _+_, _-_, _*_, _^_, _≤_, _<_}
-use native.Mathlib.Nat.{add-sub-of-le, le-of-lt, mul-le-mul-right, not-suc-le-zero}
+use native.Mathlib.Nat.{add-sub-of-le, add-zero, le-of-lt, mul-le-mul-right, not-suc-le-zero}
 use native.Mathlib.Numerals.{add-one}
 use native.Mathlib.Omega.{arith}
-use lib.Pow.{pow-add, pow-mono}
+use lib.Pow.{high, pow-add, pow-mono}
 use Rattle.design.specs.declared.Design.{Design}
+use Rattle.design.specs.Cut.{initialWord, initialCount}
 use Rattle.design.proofs.LegalLaws.{Limits}
 use Rattle.design.proofs.Sums.{below-suc}
 use Rattle.tables.specs.declared.Checked.{Checked}
+use Rattle.tables.specs.Inputs.{SameInterval}
 use Rattle.tables.specs.Check.{wordsBelow}
 use Rattle.tables.proofs.CheckLaws.{check-all, check-bad}
 
@@ -41,6 +43,8 @@ module _ (test : ℕ → Bool) where
 
 -- How many intervals and words in each the two loops run over: all 2^w words, at most 2^16.
 pub record Counts (d : Design) (intervals rests : ℕ) : Type 0 where
+  pub intervals-is : intervals ≡ initialCount d
+  pub rests-is : rests ≡ 2 ^ (d .w - d .alpha)
   pub product : intervals * rests ≡ 2 ^ d .w
   pub words-small : 2 ^ d .w ≤ 2 ^ 16
   pub intervals-small : intervals ≤ 2 ^ 16
@@ -54,8 +58,11 @@ module _ (d : Design) (l : Limits d) where
   rests-fit = pow-mono {j = 16} (omega (arith, l .widths .w-high))
 
   pub counts : {intervals rests : ℕ} → intervals ≡ 2 ^ d .alpha → rests ≡ 2 ^ (d .w - d .alpha) → Counts d intervals rests
+  unfolding initialCount
   counts intervals-is rests-is =
       record {
+        intervals-is = intervals-is;
+        rests-is = rests-is;
         product = rw (intervals-is, rests-is, ← pow-add 2 (d .alpha) (d .w - d .alpha), add-sub-of-le (le-of-lt (l .alpha-below))) refl;
         words-small = pow-mono (l .widths .w-high);
         intervals-small = omega (arith, intervals-fit);
@@ -67,6 +74,24 @@ pub start-inside : {d : Design} {intervals rests interval : ℕ} → Counts d in
     → interval * rests ≤ 2 ^ d .w
 start-inside {rests} n h = omega (arith, n .product, mul-le-mul-right rests h)
 
-pub word-inside : {d : Design} {intervals rests interval rest : ℕ} → Counts d intervals rests → interval < intervals → rest < rests
+word-inside : {d : Design} {intervals rests interval rest : ℕ} → Counts d intervals rests → interval < intervals → rest < rests
     → interval * rests + rest < 2 ^ d .w
 word-inside {rests} n h k = omega (arith, n .product, mul-le-mul-right rests h)
+
+-- The initial word of each is the interval's number, so each lies in one interval with the first.
+pub interval-word : {d : Design} {intervals rests : ℕ} (interval rest : ℕ) → Counts d intervals rests → rest < rests
+    → initialWord d (interval * rests + rest) ≡ interval
+unfolding initialWord
+interval-word {d} interval rest n k =
+    rw (n .rests-is) (high interval (d .w - d .alpha) (rw (n .rests-is) at k))
+
+pub one-interval : {d : Design} {intervals rests interval rest : ℕ} → Counts d intervals rests → interval < intervals → rest < rests
+    → SameInterval d (interval * rests) (interval * rests + rest)
+one-interval {d} {rests} {interval} {rest} n h k =
+    let inside = word-inside n h k in
+    let first : initialWord d (interval * rests) ≡ interval = rw add-zero at (interval-word interval 0 n (omega arith)) in
+    record {
+      near-word = omega (arith, inside);
+      word = inside;
+      same = first ∙ sym (interval-word interval rest n k);
+    }

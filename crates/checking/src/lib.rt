@@ -1,11 +1,14 @@
 // The check of any tables, whoever filled them: faithful, or the lowest word that is not.
 ghost use mathlib.Core.Path.{_≡_};
-ghost use Prim.Native.Nat.{_^_, _<_};
-ghost use lib.ListN.{length};
+ghost use mathlib.Core.List.{List};
+ghost use Prim.Native.Nat.{ℕ, _^_, _≤_, _<_};
+ghost use lib.ListN.{length, getD};
 ghost use Rattle.refusal.specs.Numbers.{verdictNumber};
 ghost use Rattle.values.specs.Inputs.{FloorInput};
 ghost use Rattle.design.specs.Cut as Cut;
-ghost use Rattle.tables.specs.Inputs.{Usable};
+ghost use Rattle.design.specs.Cut.{initialWord, offsetTotal};
+ghost use Rattle.design.specs.Legal.{Legal};
+ghost use Rattle.tables.specs.Inputs.{Usable, SameInterval};
 ghost use Rattle.tables.specs.Lookup.{lookupsOf};
 ghost use Rattle.tables.specs.Faithful.{isFaithful};
 ghost use Rattle.tables.specs.Check.{faithfulAt, wordsBelow, checkVerdict, checkAnswer, refusalOf};
@@ -15,7 +18,7 @@ use tables::Checked;
 use tables::lookups::Lookups;
 use tables::lookups::lookups_of;
 use tables::set_verdict;
-use tables::sums::sum_of;
+use tables::sums::sum_from;
 use tables::sums::sum_outside;
 use tables::sums::word_of;
 use values::OutputUnits;
@@ -40,21 +43,24 @@ fn is_faithful(row: Row, w: u32, q: u32, x: u64, y: OutputUnits) -> bool
     sides.low < exact && exact < sides.high
 }
 
-// A word whose sum is refused counts as unfaithful.
+// A word whose sum is refused counts as unfaithful. Its initial entry, and its segments, which `near`, any word of its interval, tells,
+// are found once an interval.
 fn word_is_faithful(
     d: Design,
     lookups: Lookups,
     row: Row,
-    initial: &[u32],
+    entry: u32,
     offsets: &[i32],
+    near: u32,
     x: u32,
 ) -> bool
-    requires { ⌜ Usable d (length (now initial)) (length (now offsets)) ⌝ }
+    requires { ⌜ Legal d × (offsetTotal d ≤ length (now offsets)) ⌝ }
     requires { ⌜ lookups ≡ lookupsOf d ⌝ }
-    requires { ⌜ (row ≡ Cut.row d) × (x < 2 ^ d .w) ⌝ }
-    ensures { λ r. ⌜ r ≡ faithfulAt d (now (initial .entry)) (now (offsets .entry)) x ⌝ }
+    requires { ⌜ (row ≡ Cut.row d) × SameInterval d near x ⌝ }
+    ensures { λ r. ⌜ ((initial : List ℕ) → getD initial (initialWord d x) 0 ≡ entry
+        → r ≡ faithfulAt d initial (now (offsets .entry)) x) ⌝ }
 {
-    let sum = sum_of(d, lookups, initial, offsets, x);
+    let sum = sum_from(d, lookups, entry, offsets, near, x);
     if sum_outside(d, sum) {
         return false;
     }
@@ -73,9 +79,10 @@ fn search(d: Design, lookups: Lookups, row: Row, initial: &[u32], offsets: &[i32
     let mut answer = Checked::Faithful;
     'words: for interval in 0..intervals {
         let start = interval * rests;
+        let entry = initial[interval as usize];
         for rest in 0..rests {
             let x = start + rest;
-            if !word_is_faithful(d, lookups, row, initial, offsets, x) {
+            if !word_is_faithful(d, lookups, row, entry, offsets, start, x) {
                 answer = Checked::Unfaithful(x);
                 break 'words;
             }

@@ -15,6 +15,7 @@ use Rattle.design.specs.Cut.{
   aOf,
   bOf,
   position,
+  initialWord,
   segmentWord,
   offsetWord,
   offsetCount,
@@ -28,7 +29,7 @@ use Rattle.design.proofs.CutLaws.{place-in-total, segment-word-lt, offset-word-
 use Rattle.tables.specs.declared.lookups.Lookup.{Lookup}
 use Rattle.tables.specs.declared.lookups.Lookups.{Lookups}
 use Rattle.tables.specs.Lookup.{lookupOf, lookupsOf, placeAt}
-use Rattle.tables.specs.Inputs.{Small}
+use Rattle.tables.specs.Inputs.{SameInterval, Small}
 
 -- A power of two that 32 bits hold, as a shift makes it
 pub shl-one : (n : ℕ) → n < 32 → 1 * 2 ^ n % 2 ^ 32 ≡ 2 ^ n
@@ -129,18 +130,26 @@ module _ (d : Design) (l : Limits d) where
 whole : (x s b : ℕ) → let top = x / 2 ^ s in top - top % 2 ^ b ≡ x / 2 ^ (s + b) * 2 ^ b
 whole x s b = rw (← shr-shr x s b) (omega (arith, split (x / 2 ^ s) b))
 
--- The lookup of a table that is read leads to the place of x's offset, which lies within the offset tables.
-module _ (d : Design) (l : Limits d) (i x : ℕ) (more : i < d .m) where
-  pub place-is : placeAt (lookupOf d i) x ≡ offsetPlace d i (segmentWord d i x) (offsetWord d i x)
+module _ (d : Design) (l : Limits d) (i near x : ℕ) (more : i < d .m) (words : SameInterval d near x) where
+  -- The words of one interval lie on one segment of each table, whose A_i is the top bits of A.
+  same-segment : segmentWord d i near ≡ segmentWord d i x
+  unfolding initialWord segmentWord
+  same-segment =
+      let e : d .w - aOf d i ≡ d .w - d .alpha + (d .alpha - aOf d i) = omega (arith, l .table i more .a-high, l .alpha-below) in
+      rw (e, ← shr-shr near (d .w - d .alpha) (d .alpha - aOf d i), ← shr-shr x (d .w - d .alpha) (d .alpha - aOf d i), words .same)
+
+  -- So the lookup of a table that is read leads to the place of x's offset,
+  pub place-is : placeAt (lookupOf d i) near x ≡ offsetPlace d i (segmentWord d i x) (offsetWord d i x)
   unfolding placeAt lookupOf offsetPlace segmentWord offsetWord
   place-is =
       let e : d .w - (aOf d i + bOf d i) + bOf d i ≡ d .w - aOf d i = omega (arith, few d l i .bits-within) in
-      rw (whole x (d .w - (aOf d i + bOf d i)) (bOf d i), e)
+      rw (whole near (d .w - (aOf d i + bOf d i)) (bOf d i), e, same-segment)
 
-  pub place-lt : x < 2 ^ d .w → placeAt (lookupOf d i) x < offsetTotal d
-  place-lt word =
+  -- which lies within the offset tables.
+  pub place-lt : placeAt (lookupOf d i) near x < offsetTotal d
+  place-lt =
       rw place-is
-      (place-in-total d i _ _ more (record { A-lt = segment-word-lt d l i x more word; B-lt = offset-word-lt d i x }))
+      (place-in-total d i _ _ more (record { A-lt = segment-word-lt d l i x more (words .word); B-lt = offset-word-lt d i x }))
 
 -- The four lookups of a design, one by one
 pub record Looked (d : Design) (lookups : Lookups) : Type 0 where

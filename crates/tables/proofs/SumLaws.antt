@@ -7,44 +7,40 @@ use native.Mathlib.Omega.{arith}
 use native.Mathlib.Numerals.{add-one}
 use borrow.Author.Tests.{leb-false}
 use lib.Dec.{T, leb, ltb}
-use lib.ListN.{getD}
 use lib.IntN.{ℤ, pos, negsuc, natAbs, _+ℤ_, +ℤ-assoc, +ℤ-idr}
 use lib.Signed.{mag, nonNeg}
 use Rattle.refusal.proofs.Checks.{neither}
 use Rattle.design.specs.declared.Design.{Design}
-use Rattle.design.specs.Cut.{fractionBits, initialWord}
-use Rattle.tables.specs.Sum.{signedSum, offsetFor, sumAt, sumOutside}
+use Rattle.design.specs.Cut.{fractionBits}
+use Rattle.tables.specs.Sum.{signedSum, offsetFor, sumOutside}
 
 pub signed-next : (n : ℕ) (f : ℕ → ℤ) → signedSum (n + 1) f ≡ signedSum n f +ℤ f n
 unfolding signedSum
 signed-next n f = rw add-one refl
 
 -- `sum` has the initial entry and the first i offsets.
-pub record Summing (d : Design) (initial : List ℕ) (offsets : List ℤ) (x : ℕ) (sum : ℤ) (i : ℕ) : Type 0 where
-  pub sum-is : sum ≡ pos (getD initial (initialWord d x) 0) +ℤ signedSum i (offsetFor d offsets x)
+pub record Summing (d : Design) (entry : ℕ) (offsets : List ℤ) (x : ℕ) (sum : ℤ) (i : ℕ) : Type 0 where
+  pub sum-is : sum ≡ pos entry +ℤ signedSum i (offsetFor d offsets x)
   pub small : mag sum ≤ 2 ^ 32 + i * 2 ^ 32
 
-module _ (d : Design) (initial : List ℕ) (offsets : List ℤ) (x : ℕ) where
-  pub start : (entry : ℤ) → entry ≡ pos (getD initial (initialWord d x) 0) → mag entry ≤ 2 ^ 32
-      → Summing d initial offsets x entry 0
+module _ (d : Design) (entry : ℕ) (offsets : List ℤ) (x : ℕ) where
+  pub start : {sum : ℤ} → sum ≡ pos entry → mag sum ≤ 2 ^ 32 → Summing d entry offsets x sum 0
   unfolding signedSum
-  start entry e small = record { sum-is = e ∙ sym (+ℤ-idr _); small = omega arith }
+  start e small = record { sum-is = e ∙ sym (+ℤ-idr _); small = omega arith }
 
-  pub step : {sum next : ℤ} {i : ℕ} → Summing d initial offsets x sum i → next ≡ sum +ℤ offsetFor d offsets x i
-      → mag next ≤ mag sum + 2 ^ 32 → Summing d initial offsets x next (i + 1)
+  pub step : {sum next : ℤ} {i : ℕ} → Summing d entry offsets x sum i → next ≡ sum +ℤ offsetFor d offsets x i
+      → mag next ≤ mag sum + 2 ^ 32 → Summing d entry offsets x next (i + 1)
   step {sum} {next} {i} s e few =
-      let entry = pos (getD initial (initialWord d x) 0) in
       record {
         sum-is =
             e
             ∙ ap (λ (z : ℤ). z +ℤ offsetFor d offsets x i) (s .sum-is)
-            ∙ +ℤ-assoc entry (signedSum i (offsetFor d offsets x)) (offsetFor d offsets x i)
-            ∙ ap (λ (z : ℤ). entry +ℤ z) (sym (signed-next i (offsetFor d offsets x)));
+            ∙ +ℤ-assoc (pos entry) (signedSum i (offsetFor d offsets x)) (offsetFor d offsets x i)
+            ∙ ap (λ (z : ℤ). pos entry +ℤ z) (sym (signed-next i (offsetFor d offsets x)));
         small = omega (arith, s .small);
       }
 
-  pub finish : {sum : ℤ} {i : ℕ} → Summing d initial offsets x sum i → i ≡ d .m → sum ≡ sumAt d initial offsets x
-  unfolding sumAt
+  pub finish : {sum : ℤ} {i : ℕ} → Summing d entry offsets x sum i → i ≡ d .m → sum ≡ pos entry +ℤ signedSum (d .m) (offsetFor d offsets x)
   finish s e = rw e at (s .sum-is)
 
 -- A sum in range is a number of fewer than P + 3 bits.

@@ -19,8 +19,8 @@ lookupOf d i =
 unfoldable pub lookupsOf : Design → Lookups
 lookupsOf d = record { first = lookupOf d 0; second = lookupOf d 1; third = lookupOf d 2; fourth = lookupOf d 3 }
 
--- Where x's offset lies: A_i·2^(b_i) is the top a_i + b_i bits of x less the low b_i bits of those.
-unfoldable pub placeAt : Lookup → ℕ → ℕ
-placeAt lookup x =
-    let top = x / 2 ^ lookup .shift in
+-- Where x's offset lies: A_i·2^(b_i) is the top a_i + b_i bits of x, or of any word of x's interval, less the low b_i bits of those.
+unfoldable pub placeAt : Lookup → ℕ → ℕ → ℕ
+placeAt lookup near x =
+    let top = near / 2 ^ lookup .shift in
     lookup .start + (top - top % 2 ^ lookup .b + x / 2 ^ lookup .position % 2 ^ lookup .b)

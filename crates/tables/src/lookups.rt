@@ -81,14 +81,15 @@ pub fn lookups_of(d: Design) -> Lookups
     }
 }
 
-// inner: where x's offset lies among all offsets. The top a + b bits of x are A·2^b and b bits more, which make room for B.
-pub fn place_of(lookup: Lookup, x: u32) -> u32
+// inner: where x's offset lies among all offsets. The top a + b bits of x are A·2^b and b bits more, which make room for B. A is told by
+// `near`, any word of x's interval, so that it is found once where many words of one interval are looked up.
+pub fn place_of(lookup: Lookup, near: u32, x: u32) -> u32
     requires { ⌜ Small lookup ⌝ }
-    requires { ⌜ x < 2 ^ 16 ⌝ }
-    ensures { λ r. ⌜ r ≡ placeAt lookup x ⌝ }
+    requires { ⌜ (near < 2 ^ 16) × (x < 2 ^ 16) ⌝ }
+    ensures { λ r. ⌜ r ≡ placeAt lookup near x ⌝ }
 {
     let size = 1 << lookup.b;
-    let top = x >> lookup.shift;
+    let top = near >> lookup.shift;
     let low = x >> lookup.position;
     lookup.start + (top - top % size + low % size)
 }

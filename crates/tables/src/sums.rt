@@ -5,10 +5,11 @@ ghost use Prim.Native.Nat.{_+_, _^_, _≤_, _<_};
 ghost use lib.ListN.{length, getD};
 ghost use lib.IntN.{pos, _+ℤ_};
 ghost use lib.Signed.{mag};
+ghost use Rattle.design.specs.Cut.{offsetTotal};
 ghost use Rattle.design.specs.Legal.{Legal};
-ghost use Rattle.tables.specs.Inputs.{Usable, Small};
+ghost use Rattle.tables.specs.Inputs.{Usable, SameInterval, Small};
 ghost use Rattle.tables.specs.Lookup.{lookupsOf, placeAt};
-ghost use Rattle.tables.specs.Sum.{sumAt, sumOutside, wordOf};
+ghost use Rattle.tables.specs.Sum.{signedSum, offsetFor, sumAt, sumOutside, wordOf};
 use crate::lookups::Lookup;
 use crate::lookups::Lookups;
 use crate::lookups::place_of;
@@ -18,39 +19,57 @@ use values::TableUnits;
 use values::floor::pow2;
 
 // One offset more.
-fn add_offset(lookup: Lookup, sum: TableUnits, offsets: &[i32], x: u32) -> TableUnits
+fn add_offset(lookup: Lookup, sum: TableUnits, offsets: &[i32], near: u32, x: u32) -> TableUnits
     requires { ⌜ Small lookup ⌝ }
-    requires { ⌜ x < 2 ^ 16 ⌝ }
-    requires { ⌜ (placeAt lookup x < length (now offsets)) × (mag (sum .0) ≤ 2 ^ 40) ⌝ }
-    ensures { λ r. ⌜ (r ≡ record { 0 = sum .0 +ℤ getD (now (offsets .entry)) (placeAt lookup x) (pos 0) })
+    requires { ⌜ (near < 2 ^ 16) × (x < 2 ^ 16) ⌝ }
+    requires { ⌜ (placeAt lookup near x < length (now offsets)) × (mag (sum .0) ≤ 2 ^ 40) ⌝ }
+    ensures { λ r. ⌜ (r ≡ record { 0 = sum .0 +ℤ getD (now (offsets .entry)) (placeAt lookup near x) (pos 0) })
         × (mag (r .0) ≤ mag (sum .0) + 2 ^ 32) ⌝ }
 {
-    let offset = offsets[place_of(lookup, x) as usize];
+    let offset = offsets[place_of(lookup, near, x) as usize];
     TableUnits(sum.0 + offset as i64)
 }
 
-// inner: Y, summed from the tables: m + 1 lookups, shifts and adds.
+// inner: Y, from x's initial entry on: m lookups, shifts and adds. `near` is any word of x's interval.
+pub fn sum_from(
+    d: Design,
+    lookups: Lookups,
+    entry: u32,
+    offsets: &[i32],
+    near: u32,
+    x: u32,
+) -> TableUnits
+    requires { ⌜ Legal d × (offsetTotal d ≤ length (now offsets)) ⌝ }
+    requires { ⌜ lookups ≡ lookupsOf d ⌝ }
+    requires { ⌜ SameInterval d near x ⌝ }
+    ensures { λ r. ⌜ r ≡ record { 0 = pos entry +ℤ signedSum (d .m) (offsetFor d (now (offsets .entry)) x) } ⌝ }
+{
+    let m = d.m;
+    let none = TableUnits(entry as i64);
+    let one = add_offset(lookups.first, none, offsets, near, x);
+    if m == 1 {
+        return one;
+    }
+    let two = add_offset(lookups.second, one, offsets, near, x);
+    if m == 2 {
+        return two;
+    }
+    let three = add_offset(lookups.third, two, offsets, near, x);
+    if m == 3 {
+        return three;
+    }
+    add_offset(lookups.fourth, three, offsets, near, x)
+}
+
+// inner: Y, summed from the tables: the initial entry and m offsets.
 pub fn sum_of(d: Design, lookups: Lookups, initial: &[u32], offsets: &[i32], x: u32) -> TableUnits
     requires { ⌜ Usable d (length (now initial)) (length (now offsets)) ⌝ }
     requires { ⌜ lookups ≡ lookupsOf d ⌝ }
     requires { ⌜ x < 2 ^ d .w ⌝ }
     ensures { λ r. ⌜ r ≡ record { 0 = sumAt d (now (initial .entry)) (now (offsets .entry)) x } ⌝ }
 {
-    let m = d.m;
-    let entry = initial[(x >> (d.w - d.alpha)) as usize] as i64;
-    let one = add_offset(lookups.first, TableUnits(entry), offsets, x);
-    if m == 1 {
-        return one;
-    }
-    let two = add_offset(lookups.second, one, offsets, x);
-    if m == 2 {
-        return two;
-    }
-    let three = add_offset(lookups.third, two, offsets, x);
-    if m == 3 {
-        return three;
-    }
-    add_offset(lookups.fourth, three, offsets, x)
+    let entry = initial[(x >> (d.w - d.alpha)) as usize];
+    sum_from(d, lookups, entry, offsets, x, x)
 }
 
 // inner: whether Y is out of range, not 0 ≤ Y < 2^(P+2).

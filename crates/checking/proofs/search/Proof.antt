@@ -1,11 +1,13 @@
 -- `checking::search` meets its contract: up to here every word is faithful, over whole intervals and then within one.
-use mathlib.Core.Path.{_≡_}
+use mathlib.Core.Path.{_≡_, refl}
 use Prim.Native.Nat.{_+_, _-_, _*_, _^_, _≤_, _<_}
 use native.Mathlib.Nat.{zero-mul, add-zero, add-assoc}
 use native.Mathlib.Omega.{arith}
+use lib.ListN.{length}
 use borrow.Author.Tests.{not-true, not-false}
 use Rattle.refusal.proofs.Checks.{tested}
 use Rattle.design.proofs.LegalLaws.{limits}
+use Rattle.tables.specs.Inputs.{SameInterval}
 use Rattle.tables.specs.Check.{faithfulAt}
 use Rattle.checking.proofs.SearchLaws.{
   Searched,
@@ -19,17 +21,18 @@ use Rattle.checking.proofs.SearchLaws.{
   rests-fit,
   counts,
   start-inside,
-  word-inside,
+  interval-word,
+  one-interval,
 }
 use Rattle.checking.proofs.search.Statement.{statement}
 use Rattle.checking.proofs.search.Tie as tie
 
 abbrev Inv-loop : tie.InvT-loop
-Inv-loop d lookups row initial offsets intervals rests answer₀ interval start rest₀ answer rest =
+Inv-loop d lookups row initial offsets intervals rests answer₀ interval start entry rest₀ answer rest =
     Searched (faithfulAt d initial offsets) answer (start + rest) × (rest ≤ rests)
 
 abbrev μ-loop : tie.MeasureT-loop
-μ-loop d lookups row initial offsets intervals rests answer₀ interval start rest₀ answer rest = rests - rest
+μ-loop d lookups row initial offsets intervals rests answer₀ interval start entry rest₀ answer rest = rests - rest
 
 abbrev Inv-words : tie.InvT-words
 Inv-words d lookups row initial offsets intervals rests answer₀ interval₀ answer interval =
@@ -67,25 +70,54 @@ mul-start c =
     let n = counted (c .before .before) in
     omega (arith, n .product, n .words-small, start-inside {interval = c .before .words .interval} n (omega arith))
 
-loop-holds : tie.Need-loop-holds Inv-loop μ-loop Inv-words μ-words
-loop-holds c = (rw add-zero (c .before .words .inv .0), omega arith)
+-- an interval's number is that of its initial entry
+numbers : (c : tie.In-words Inv-loop μ-loop Inv-words μ-words) →
+    let a = c .before .before .before .before .before .before .args in
+    (c .before .words .interval < length (a .initial .now)) × (c .before .words .interval < 2 ^ 16)
+numbers c =
+    let n = counted (c .before .before) in
+    let long = c .before .before .before .before .before .before .pre .0 .initial-long in
+    (omega (arith, n .intervals-is, long), omega (arith, n .intervals-small))
 
--- the word of this turn
-inside : (c : tie.In-loop Inv-loop μ-loop Inv-words μ-words) → let b = c .before .before .before in
-    b .words .interval * b .before .pow22 .result + c .before .loop .rest < 2 ^ b .before .before .before .before .before .args .d .w
-inside c =
-    word-inside (counted (c .before .before .before .before)) (omega arith) (omega arith)
+cast-entry : tie.Need-cast-entry Inv-loop μ-loop Inv-words μ-words
+cast-entry c = omega (arith, numbers c .1)
+
+mul-entry : tie.Need-mul-entry Inv-loop μ-loop Inv-words μ-words
+mul-entry c = omega (arith, numbers c .1)
+
+shared-slice-read-entry : tie.Need-shared-slice-read-entry Inv-loop μ-loop Inv-words μ-words
+shared-slice-read-entry c = numbers (c .before) .0
+
+loop-holds : tie.Need-loop-holds Inv-loop μ-loop Inv-words μ-words
+loop-holds c = (rw add-zero (c .before .before .words .inv .0), omega arith)
+
+-- the word of this turn, in one interval with the first
+words : (c : tie.In-loop Inv-loop μ-loop Inv-words μ-words) → let b = c .before .before .before .before in
+    let start = b .words .interval * b .before .pow22 .result in
+    SameInterval (b .before .before .before .before .before .args .d) start (start + c .before .loop .rest)
+words c = one-interval (counted (c .before .before .before .before .before)) (omega arith) (omega arith)
 
 add-x : tie.Need-add-x Inv-loop μ-loop Inv-words μ-words
-add-x c = omega (arith, inside c, counted (c .before .before .before .before) .words-small)
+add-x c = omega (arith, words c .word, counted (c .before .before .before .before .before) .words-small)
 
 word-is-faithful-requires : tie.Need-word-is-faithful-requires Inv-loop μ-loop Inv-words μ-words
 word-is-faithful-requires c κs =
-    let p = c .before .before .before .before .before .before .before .before .pre in
-    (p .0, (p .1 .0, (p .1 .1, inside c)))
+    let p = c .before .before .before .before .before .before .before .before .before .pre in
+    ((p .0 .legal, p .0 .offsets-long), (p .1 .0, (p .1 .1, words c)))
+
+-- what is found of it
+found : (c : tie.After-word-is-faithful Inv-loop μ-loop Inv-words μ-words) → let b = c .before .before .before .before .before in
+    let a = b .before .before .before .before .before .args in
+    c .word-is-faithful .result
+    ≡ faithfulAt (a .d) (a .initial .now) (a .offsets .now) (b .words .interval * b .before .pow22 .result + c .before .before .loop .rest)
+found c =
+    let interval = c .before .before .before .before .before .words .interval in
+    let rest = c .before .before .loop .rest in
+    c .word-is-faithful .ensures _
+    (rw (interval-word interval rest (counted (c .before .before .before .before .before .before)) (omega arith)) refl)
 
 add-rest : tie.Need-add-rest Inv-loop μ-loop Inv-words μ-words
-add-rest c = omega (arith, counted (c .before .before .before .before .before .before) .rests-small)
+add-rest c = omega (arith, counted (c .before .before .before .before .before .before .before) .rests-small)
 
 loop-less : tie.Need-loop-less Inv-loop μ-loop Inv-words μ-words
 loop-less c = omega arith
@@ -93,11 +125,11 @@ loop-less c = omega arith
 loop-again : tie.Need-loop-again Inv-loop μ-loop Inv-words μ-words
 loop-again c =
     let s = searched-more _ (c .before .before .before .loop .inv .0)
-    (tested (c .before .word-is-faithful .ensures) (not-false _ (c .if1 .left))) in
+    (tested (found (c .before)) (not-false _ (c .if1 .left))) in
     (rw (← add-assoc) s, omega arith)
 
 add-interval : tie.Need-add-interval Inv-loop μ-loop Inv-words μ-words
-add-interval c = omega (arith, counted (c .before .before .before .before) .intervals-small)
+add-interval c = omega (arith, counted (c .before .before .before .before .before) .intervals-small)
 
 words-less : tie.Need-words-less Inv-loop μ-loop Inv-words μ-words
 words-less c = omega arith
@@ -112,8 +144,8 @@ returns c =
 
 returns-2 : tie.Need-returns-2 Inv-loop μ-loop Inv-words μ-words
 returns-2 c =
-    searched-found _ (c .before .before .before .loop .inv .0) (inside (c .before .before))
-    (tested (c .before .word-is-faithful .ensures) (not-true _ (c .if1 .taken)))
+    searched-found _ (c .before .before .before .loop .inv .0) (words (c .before .before) .word)
+    (tested (found (c .before)) (not-true _ (c .if1 .taken)))
 
 pub search-spec : {M : Type 1} → statement M
 search-spec =
@@ -130,6 +162,9 @@ search-spec =
     cast-rests
     words-holds
     mul-start
+    cast-entry
+    mul-entry
+    shared-slice-read-entry
     loop-holds
     add-x
     word-is-faithful-requires

@@ -5,7 +5,8 @@ use mathlib.Core.List.{List}
 use Prim.Native.Nat.{ℕ, _+_, _^_, _<_, _≤_}
 use native.Mathlib.Nat.{lt-of-lt-of-le}
 use native.Mathlib.Omega.{arith}
-use lib.IntN.{ℤ}
+use lib.ListN.{getD}
+use lib.IntN.{ℤ, pos, _+ℤ_}
 use lib.Pow.{pow-mono, shr-lt}
 use borrow.Author.Needs.{needs}
 use Rattle.refusal.proofs.Checks.{tested}
@@ -14,9 +15,9 @@ use Rattle.values.specs.declared.OutputUnits.{OutputUnits}
 use Rattle.values.specs.declared.rows.Row.{Row}
 use Rattle.values.specs.Inputs.{FloorInput}
 use Rattle.design.specs.declared.Design.{Design}
-use Rattle.design.specs.Cut.{row, fractionBits}
+use Rattle.design.specs.Cut.{row, fractionBits, initialWord}
 use Rattle.design.proofs.LegalLaws.{Limits, limits, lawful}
-use Rattle.tables.specs.Sum.{sumAt, sumOutside, wordOf, wordAt}
+use Rattle.tables.specs.Sum.{signedSum, offsetFor, sumAt, sumOutside, wordOf, wordAt}
 use Rattle.tables.specs.Faithful.{isFaithful}
 use Rattle.tables.specs.Check.{faithfulAt}
 use Rattle.tables.proofs.SumLaws.{in-range}
@@ -43,8 +44,13 @@ module _ (d : Design) (l : Limits d) where
       lt-of-lt-of-le (shr-lt (d .q + 2) (d .g) (rw places at (in-range d Y e .1))) (pow-mono {j = 18} (omega (arith, l .widths)))
 
 -- The answer, by what the calls promise
-module _ (d : Design) (initial : List ℕ) (offsets : List ℤ) (x : ℕ) (sum : TableUnits) (outside : Bool)
-    (sum-is : sum ≡ record { 0 = sumAt d initial offsets x }) (outside-is : outside ≡ sumOutside d (sum .0)) where
+module _ (d : Design) (entry : ℕ) (offsets : List ℤ) (x : ℕ) (sum : TableUnits) (outside : Bool)
+    (from-entry : sum ≡ record { 0 = pos entry +ℤ signedSum (d .m) (offsetFor d offsets x) }) (outside-is : outside ≡ sumOutside d (sum .0))
+    (initial : List ℕ) (entry-is : getD initial (initialWord d x) 0 ≡ entry) where
+  sum-is : sum ≡ record { 0 = sumAt d initial offsets x }
+  unfolding sumAt
+  sum-is = rw (entry-is, from-entry)
+
   no-word : outside ≡ true → false ≡ faithfulAt d initial offsets x
   unfolding faithfulAt
   no-word e = let out : sumOutside d (sumAt d initial offsets x) ≡ true = rw sum-is at (tested outside-is e) in rw out
@@ -56,50 +62,52 @@ module _ (d : Design) (initial : List ℕ) (offsets : List ℤ) (x : ℕ) (sum :
       let inside : sumOutside d (sumAt d initial offsets x) ≡ false = rw sum-is at (tested outside-is e) in
       rw (row-is, one-is, word-is, sum-is, inside)
 
-sum-of-requires : tie.Need-sum-of-requires
-sum-of-requires c κs = search needs
+sum-from-requires : tie.Need-sum-from-requires
+sum-from-requires c κs = search needs
 
 sum-outside-requires : tie.Need-sum-outside-requires
 sum-outside-requires c κs = search needs
 
 returns : tie.Need-returns
-returns c =
-    no-word _ _ _ _ _ _ (c .before .before .sum-of .ensures) (c .before .sum-outside .ensures) (c .if1 .taken)
+returns c initial entry-is =
+    no-word _ _ _ _ _ _ (c .before .before .sum-from .ensures) (c .before .sum-outside .ensures) initial entry-is
+    (c .if1 .taken)
 
 pow2-requires : tie.Need-pow2-requires
-pow2-requires c κs = omega (arith, limits _ (c .before .before .before .before .pre .0 .legal) .widths .w-high)
+pow2-requires c κs = omega (arith, limits _ (c .before .before .before .pre .0 .0) .widths .w-high)
 
 add-is-faithful : tie.Need-add-is-faithful
 add-is-faithful c =
-    let p = c .before .before .before .before .before .pre in
-    omega (arith, width-small _ (limits _ (p .0 .legal)), c .pow2 .ensures, p .1 .1 .1)
+    let p = c .before .before .before .before .pre in
+    omega (arith, width-small _ (limits _ (p .0 .0)), c .pow2 .ensures, p .1 .1 .1 .word)
 
 word-of-requires : tie.Need-word-of-requires
 word-of-requires c κs =
     let b = c .before in
-    (b .before .before .before .before .pre .0 .legal, tested (b .before .sum-outside .ensures) (b .if1 .left))
+    (b .before .before .before .pre .0 .0, tested (b .before .sum-outside .ensures) (b .if1 .left))
 
 is-faithful-requires : tie.Need-is-faithful-requires
 is-faithful-requires c κs =
     let b = c .before .before in
-    let p = b .before .before .before .before .pre in
-    let l = limits _ (p .0 .legal) in (
-      rw (p .1 .1 .0, c .before .pow2 .ensures) (exact-at _ l _ (p .1 .1 .1)),
+    let p = b .before .before .before .pre in
+    let l = limits _ (p .0 .0) in (
+      rw (p .1 .1 .0, c .before .pow2 .ensures) (exact-at _ l _ (p .1 .1 .1 .word)),
       rw (c .word-of .ensures) (word-small _ l _ (tested (b .before .sum-outside .ensures) (b .if1 .left))),
     )
 
 returns-2 : tie.Need-returns-2
-returns-2 c =
+returns-2 c initial entry-is =
     let b = c .before .before .before in
     c .is-faithful .ensures
-    ∙ by-word _ _ _ _ _ _ (b .before .before .sum-of .ensures) (b .before .sum-outside .ensures) (b .if1 .left) _ _ _
-    (b .before .before .before .before .pre .1 .1 .0) (c .before .before .pow2 .ensures) (c .before .word-of .ensures)
+    ∙ by-word _ _ _ _ _ _ (b .before .before .sum-from .ensures) (b .before .sum-outside .ensures) initial entry-is
+    (b .if1 .left) _ _ _
+    (b .before .before .before .pre .1 .1 .0) (c .before .before .pow2 .ensures) (c .before .word-of .ensures)
 
 pub word-is-faithful-spec : {M : Type 1} → statement M
 word-is-faithful-spec =
     tie.close
     (tie.spec
-    sum-of-requires
+    sum-from-requires
     sum-outside-requires
     returns
     pow2-requires

@@ -15,20 +15,21 @@ use Rattle.tables.proofs.lookups.place_of.Tie as tie
 size-pos : (n : ℕ) → n < 32 → 0 < 1 * 2 ^ n % 2 ^ 32
 size-pos n h = rw (shl-one n h) (pow-pos n)
 
--- two parts of x, however they are cut, and the start of a table before them
-parts-small : (x s p cut size : ℕ) → x < 2 ^ 16 → x / 2 ^ s - cut + x / 2 ^ p % size < 2 ^ 17
-parts-small x s p cut size word = omega (arith, shr-le x s, shr-le x p, mod-le (x / 2 ^ p) size)
+-- two parts of two words, however they are cut, and the start of a table before them
+parts-small : (near x s p cut size : ℕ) → near < 2 ^ 16 → x < 2 ^ 16 → near / 2 ^ s - cut + x / 2 ^ p % size < 2 ^ 17
+parts-small near x s p cut size near-word word = omega (arith, shr-le near s, shr-le x p, mod-le (x / 2 ^ p) size)
 
-place-small : (start x s p cut size : ℕ) → start ≤ 3 * 4096 → x < 2 ^ 16 → start + (x / 2 ^ s - cut + x / 2 ^ p % size) < 2 ^ 18
-place-small start x s p cut size h word = omega (arith, parts-small x s p cut size word)
+place-small : (start near x s p cut size : ℕ) → start ≤ 3 * 4096 → near < 2 ^ 16 → x < 2 ^ 16
+    → start + (near / 2 ^ s - cut + x / 2 ^ p % size) < 2 ^ 18
+place-small start near x s p cut size h near-word word = omega (arith, parts-small near x s p cut size near-word word)
 
 -- the place, where the remainders are by what the shift makes
-place-is : (lookup : Lookup) (x : ℕ) → Small lookup →
+place-is : (lookup : Lookup) (near x : ℕ) → Small lookup →
     let size = 1 * 2 ^ lookup .b % 2 ^ 32 in
-    let top = x / 2 ^ lookup .shift in
-    lookup .start + (top - top % size + x / 2 ^ lookup .position % size) ≡ placeAt lookup x
+    let top = near / 2 ^ lookup .shift in
+    lookup .start + (top - top % size + x / 2 ^ lookup .position % size) ≡ placeAt lookup near x
 unfolding placeAt
-place-is lookup x small = rw (shl-one (lookup .b) (omega arith))
+place-is lookup near x small = rw (shl-one (lookup .b) (omega arith))
 
 shl-size : tie.Need-shl-size
 shl-size c = search needs
@@ -49,15 +50,18 @@ rem-result-2 : tie.Need-rem-result-2
 rem-result-2 c = size-pos _ (omega (arith, c .before .before .before .pre .0))
 
 add-result : tie.Need-add-result
-add-result c = record { fits = lt-of-lt-of-le (parts-small _ _ _ _ _ (c .before .before .before .pre .1)) (omega arith) }
+add-result c =
+    let p = c .before .before .before .pre .1 in
+    record { fits = lt-of-lt-of-le (parts-small _ _ _ _ _ _ (omega (arith, p)) (omega (arith, p))) (omega arith) }
 
 add-result-2 : tie.Need-add-result-2
 add-result-2 c =
     let p = c .before .before .before .before .pre in
-    record { fits = lt-of-lt-of-le (place-small _ _ _ _ _ _ (p .0 .start-small) (p .1)) (omega arith) }
+    let small = place-small _ _ _ _ _ _ _ (p .0 .start-small) in
+    record { fits = lt-of-lt-of-le (small (omega (arith, p .1)) (omega (arith, p .1))) (omega arith) }
 
 returns : tie.Need-returns
-returns c = place-is _ _ (c .before .before .before .before .pre .0)
+returns c = place-is _ _ _ (c .before .before .before .before .pre .0)
 
 pub place-of-spec : {M : Type 1} → statement M
 place-of-spec =

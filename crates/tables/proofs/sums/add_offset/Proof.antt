@@ -65,15 +65,15 @@ mul-offset c = search needs
 shared-slice-copy-out-offset : tie.Need-shared-slice-copy-out-offset
 shared-slice-copy-out-offset c = search needs
 
-cast-t11 : tie.Need-cast-t11
-cast-t11 c = narrow-fits (getD (c .before .before .args .offsets .now) (c .before .place-of .result) (pos 0)) (c .offset .given)
+cast-t12 : tie.Need-cast-t12
+cast-t12 c = narrow-fits (getD (c .before .before .args .offsets .now) (c .before .place-of .result) (pos 0)) (c .offset .given)
 
 -- the sum of this call is held as it came
 held : (c : tie.After-struct-told) → let sum = c .before .before .before .before .args .sum .0 in toZ w64 (ofZ w64 sum) ≡ sum
 held c = toZ-ofZ w64 (c .before .before .before .before .args .sum .0) (record { sfits = c .struct-told .given .0 .1 })
 
-add-t12 : tie.Need-add-t12
-add-t12 c =
+add-t13 : tie.Need-add-t13
+add-t13 c =
     let s = c .before .before .before .before in
     made-fits (s .args .offsets .now) (s .args .sum .0) _ _ _ (held c) (c .before .before .before .place-of .ensures) (s .pre .1 .1 .1)
     (c .before .before .offset .given)
@@ -92,6 +92,6 @@ add-offset-spec =
     cast-offset
     mul-offset
     shared-slice-copy-out-offset
-    cast-t11
-    add-t12
+    cast-t12
+    add-t13
     returns)
