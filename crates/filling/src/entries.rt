@@ -4,6 +4,7 @@ ghost use Prim.Native.Nat.{_+_, _^_, _<_};
 ghost use lib.IntN.{natAbs};
 ghost use Rattle.values.specs.Inputs.{InRange};
 ghost use Rattle.design.specs.Cut.{aOf, initialCount};
+ghost use Rattle.design.specs.Cut as Cut;
 ghost use Rattle.design.specs.Legal.{Legal};
 ghost use Rattle.tables.specs.Entries.{valueAt, initialAt, hiAt, loAt, oddNumber, signed, offsetOf};
 ghost use Rattle.filling.specs.Inputs.{OffsetInput};
@@ -11,6 +12,7 @@ use design::Design;
 use design::legal::pair_at;
 use values::floor::floor_value;
 use values::floor::pow2;
+use values::rows::Row;
 use values::rows::row_of;
 use values::slopes::hi;
 use values::slopes::lo;
@@ -18,23 +20,23 @@ use values::slopes::segment_end;
 use values::slopes::segment_start;
 
 // L(X), for the kind and widths of a legal design.
-fn value_at(d: Design, x: u64) -> u64
+fn value_at(d: Design, row: Row, x: u64) -> u64
     requires { ⌜ Legal d ⌝ }
-    requires { ⌜ InRange (d .w) x ⌝ }
+    requires { ⌜ (row ≡ Cut.row d) × InRange (d .w) x ⌝ }
     ensures { λ r. ⌜ (r ≡ valueAt d x) × (r < 2 ^ 21) ⌝ }
 {
-    floor_value(row_of(d.kind), d.w, d.q + d.g, x).count()
+    floor_value(row, d.w, d.q + d.g, x).count()
 }
 
 // inner: the initial entry of A = word.
-pub fn initial_at(d: Design, word: u64) -> u32
+pub fn initial_at(d: Design, row: Row, word: u64) -> u32
     requires { ⌜ Legal d ⌝ }
-    requires { ⌜ word < initialCount d ⌝ }
+    requires { ⌜ (row ≡ Cut.row d) × (word < initialCount d) ⌝ }
     ensures { λ r. ⌜ r ≡ initialAt d word ⌝ }
 {
     let start = segment_start(d.w, d.alpha, word);
     let end = segment_end(d.w, d.alpha, word);
-    let values = value_at(d, start) + value_at(d, end);
+    let values = value_at(d, row, start) + value_at(d, row, end);
     ((values + 1 + d.m as u64) / 2 + pow2(d.g - 1)) as u32
 }
 

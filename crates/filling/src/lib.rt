@@ -31,9 +31,10 @@ fn fill_initial(d: Design, initial: &mut [u32])
     requires { ⌜ initialCount d ≤ length (now initial) ⌝ }
     ensures { λ _. ⌜ now (initial .exit) ≡ over (now (initial .entry)) 0 (initialEntries d) ⌝ }
 {
+    let row = row_of(d.kind);
     let words = pow2(d.alpha);
     for word in 0..words {
-        initial[word as usize] = initial_at(d, word);
+        initial[word as usize] = initial_at(d, row, word);
     }
 }
 

@@ -34,22 +34,22 @@ module _ (d : Design) (A : ℕ) (legal : Legal d) (A-lt : A < initialCount d) wh
     entry-is first last unit first-is last-is unit-is = rw (first-is, last-is, unit-is, start-is, end-is)
 
 segment-start-requires : tie.Need-segment-start-requires
-segment-start-requires c κs = interval _ _ (c .pre .0) (c .pre .1)
+segment-start-requires c κs = interval _ _ (c .pre .0) (c .pre .1 .1)
 
 segment-end-requires : tie.Need-segment-end-requires
-segment-end-requires c κs = interval _ _ (c .before .pre .0) (c .before .pre .1)
+segment-end-requires c κs = interval _ _ (c .before .pre .0) (c .before .pre .1 .1)
 
 both-ends : (c : tie.After-segment-end) → let a = c .before .before .args in
     InRange (a .d .w) (c .before .segment-start .result) × InRange (a .d .w) (c .segment-end .result)
 both-ends c =
     let s = c .before .before in
-    ranges _ _ (s .pre .0) (s .pre .1) _ _ (c .before .segment-start .ensures) (c .segment-end .ensures)
+    ranges _ _ (s .pre .0) (s .pre .1 .1) _ _ (c .before .segment-start .ensures) (c .segment-end .ensures)
 
 value-at-requires : tie.Need-value-at-requires
-value-at-requires c κs = (c .before .before .pre .0, both-ends c .0)
+value-at-requires c κs = let p = c .before .before .pre in (p .0, (p .1 .0, both-ends c .0))
 
 value-at-requires-2 : tie.Need-value-at-requires-2
-value-at-requires-2 c κs = (c .before .before .before .pre .0, both-ends (c .before) .1)
+value-at-requires-2 c κs = let p = c .before .before .before .pre in (p .0, (p .1 .0, both-ends (c .before) .1))
 
 add-values : tie.Need-add-values
 add-values c = search needs
@@ -95,7 +95,7 @@ returns c =
     let b = c .before .before .before in
     let e = b .before .before in
     let s = e .before .before in
-    entry-is _ _ (s .pre .0) (s .pre .1) _ _ (e .before .segment-start .ensures) (e .segment-end .ensures) _ _ _
+    entry-is _ _ (s .pre .0) (s .pre .1 .1) _ _ (e .before .segment-start .ensures) (e .segment-end .ensures) _ _ _
     (b .before .value-at .ensures .0) (b .value-at2 .ensures .0) (c .pow2 .ensures)
 
 pub initial-at-spec : {M : Type 1} → statement M

@@ -10,16 +10,13 @@ use Rattle.tables.proofs.EntryBounds.{floor-input}
 use Rattle.filling.proofs.entries.value_at.Statement.{statement}
 use Rattle.filling.proofs.entries.value_at.Tie as tie
 
-row-of-requires : tie.Need-row-of-requires
-row-of-requires c κs = omega (arith, limits _ (c .pre .0) .widths)
-
 add-floor-value : tie.Need-add-floor-value
-add-floor-value c = omega (arith, limits _ (c .before .before .pre .0) .widths)
+add-floor-value c = omega (arith, limits _ (c .before .pre .0) .widths)
 
 floor-value-requires : tie.Need-floor-value-requires
 floor-value-requires c κs =
-    let start = c .before .before in
-    rw (c .before .row-of .ensures) (floor-input _ (limits _ (start .pre .0)) _ (start .pre .1))
+    let start = c .before in
+    rw (start .pre .1 .0) (floor-input _ (limits _ (start .pre .0)) _ (start .pre .1 .1))
 
 count-requires : tie.Need-count-requires
 count-requires c κs = rw (c .floor-value .ensures) tt
@@ -27,13 +24,12 @@ count-requires c κs = rw (c .floor-value .ensures) tt
 returns : tie.Need-returns
 unfolding valueAt
 returns c =
-    let b = c .before .before .before in
-    let units = rw (b .row-of .ensures) at (c .before .floor-value .ensures) in
+    let start = c .before .before .before in
+    let units = rw (start .pre .1 .0) at (c .before .floor-value .ensures) in
     let e = c .count .ensures ∙ ap (λ (u : TableUnits). natAbs (u .0)) units in
-    let start = b .before in
-    (e, rw e (floor-small _ _ _ _ (floor-input _ (limits _ (start .pre .0)) _ (start .pre .1))))
+    (e, rw e (floor-small _ _ _ _ (floor-input _ (limits _ (start .pre .0)) _ (start .pre .1 .1))))
 
 pub value-at-spec : {M : Type 1} → statement M
 value-at-spec =
     tie.close
-    (tie.spec row-of-requires add-floor-value floor-value-requires count-requires returns)
+    (tie.spec add-floor-value floor-value-requires count-requires returns)
