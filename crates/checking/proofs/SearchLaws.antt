@@ -1,18 +1,19 @@
 -- The search from 0 upwards: what is known before word x, how it goes on, and what it comes to.
-use mathlib.Core.Path.{_≡_, refl, sym, _∙_}
+use mathlib.Core.Path.{_≡_, refl, sym, ap, _∙_}
 use mathlib.Core.Bool.{Bool, true, false}
 use Prim.Native.Nat.{ℕ, _+_, _-_, _*_, _^_, _≤_, _<_}
 use native.Mathlib.Nat.{add-sub-of-le, add-zero, le-of-lt, mul-le-mul-right, not-suc-le-zero}
 use native.Mathlib.Numerals.{add-one}
 use native.Mathlib.Omega.{arith}
 use lib.Pow.{high, pow-add, pow-mono}
+use Rattle.refusal.specs.declared.Verdict.{Verdict}
 use Rattle.design.specs.declared.Design.{Design}
 use Rattle.design.specs.Cut.{initialWord, initialCount}
 use Rattle.design.proofs.LegalLaws.{Limits}
 use Rattle.design.proofs.Sums.{below-suc}
 use Rattle.tables.specs.declared.Checked.{Checked}
 use Rattle.tables.specs.Inputs.{SameInterval}
-use Rattle.tables.specs.Check.{wordsBelow}
+use Rattle.tables.specs.Check.{wordsBelow, checked}
 use Rattle.tables.proofs.CheckLaws.{check-all, check-bad}
 
 -- Every word below x is faithful, and the answer says so.
@@ -28,11 +29,12 @@ module _ (test : ℕ → Bool) where
     pub searched-more : {x : ℕ} → Searched test answer x → test x ≡ true → Searched test answer (x + 1)
     searched-more s e = record { answer-is = s .answer-is; all = λ i h. below-suc (rw add-one at h) (λ at. rw at e) (s .all i) }
 
-    pub searched-all : {n : ℕ} → Searched test answer n → answer ≡ wordsBelow n test
-    searched-all s = s .answer-is ∙ sym (check-all _ test (s .all))
+    pub searched-all : {n : ℕ} → Searched test answer n → answer ≡ checked Verdict.Passed (wordsBelow n test)
+    searched-all s = s .answer-is ∙ ap (checked Verdict.Passed) (sym (check-all _ test (s .all)))
 
-    pub searched-found : {n x : ℕ} → Searched test answer x → x < n → test x ≡ false → Checked.Unfaithful x ≡ wordsBelow n test
-    searched-found s h e = sym (check-bad _ _ test h (s .all) e)
+    pub searched-found : {n x : ℕ} → Searched test answer x → x < n → test x ≡ false
+        → Checked.Unfaithful x ≡ checked Verdict.Passed (wordsBelow n test)
+    searched-found s h e = ap (checked Verdict.Passed) (sym (check-bad _ _ test h (s .all) e))
 
     -- an interval that is searched to its end leads to the next
     pub next-interval : (interval rests rest : ℕ) → Searched test answer (interval * rests + rest) → rest ≡ rests

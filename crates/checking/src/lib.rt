@@ -3,7 +3,6 @@ ghost use mathlib.Core.Path.{_≡_};
 ghost use mathlib.Core.List.{List};
 ghost use Prim.Native.Nat.{ℕ, _^_, _≤_, _<_};
 ghost use lib.ListN.{length, getD};
-ghost use Rattle.refusal.specs.Numbers.{verdictNumber};
 ghost use Rattle.values.specs.Inputs.{FloorInput};
 ghost use Rattle.design.specs.Cut as Cut;
 ghost use Rattle.design.specs.Cut.{initialWord, offsetTotal};
@@ -11,7 +10,7 @@ ghost use Rattle.design.specs.Legal.{Legal};
 ghost use Rattle.tables.specs.Inputs.{Usable, SameInterval};
 ghost use Rattle.tables.specs.Lookup.{lookupsOf};
 ghost use Rattle.tables.specs.Faithful.{isFaithful};
-ghost use Rattle.tables.specs.Check.{faithfulAt, wordsBelow, checkVerdict, checkAnswer, refusalOf};
+ghost use Rattle.tables.specs.Check.{faithfulAt, wordsBelow, checked, checkAnswer, toldBy, checkTold};
 use design::Design;
 use refusal::Verdict;
 use tables::Checked;
@@ -72,7 +71,7 @@ fn search(d: Design, lookups: Lookups, row: Row, initial: &[u32], offsets: &[i32
     requires { ⌜ Usable d (length (now initial)) (length (now offsets)) ⌝ }
     requires { ⌜ lookups ≡ lookupsOf d ⌝ }
     requires { ⌜ row ≡ Cut.row d ⌝ }
-    ensures { λ r. ⌜ r ≡ wordsBelow (2 ^ d .w) (faithfulAt d (now (initial .entry)) (now (offsets .entry))) ⌝ }
+    ensures { λ r. ⌜ r ≡ checked Verdict.Passed (wordsBelow (2 ^ d .w) (faithfulAt d (now (initial .entry)) (now (offsets .entry)))) ⌝ }
 {
     let intervals = pow2(d.alpha) as u32;
     let rests = pow2(d.w - d.alpha) as u32;
@@ -94,7 +93,7 @@ fn search(d: Design, lookups: Lookups, row: Row, initial: &[u32], offsets: &[i32
 // Refusals 1 to 10 first, then the search.
 pub fn check(d: Design, initial: &[u32], offsets: &[i32]) -> Checked
     ensures answer { λ r. ⌜ r ≡ checkAnswer d (now (initial .entry)) (now (offsets .entry)) ⌝ }
-    ensures number { λ r. ⌜ refusalOf r ≡ verdictNumber (checkVerdict d (now (initial .entry)) (now (offsets .entry))) ⌝ }
+    ensures told { λ r. ⌜ toldBy r ≡ checkTold d (now (initial .entry)) (now (offsets .entry)) ⌝ }
 {
     if let Verdict::Refused(cause) = set_verdict(d, initial.len(), offsets.len()) {
         return Checked::Refused(cause);

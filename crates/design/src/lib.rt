@@ -1,9 +1,7 @@
-// A design: how the input word is cut up, how many entries that takes, and whether the error stays within its budget.
+// A design: how the input word is cut up, how many entries that takes, its error budget and whether that is below the limit.
 
 ghost use mathlib.Core.Path.{_≡_};
-ghost use Rattle.refusal.specs.Numbers.{verdictNumber};
-ghost use Rattle.design.specs.Legal.{designVerdict};
-ghost use Rattle.design.specs.Answers.{budgetAnswer, sizeAnswer, refusalOf};
+ghost use Rattle.design.specs.Answers.{budgetAnswer, sizeAnswer, toldBy, budgetTold, sizeTold};
 
 pub mod legal;
 pub mod measure;
@@ -39,7 +37,7 @@ pub enum Measured {
 
 pub fn budget(d: Design) -> Measured
     ensures answer { λ r. ⌜ r ≡ budgetAnswer d ⌝ }
-    ensures number { λ r. ⌜ refusalOf r ≡ verdictNumber (designVerdict d) ⌝ }
+    ensures told { λ r. ⌜ toldBy r ≡ budgetTold d ⌝ }
 {
     if let Verdict::Refused(cause) = design_verdict(d) {
         return Measured::Refused(cause);
@@ -49,7 +47,7 @@ pub fn budget(d: Design) -> Measured
 
 pub fn size(d: Design) -> Measured
     ensures answer { λ r. ⌜ r ≡ sizeAnswer d ⌝ }
-    ensures number { λ r. ⌜ refusalOf r ≡ verdictNumber (designVerdict d) ⌝ }
+    ensures told { λ r. ⌜ toldBy r ≡ sizeTold d ⌝ }
 {
     if let Verdict::Refused(cause) = design_verdict(d) {
         return Measured::Refused(cause);

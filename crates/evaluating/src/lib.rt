@@ -3,14 +3,13 @@ ghost use mathlib.Core.Path.{_≡_};
 ghost use mathlib.Core.List.{_++_, map};
 ghost use Prim.Native.Nat.{ℕ, _<_, _≤_};
 ghost use lib.ListN.{length, drop};
-ghost use Rattle.refusal.specs.Numbers.{verdictNumber};
 ghost use Rattle.refusal.specs.Checks.{verdict};
 ghost use Rattle.tables.specs.Inputs.{Usable};
 ghost use Rattle.tables.specs.Lookup.{lookupsOf};
 ghost use Rattle.tables.specs.Sum.{wordAt};
-ghost use Rattle.tables.specs.Evaluate.{wordChecks, evaluated, evaluateVerdict, evaluateAnswer};
+ghost use Rattle.tables.specs.Evaluate.{wordChecks, evaluated, evaluateAnswer, evaluateTold};
 ghost use Rattle.tables.specs.Evaluate as Evaluate;
-ghost use Rattle.tables.specs.Batch.{roomVerdict, placeVerdict, wordsBelow, batchAnswer, batchVerdict, outputAfter};
+ghost use Rattle.tables.specs.Batch.{roomVerdict, placeVerdict, wordsBelow, batchAnswer, batchTold, outputAfter};
 ghost use Rattle.tables.specs.Batch as Batch;
 
 pub mod range;
@@ -52,7 +51,7 @@ fn word_answer(d: Design, lookups: Lookups, initial: &[u32], offsets: &[i32], x:
 // The word that x gets, or the first refusal.
 pub fn evaluate(d: Design, initial: &[u32], offsets: &[i32], x: u32) -> Evaluated
     ensures answer { λ r. ⌜ r ≡ evaluateAnswer d (now (initial .entry)) (now (offsets .entry)) x ⌝ }
-    ensures number { λ r. ⌜ Evaluate.refusalOf r ≡ verdictNumber (evaluateVerdict d (now (initial .entry)) (now (offsets .entry)) x) ⌝ }
+    ensures told { λ r. ⌜ Evaluate.toldBy r ≡ evaluateTold d (now (initial .entry)) (now (offsets .entry)) x ⌝ }
 {
     if let Verdict::Refused(cause) = set_verdict(d, initial.len(), offsets.len()) {
         return Evaluated::Refused(cause);
@@ -159,8 +158,8 @@ pub fn evaluate_batch(
         ≡ batchAnswer d (now (initial .entry)) (now (offsets .entry)) (now (words .entry)) (length (now (output .entry))) ⌝ }
     ensures contents { λ r. ⌜ now (output .exit)
         ≡ outputAfter d (now (initial .entry)) (now (offsets .entry)) (now (words .entry)) (now (output .entry)) ⌝ }
-    ensures number { λ r. ⌜ Batch.refusalOf r ≡ verdictNumber
-        (batchVerdict d (now (initial .entry)) (now (offsets .entry)) (now (words .entry)) (length (now (output .entry)))) ⌝ }
+    ensures told { λ r. ⌜ Batch.toldBy r
+        ≡ batchTold d (now (initial .entry)) (now (offsets .entry)) (now (words .entry)) (length (now (output .entry))) ⌝ }
 {
     if let Verdict::Refused(cause) = room_verdict(d, initial, offsets, words.len(), output.len()) {
         return Batched::Refused(cause, 0);

@@ -7,14 +7,14 @@ use lib.IntN.{ℤ}
 use borrow.Author.Tests.{le-leb, lt-leb}
 use Rattle.refusal.specs.declared.Cause.{Cause}
 use Rattle.refusal.specs.declared.Verdict.{Verdict}
-use Rattle.refusal.specs.Numbers.{verdictNumber}
 use Rattle.refusal.specs.Checks.{verdict}
+use Rattle.refusal.specs.Told.{told, numberIn}
 use Rattle.refusal.proofs.Checks.{verdict-append}
 use Rattle.values.specs.Value.{wordCheck}
 use Rattle.design.specs.declared.Design.{Design}
 use Rattle.tables.specs.Fill.{setChecks}
 use Rattle.tables.specs.Sum.{sumAt}
-use Rattle.exports.specs.Behind.{sumVerdict, sumIf, sumAfter}
+use Rattle.exports.specs.Behind.{behind, sumVerdict, sumTold}
 
 module _ (d : Design) (initial : List ℕ) (offsets : List ℤ) (x : ℕ) where
   pub set-refuses : (cause : Cause) → verdict (setChecks d (length initial) (length offsets)) ≡ Verdict.Refused cause
@@ -33,7 +33,8 @@ module _ (d : Design) (initial : List ℕ) (offsets : List ℤ) (x : ℕ) where
 
   -- the number that is returned, and what stands behind the pointer, by the verdict
   pub by-verdict : (v : Verdict) → sumVerdict d initial offsets x ≡ v
-      → (n : ℕ) → n ≡ verdictNumber v → (before left : ℤ) → left ≡ sumIf v (sumAt d initial offsets x) before
-      → (n ≡ verdictNumber (sumVerdict d initial offsets x)) × (left ≡ sumAfter d initial offsets x before)
-  unfolding sumAfter
+      → (n : ℕ) → n ≡ numberIn (told v (sumAt d initial offsets x)) → (before left : ℤ)
+      → left ≡ behind (told v (sumAt d initial offsets x)) before
+      → (n ≡ numberIn (sumTold d initial offsets x)) × (left ≡ behind (sumTold d initial offsets x) before)
+  unfolding sumTold
   by-verdict v e n n-is before left left-is = (rw e n-is, rw e left-is)

@@ -13,15 +13,15 @@ use Rattle.design.specs.declared.Design.{Design}
 use Rattle.design.specs.Legal.{Legal}
 use Rattle.design.proofs.LegalLaws.{limits}
 use Rattle.tables.specs.declared.Checked.{Checked}
-use Rattle.tables.specs.Check.{afterChecks, checkVerdict, checkAnswer}
+use Rattle.tables.specs.Check.{Finding, checked, checkVerdict, checkAnswer}
 use Rattle.tables.proofs.SetLaws.{usable}
 
 pub words-counted : (d : Design) → Legal d → cond (leb (d .w) 16) (2 ^ d .w) 0 ≡ 2 ^ d .w
 words-counted d legal = rw (le-leb _ _ (limits d legal .widths .w-high))
 
-passed-checks : (v : Verdict) (answer : Checked) → afterChecks v answer ≡ Checked.Faithful → v ≡ Verdict.Passed
-passed-checks Verdict.Passed answer e = refl
-passed-checks (Verdict.Refused cause) answer e = let z : _≡_ {A = ℕ} 0 1 = cc in absurd (omega arith)
+passed-checks : (v : Verdict) (finding : Finding) → checked v finding ≡ Checked.Faithful → v ≡ Verdict.Passed
+passed-checks Verdict.Passed finding e = refl
+passed-checks (Verdict.Refused cause) finding e = let z : _≡_ {A = ℕ} 0 1 = cc in absurd (omega arith)
 
 pub faithful-legal : (d : Design) (initial : List ℕ) (offsets : List ℤ) → checkAnswer d initial offsets ≡ Checked.Faithful → Legal d
 unfolding checkAnswer checkVerdict

@@ -6,19 +6,15 @@ ghost use Prim.Native.Nat.{_^_};
 ghost use lib.Dec.{leb};
 ghost use lib.ListN.{length};
 ghost use Rattle.refusal.specs.Numbers.{verdictNumber};
-ghost use Rattle.values.specs.Value.{valueOf};
-ghost use Rattle.values.specs.Value as Value;
-ghost use Rattle.design.specs.Answers.{budgetAnswer, sizeAnswer};
-ghost use Rattle.design.specs.Answers as Answers;
+ghost use Rattle.refusal.specs.Told.{numberIn};
+ghost use Rattle.values.specs.Value.{valueTold};
+ghost use Rattle.design.specs.Answers.{toldBy, budgetTold, sizeTold};
 ghost use Rattle.tables.specs.Fill.{fillVerdict, initialAfter, offsetsAfter};
-ghost use Rattle.tables.specs.Evaluate.{evaluateAnswer};
-ghost use Rattle.tables.specs.Evaluate as Evaluate;
-ghost use Rattle.tables.specs.Batch.{batchAnswer, outputAfter};
-ghost use Rattle.tables.specs.Batch as Batch;
-ghost use Rattle.tables.specs.Check.{checkAnswer};
-ghost use Rattle.tables.specs.Check as Check;
+ghost use Rattle.tables.specs.Evaluate.{evaluateTold};
+ghost use Rattle.tables.specs.Batch.{batchTold, outputAfter};
+ghost use Rattle.tables.specs.Check.{checkTold};
 ghost use Rattle.exports.specs.Numbers.{designOf};
-ghost use Rattle.exports.specs.Behind.{unitsAfter, measureAfter, sumVerdict, sumAfter, wordAfter, placeAfter, firstAfter};
+ghost use Rattle.exports.specs.Behind.{behind, placeAfter, firstAfter, sumTold};
 
 pub mod design_numbers;
 pub mod line_calls;
@@ -47,8 +43,8 @@ use values::value;
 // The value, in table units.
 #[no_mangle]
 pub extern "C" fn dorykleth_value(kind: u32, w: u32, q: u32, g: u32, x: u32, units: &mut i64) -> u8
-    ensures number { λ r. ⌜ r ≡ Value.refusalOf (valueOf kind w q g x) ⌝ }
-    ensures units { λ _. ⌜ now (units .exit) ≡ unitsAfter (valueOf kind w q g x) (now (units .entry)) ⌝ }
+    ensures number { λ r. ⌜ r ≡ numberIn (valueTold kind w q g x) ⌝ }
+    ensures units { λ _. ⌜ now (units .exit) ≡ behind (valueTold kind w q g x) (now (units .entry)) ⌝ }
 {
     match value(kind, w, q, g, x) {
         Valued::Value(found) => {
@@ -62,8 +58,8 @@ pub extern "C" fn dorykleth_value(kind: u32, w: u32, q: u32, g: u32, x: u32, uni
 
 // A budget or a size behind a pointer.
 fn put_measure(measured: Measured, place: &mut u64) -> u8
-    ensures { λ r. ⌜ r ≡ Answers.refusalOf measured ⌝ }
-    ensures { λ _. ⌜ now (place .exit) ≡ measureAfter measured (now (place .entry)) ⌝ }
+    ensures { λ r. ⌜ r ≡ numberIn (toldBy measured) ⌝ }
+    ensures { λ _. ⌜ now (place .exit) ≡ behind (toldBy measured) (now (place .entry)) ⌝ }
 {
     match measured {
         Measured::Is(measure) => {
@@ -76,17 +72,16 @@ fn put_measure(measured: Measured, place: &mut u64) -> u8
 
 #[no_mangle]
 pub extern "C" fn dorykleth_budget(design: &[u32; 14], budget: &mut u64) -> u8
-    ensures number { λ r. ⌜ r ≡ Answers.refusalOf (budgetAnswer (designOf (now (design .entry)))) ⌝ }
-    ensures budget { λ _.
-        ⌜ now (budget .exit) ≡ measureAfter (budgetAnswer (designOf (now (design .entry)))) (now (budget .entry)) ⌝ }
+    ensures number { λ r. ⌜ r ≡ numberIn (budgetTold (designOf (now (design .entry)))) ⌝ }
+    ensures budget { λ _. ⌜ now (budget .exit) ≡ behind (budgetTold (designOf (now (design .entry)))) (now (budget .entry)) ⌝ }
 {
     put_measure(design::budget(design_of(design)), budget)
 }
 
 #[no_mangle]
 pub extern "C" fn dorykleth_size(design: &[u32; 14], bits: &mut u64) -> u8
-    ensures number { λ r. ⌜ r ≡ Answers.refusalOf (sizeAnswer (designOf (now (design .entry)))) ⌝ }
-    ensures bits { λ _. ⌜ now (bits .exit) ≡ measureAfter (sizeAnswer (designOf (now (design .entry)))) (now (bits .entry)) ⌝ }
+    ensures number { λ r. ⌜ r ≡ numberIn (sizeTold (designOf (now (design .entry)))) ⌝ }
+    ensures bits { λ _. ⌜ now (bits .exit) ≡ behind (sizeTold (designOf (now (design .entry)))) (now (bits .entry)) ⌝ }
 {
     put_measure(design::size(design_of(design)), bits)
 }
@@ -125,9 +120,9 @@ pub extern "C" fn dorykleth_sum(
     sum: &mut i64,
 ) -> u8
     ensures number { λ r.
-        ⌜ r ≡ verdictNumber (sumVerdict (designOf (now (design .entry))) (now (initial .entry)) (now (offsets .entry)) x) ⌝ }
+        ⌜ r ≡ numberIn (sumTold (designOf (now (design .entry))) (now (initial .entry)) (now (offsets .entry)) x) ⌝ }
     ensures sum { λ _.
-        ⌜ now (sum .exit) ≡ sumAfter (designOf (now (design .entry))) (now (initial .entry)) (now (offsets .entry)) x
+        ⌜ now (sum .exit) ≡ behind (sumTold (designOf (now (design .entry))) (now (initial .entry)) (now (offsets .entry)) x)
         (now (sum .entry)) ⌝ }
 {
     let d = design_of(design);
@@ -152,11 +147,10 @@ pub extern "C" fn dorykleth_evaluate(
     word: &mut u32,
 ) -> u8
     ensures number { λ r.
-        ⌜ r ≡ Evaluate.refusalOf
-        (evaluateAnswer (designOf (now (design .entry))) (now (initial .entry)) (now (offsets .entry)) x) ⌝ }
+        ⌜ r ≡ numberIn (evaluateTold (designOf (now (design .entry))) (now (initial .entry)) (now (offsets .entry)) x) ⌝ }
     ensures word { λ _.
         ⌜ now (word .exit)
-        ≡ wordAfter (evaluateAnswer (designOf (now (design .entry))) (now (initial .entry)) (now (offsets .entry)) x)
+        ≡ behind (evaluateTold (designOf (now (design .entry))) (now (initial .entry)) (now (offsets .entry)) x)
         (now (word .entry)) ⌝ }
 {
     match evaluate(design_of(design), initial, offsets, x) {
@@ -179,8 +173,8 @@ pub extern "C" fn dorykleth_evaluate_batch(
     place: &mut usize,
 ) -> u8
     ensures number { λ r.
-        ⌜ r ≡ Batch.refusalOf
-        (batchAnswer (designOf (now (design .entry))) (now (initial .entry)) (now (offsets .entry)) (now (words .entry))
+        ⌜ r ≡ numberIn
+        (batchTold (designOf (now (design .entry))) (now (initial .entry)) (now (offsets .entry)) (now (words .entry))
         (length (now (output .entry)))) ⌝ }
     ensures contents { λ _.
         ⌜ now (output .exit)
@@ -188,7 +182,7 @@ pub extern "C" fn dorykleth_evaluate_batch(
         (now (output .entry)) ⌝ }
     ensures place { λ _.
         ⌜ now (place .exit) ≡ placeAfter
-        (batchAnswer (designOf (now (design .entry))) (now (initial .entry)) (now (offsets .entry)) (now (words .entry))
+        (batchTold (designOf (now (design .entry))) (now (initial .entry)) (now (offsets .entry)) (now (words .entry))
         (length (now (output .entry)))) ⌝ }
 {
     match evaluate_batch(design_of(design), initial, offsets, words, output) {
@@ -212,10 +206,10 @@ pub extern "C" fn dorykleth_check(
     first: &mut u64,
 ) -> u8
     ensures number { λ r.
-        ⌜ r ≡ Check.refusalOf (checkAnswer (designOf (now (design .entry))) (now (initial .entry)) (now (offsets .entry))) ⌝ }
+        ⌜ r ≡ numberIn (checkTold (designOf (now (design .entry))) (now (initial .entry)) (now (offsets .entry))) ⌝ }
     ensures first { λ _.
         ⌜ now (first .exit) ≡ firstAfter (designOf (now (design .entry)) .w)
-        (checkAnswer (designOf (now (design .entry))) (now (initial .entry)) (now (offsets .entry)))
+        (checkTold (designOf (now (design .entry))) (now (initial .entry)) (now (offsets .entry)))
         (now (first .entry)) ⌝ }
 {
     let d = design_of(design);

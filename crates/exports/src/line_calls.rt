@@ -1,13 +1,13 @@
 // The calls on lines that are linked: writer, reader and report.
 ghost use mathlib.Core.Path.{_≡_};
-ghost use lib.ListN as ListN;
+ghost use lib.ListN.{length};
 ghost use Rattle.refusal.specs.Numbers.{verdictNumber};
-ghost use Rattle.writing.specs.Write.{writeAnswer, bufferAfter};
-ghost use Rattle.writing.specs.Write as Write;
+ghost use Rattle.refusal.specs.Told.{numberIn};
+ghost use Rattle.writing.specs.Write.{bufferAfter, writeTold};
 ghost use Rattle.reading.specs.ReadLine.{after, verdictOn, finished};
 ghost use Rattle.report_text.specs.Report.{reportOf};
 ghost use Rattle.exports.specs.Numbers.{designOf, numbersOf, stateOf, sessionOf};
-ghost use Rattle.exports.specs.Behind.{lengthAfter};
+ghost use Rattle.exports.specs.Behind.{behind};
 use crate::design_numbers::design_of;
 use crate::design_numbers::put_design;
 use crate::design_numbers::verdict_number;
@@ -24,24 +24,24 @@ pub extern "C" fn dorykleth_write_line(
     offsets: &[i32],
     line_number: usize,
     line: &mut [u8],
-    length: &mut usize,
+    digits: &mut usize,
 ) -> u8
     ensures number { λ r.
-        ⌜ r ≡ Write.refusalOf
-        (writeAnswer (designOf (now (design .entry))) (now (initial .entry)) (now (offsets .entry)) «line_number»
-        (ListN.length (now (line .entry)))) ⌝ }
+        ⌜ r ≡ numberIn
+        (writeTold (designOf (now (design .entry))) (now (initial .entry)) (now (offsets .entry)) «line_number»
+        (length (now (line .entry)))) ⌝ }
     ensures line_buffer { λ _.
         ⌜ now (line .exit) ≡ bufferAfter (designOf (now (design .entry))) (now (initial .entry)) (now (offsets .entry))
         «line_number» (now (line .entry)) ⌝ }
-    ensures length { λ _.
-        ⌜ now (length .exit) ≡ lengthAfter
-        (writeAnswer (designOf (now (design .entry))) (now (initial .entry)) (now (offsets .entry)) «line_number»
-        (ListN.length (now (line .entry))))
-        (now (length .entry)) ⌝ }
+    ensures digits { λ _.
+        ⌜ now (digits .exit) ≡ behind
+        (writeTold (designOf (now (design .entry))) (now (initial .entry)) (now (offsets .entry)) «line_number»
+        (length (now (line .entry))))
+        (now (digits .entry)) ⌝ }
 {
     match write_line(design_of(design), initial, offsets, line_number, line) {
-        Written::Length(digits) => {
-            *length = digits;
+        Written::Length(count) => {
+            *digits = count;
             0
         }
         Written::Refused(cause) => number(cause),

@@ -9,7 +9,7 @@ use lib.ListN.{length}
 use borrow.Author.Tests.{leb-true, leb-false, le-leb, lt-leb, eqb-true, eq-eqb, ne-eqb, not-false}
 use Rattle.refusal.specs.declared.Cause.{Cause}
 use Rattle.refusal.specs.declared.Verdict.{Verdict}
-use Rattle.refusal.specs.Checks.{Check, _↝_, verdict}
+use Rattle.refusal.specs.Checks.{Check, _↝_, verdict, passes}
 use Rattle.refusal.proofs.Checks.{neither, none-fails, passed-append}
 use Rattle.design.specs.Legal.{designVerdict}
 use Rattle.tables.specs.Inputs.{Usable}
@@ -23,7 +23,7 @@ use Rattle.lines.specs.Slots.{lineCount, slotOf}
 use Rattle.lines.specs.Lines.{frameHead, entryWidth}
 use Rattle.reading.specs.declared.Reading.{Reading}
 use Rattle.reading.specs.Inputs.{Begun}
-use Rattle.reading.specs.ReadLine.{passes, possible, finished, stateCheck, designOf, headFails, dueFails, dueChecks, readVerdict}
+use Rattle.reading.specs.ReadLine.{possible, finished, stateCheck, designOf, headFails, dueFails, dueChecks, readVerdict}
 
 -- A later frame is not the one due, by its bytes and their number.
 abbrev pub notDue : Reading → List ℕ → ℕ → Bool

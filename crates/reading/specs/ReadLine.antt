@@ -7,7 +7,7 @@ use lib.ListN.{length, take, drop, set}
 use lib.IntN.{ℤ}
 use Rattle.refusal.specs.declared.Cause.{Cause}
 use Rattle.refusal.specs.declared.Verdict.{Verdict}
-use Rattle.refusal.specs.Checks.{Check, _↝_, verdict}
+use Rattle.refusal.specs.Checks.{Check, _↝_, verdict, passes}
 use Rattle.design.specs.declared.Design.{Design}
 use Rattle.design.specs.Legal.{designChecks, designVerdict}
 use Rattle.tables.specs.Fill.{tablesCheck}
@@ -20,10 +20,6 @@ use Rattle.lines.specs.Slots.{lineCount, slotOf}
 use Rattle.lines.specs.Lines.{frameHead, entryWidth}
 use Rattle.reading.specs.declared.Reading.{Reading}
 use Rattle.reading.specs.declared.Read.{Read}
-
-abbrev pub passes : Verdict → Bool
-passes Verdict.Passed = true
-passes (Verdict.Refused cause) = false
 
 -- "The state is possible if no line is taken, or if the design is legal and no more lines are taken than the set has."
 unfoldable pub possible : Reading → Bool

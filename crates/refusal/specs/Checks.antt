@@ -24,6 +24,11 @@ abbrev pub verdict : List Check → Verdict
 verdict [] = Verdict.Passed
 verdict (check ∷ checks) = refuses (check .fails) (check .cause) (verdict checks)
 
+-- Whether nothing was turned down
+abbrev pub passes : Verdict → Bool
+passes Verdict.Passed = true
+passes (Verdict.Refused cause) = false
+
 -- n is not within low..high
 abbrev pub outside : ℕ → ℕ → ℕ → Bool
 outside low high n = ltb n low || ltb high n

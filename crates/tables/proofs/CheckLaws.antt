@@ -9,13 +9,26 @@ use native.Mathlib.Omega.{arith}
 use lib.IntN.{ℤ}
 use borrow.Author.Tests.{ltb-true, lt-ltb, not-true}
 use Rattle.refusal.specs.declared.Verdict.{Verdict}
+use Rattle.refusal.specs.Told.{told}
 use Rattle.values.specs.declared.rows.Row.{Row}
 use Rattle.design.specs.declared.Design.{Design}
 use Rattle.design.specs.Cut.{row}
 use Rattle.design.proofs.Sums.{below-suc}
 use Rattle.tables.specs.declared.Checked.{Checked}
 use Rattle.tables.specs.Faithful.{Faithful, isFaithful}
-use Rattle.tables.specs.Check.{faithfulAt, wordsBelow, checkVerdict, checkAnswer, refusalOf, FaithfulWord, CheckMeans}
+use Rattle.tables.specs.Check.{
+  Finding,
+  all-faithful,
+  lowest-unfaithful,
+  faithfulAt,
+  wordsBelow,
+  checked,
+  checkVerdict,
+  checkAnswer,
+  toldBy,
+  FaithfulWord,
+  CheckMeans,
+}
 
 pub both : (a b : Bool) → a && b ≡ true → (a ≡ true) × (b ≡ true)
 both true b e = (refl, e)
@@ -38,14 +51,14 @@ module _ (row : Row) (w q X y : ℕ) where
   faithful-tested f = both-so _ _ (both-so _ _ (lt-ltb _ _ (f .positive)) (lt-ltb _ _ (f .low))) (lt-ltb _ _ (f .high))
 
 -- All words below n are faithful,
-pub check-all : (n : ℕ) (test : ℕ → Bool) → ((x : ℕ) → x < n → test x ≡ true) → wordsBelow n test ≡ Checked.Faithful
+pub check-all : (n : ℕ) (test : ℕ → Bool) → ((x : ℕ) → x < n → test x ≡ true) → wordsBelow n test ≡ all-faithful
 unfolding wordsBelow
 check-all zero test all = refl
 check-all (suc n) test all = rw (check-all n test (λ x h. all x (le-step h)), all n (le-refl _)) refl
 
 -- or x is the lowest that is not.
 pub check-bad : (n x : ℕ) (test : ℕ → Bool) → x < n → ((i : ℕ) → i < x → test i ≡ true) → test x ≡ false
-    → wordsBelow n test ≡ Checked.Unfaithful x
+    → wordsBelow n test ≡ lowest-unfaithful x
 unfolding wordsBelow
 check-bad zero x test h below bad = absurd (not-suc-le-zero h)
 check-bad (suc n) x test h below bad =
@@ -72,33 +85,41 @@ all-or-lowest (suc n) test = ⊎-elim more (λ l. inr (l .0, later (l .1))) (all
         here true e = inl (λ x h. below-suc h (λ at. rw at e) (all x))
         here false e = inr (n, record { inside = le-refl _; fails = e; below = all })
 
--- The answer's cases are told apart.
+-- The findings are told apart.
 module _ {x : ℕ} where
-  not-both : Checked.Faithful ≡ Checked.Unfaithful x → ⊥
+  not-both : all-faithful ≡ lowest-unfaithful x → ⊥
   not-both e = let z : _≡_ {A = ℕ} 0 1 = cc in absurd (omega arith)
 
-  same-word : {y : ℕ} → Checked.Unfaithful y ≡ Checked.Unfaithful x → y ≡ x
+  same-word : {y : ℕ} → lowest-unfaithful y ≡ lowest-unfaithful x → y ≡ x
   same-word e = cc
 
--- Read back from the answer for the words below n
+-- and each answer tells its own.
+found-all : (finding : Finding) → checked Verdict.Passed finding ≡ Checked.Faithful → finding ≡ all-faithful
+found-all all-faithful e = refl
+found-all (lowest-unfaithful lowest) e = let z : _≡_ {A = ℕ} 0 1 = cc in absurd (omega arith)
+
+found-lowest : (finding : Finding) {x : ℕ} → checked Verdict.Passed finding ≡ Checked.Unfaithful x → finding ≡ lowest-unfaithful x
+found-lowest all-faithful e = let z : _≡_ {A = ℕ} 0 1 = cc in absurd (omega arith)
+found-lowest (lowest-unfaithful lowest) e = cc
+
+-- Read back from what is found among the words below n
 module _ (n : ℕ) (test : ℕ → Bool) where
-  pub all-told : wordsBelow n test ≡ Checked.Faithful → (x : ℕ) → x < n → test x ≡ true
+  pub all-told : wordsBelow n test ≡ all-faithful → (x : ℕ) → x < n → test x ≡ true
   all-told e =
       ⊎-elim (λ all. all) (λ l. absurd (not-both (sym e ∙ check-bad n (l .0) test (l .1 .inside) (l .1 .below) (l .1 .fails))))
       (all-or-lowest n test)
 
-  pub lowest-told : (x : ℕ) → wordsBelow n test ≡ Checked.Unfaithful x → Lowest n test x
+  pub lowest-told : (x : ℕ) → wordsBelow n test ≡ lowest-unfaithful x → Lowest n test x
   lowest-told x e =
       ⊎-elim (λ all. absurd (not-both (sym (check-all n test all) ∙ e)))
       (λ l. rw (← same-word (sym (check-bad n (l .0) test (l .1 .inside) (l .1 .below) (l .1 .fails)) ∙ e)) (l .1))
       (all-or-lowest n test)
 
--- The search itself turns nothing down.
-pub search-unrefused : (n : ℕ) (test : ℕ → Bool) → refusalOf (wordsBelow n test) ≡ 0
-search-unrefused n test =
-    ⊎-elim (λ (all : (x : ℕ) → x < n → test x ≡ true). rw (check-all n test all) refl)
-    (λ (l : (x : ℕ) × Lowest n test x). rw (check-bad n (l .0) test (l .1 .inside) (l .1 .below) (l .1 .fails)) refl)
-    (all-or-lowest n test)
+-- The answer tells its verdict and what was found.
+pub checked-told : (v : Verdict) (finding : Finding) → toldBy (checked v finding) ≡ told v finding
+checked-told Verdict.Passed all-faithful = refl
+checked-told Verdict.Passed (lowest-unfaithful lowest) = refl
+checked-told (Verdict.Refused cause) finding = refl
 
 module _ (d : Design) (initial : List ℕ) (offsets : List ℤ) (x : ℕ) where
   pub word-test : faithfulAt d initial offsets x ≡ true → FaithfulWord d initial offsets x
@@ -117,7 +138,7 @@ module _ (d : Design) (initial : List ℕ) (offsets : List ℤ) (x : ℕ) where
 
 -- Where the refusals pass, the answer is that of the search.
 pub check-searches : (d : Design) (initial : List ℕ) (offsets : List ℤ) → checkVerdict d initial offsets ≡ Verdict.Passed
-    → checkAnswer d initial offsets ≡ wordsBelow (2 ^ d .w) (faithfulAt d initial offsets)
+    → checkAnswer d initial offsets ≡ checked Verdict.Passed (wordsBelow (2 ^ d .w) (faithfulAt d initial offsets))
 unfolding checkAnswer
 check-searches d initial offsets passed = rw passed refl
 
@@ -129,16 +150,16 @@ pub check-means : (d : Design) (initial : List ℕ) (offsets : List ℤ) → che
     → CheckMeans d initial offsets
 check-means d initial offsets passed =
     record {
-      says-faithful = λ e x h. word-test d initial offsets x (all-told n test (rw answer at e) x h);
-      is-faithful = λ all. answer ∙ check-all n test (λ x h. word-tested d initial offsets x (all x h));
+      says-faithful = λ e x h. word-test d initial offsets x (all-told n test (found-all _ (sym answer ∙ e)) x h);
+      is-faithful = λ all. said (check-all n test (λ x h. word-tested d initial offsets x (all x h)));
       names = λ x e.
-          let l = lowest-told n test x (rw answer at e) in
+          let l = lowest-told n test x (found-lowest _ (sym answer ∙ e)) in
           (l .inside, word-failed d initial offsets x (l .fails), λ i h. word-test d initial offsets i (l .below i h));
       is-named = λ x h bad below.
-          answer ∙ check-bad n x test h (λ i k. word-tested d initial offsets i (below i k))
-          (test-fails (test x) (λ e. bad (word-test d initial offsets x e)));
-      answers = ⊎-elim (λ all. inl (answer ∙ check-all n test all))
-          (λ l. inr (l .0, answer ∙ check-bad n (l .0) test (l .1 .inside) (l .1 .below) (l .1 .fails)))
+          said (check-bad n x test h (λ i k. word-tested d initial offsets i (below i k))
+          (test-fails (test x) (λ e. bad (word-test d initial offsets x e))));
+      answers = ⊎-elim (λ all. inl (said (check-all n test all)))
+          (λ l. inr (l .0, said (check-bad n (l .0) test (l .1 .inside) (l .1 .below) (l .1 .fails))))
           (all-or-lowest n test);
     }
   where
@@ -148,5 +169,8 @@ check-means d initial offsets passed =
     test : ℕ → Bool
     test = faithfulAt d initial offsets
 
-    answer : checkAnswer d initial offsets ≡ wordsBelow n test
+    answer : checkAnswer d initial offsets ≡ checked Verdict.Passed (wordsBelow n test)
     answer = check-searches d initial offsets passed
+
+    said : {finding : Finding} → wordsBelow n test ≡ finding → checkAnswer d initial offsets ≡ checked Verdict.Passed finding
+    said e = answer ∙ ap (checked Verdict.Passed) e

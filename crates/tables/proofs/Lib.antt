@@ -9,6 +9,6 @@ pub mod CheckLaws
 pub mod WordLaws
 pub mod BatchLaws
 pub mod Opened
-pub mod BatchNumber
+pub mod BatchTold
 pub mod Unread
 pub mod WritingLaws

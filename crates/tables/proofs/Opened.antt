@@ -17,15 +17,26 @@ use Rattle.tables.specs.Fill.{
   initialAfter,
   offsetsAfter,
 }
-use Rattle.tables.specs.Evaluate.{wordChecks, evaluateVerdict, evaluateAnswer}
-use Rattle.tables.specs.Batch.{outputCheck, roomVerdict, wordsBelow, placeVerdict, batchAnswer, outputAfter}
+use Rattle.tables.specs.Evaluate.{wordChecks, evaluateVerdict, evaluateAnswer, evaluateTold}
+use Rattle.tables.specs.Batch.{
+  outputCheck,
+  roomVerdict,
+  wordsBelow,
+  placeVerdict,
+  batchAnswer,
+  checksBelow,
+  batchVerdict,
+  outputAfter,
+  passing,
+  batchTold,
+}
 use Rattle.tables.specs.Check as Check
-use Rattle.tables.specs.Check.{faithfulAt, checkVerdict, checkAnswer}
+use Rattle.tables.specs.Check.{faithfulAt, checkVerdict, checkAnswer, checkTold}
 
 unfoldable pub tables-opened : Unit {0}
 unfolding
     design-opened valueAt endValues initialAt hiAt loAt oddNumber magnitude sameSign signed offsetOf offsetAt lookupOf lookupsOf placeAt signedSum offsetFor sumAt sumOutside
     wordOf wordAt isFaithful tablesCheck setChecks admittedCheck fillVerdict listBelow initialEntries tableEntries offsetsBelow
-    offsetEntries initialAfter offsetsAfter wordChecks evaluateVerdict evaluateAnswer outputCheck roomVerdict wordsBelow placeVerdict
-    batchAnswer outputAfter faithfulAt Check.wordsBelow checkVerdict checkAnswer
+    offsetEntries initialAfter offsetsAfter wordChecks evaluateVerdict evaluateAnswer evaluateTold outputCheck roomVerdict wordsBelow placeVerdict
+    batchAnswer checksBelow batchVerdict outputAfter passing batchTold faithfulAt Check.wordsBelow checkVerdict checkAnswer checkTold
 tables-opened = tt

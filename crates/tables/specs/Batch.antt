@@ -1,13 +1,15 @@
 -- What the call `evaluate_batch` answers, "for a batch 14, then 12 and 13 word by word", and what it leaves in the output.
+use mathlib.Core.Bool.{Bool, true, false, cond, _&&_}
 use mathlib.Core.List.{List, [], _∷_, _++_, map}
 use Prim.Native.Nat.{ℕ, zero, suc}
-use lib.Dec.{ltb}
+use lib.Dec.{eqb, ltb}
 use lib.ListN.{length, getD, drop}
 use lib.IntN.{ℤ}
 use Rattle.refusal.specs.declared.Cause.{Cause}
 use Rattle.refusal.specs.declared.Verdict.{Verdict}
 use Rattle.refusal.specs.Numbers.{numberOf}
-use Rattle.refusal.specs.Checks.{Check, _↝_, verdict}
+use Rattle.refusal.specs.Checks.{Check, _↝_, verdict, passes}
+use Rattle.refusal.specs.Told.{Told, accepted, refused, toldAt}
 use Rattle.design.specs.declared.Design.{Design}
 use Rattle.tables.specs.declared.Batched.{Batched}
 use Rattle.tables.specs.Sum.{wordAt}
@@ -67,11 +69,24 @@ unfoldable pub outputAfter : Design → List ℕ → List ℤ → List ℕ → L
 outputAfter d initial offsets words output =
     outputLeft (batchAnswer d initial offsets words (length output)) (map (wordAt d initial offsets) words) output
 
--- Document 01's numbers of an answer: the refusal, 0 where there is none, and the place.
-abbrev pub refusalOf : Batched → ℕ
-refusalOf (Batched.Count count) = 0
-refusalOf (Batched.Refused cause place) = numberOf cause
+-- What each answer tells: how many words there are, or the refusal's number and the place
+abbrev pub toldBy : Batched → Told ℕ
+toldBy (Batched.Count count) = accepted count
+toldBy (Batched.Refused cause place) = refused (numberOf cause) place
 
-abbrev pub placeOf : Batched → ℕ
-placeOf (Batched.Count count) = 0
-placeOf (Batched.Refused cause place) = place
+-- How many of the first n words pass before one does not: the place of the lowest bad word, if there is one
+unfoldable pub passing : ℕ → (ℕ → Verdict) → ℕ
+passing zero word = 0
+passing (suc n) word = cond (eqb (passing n word) n && passes (word n)) (suc n) (passing n word)
+
+-- "for a batch also the place of the word (0 for all other causes)"
+abbrev pub placeIf : Verdict → ℕ → ℕ
+placeIf Verdict.Passed place = place
+placeIf (Verdict.Refused cause) place = 0
+
+-- What is to be told: the refusal's number, by all checks in their order, and the place of the lowest bad word; else how many words
+unfoldable pub batchTold : Design → List ℕ → List ℤ → List ℕ → ℕ → Told ℕ
+batchTold d initial offsets words output =
+    toldAt (batchVerdict d initial offsets words output)
+    (placeIf (roomVerdict d initial offsets (length words) output) (passing (length words) (placeVerdict d initial offsets words)))
+    (length words)

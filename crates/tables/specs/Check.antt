@@ -9,6 +9,7 @@ use lib.IntN.{ℤ}
 use Rattle.refusal.specs.declared.Verdict.{Verdict}
 use Rattle.refusal.specs.Numbers.{numberOf}
 use Rattle.refusal.specs.Checks.{verdict}
+use Rattle.refusal.specs.Told.{Told, accepted, refused, told}
 use Rattle.design.specs.declared.Design.{Design}
 use Rattle.design.specs.Cut.{row}
 use Rattle.tables.specs.declared.Checked.{Checked}
@@ -21,34 +22,43 @@ unfoldable pub faithfulAt : Design → List ℕ → List ℤ → ℕ → Bool
 faithfulAt d initial offsets x =
     not (sumOutside d (sumAt d initial offsets x)) && isFaithful (row d) (d .w) (d .q) (2 ^ d .w + x) (wordAt d initial offsets x)
 
--- "From 0 upwards, the check stops at the lowest unfaithful word and names it, or answers faithful."
-abbrev pub oneMore : Checked → Bool → ℕ → Checked
-oneMore Checked.Faithful true x = Checked.Faithful
-oneMore Checked.Faithful false x = Checked.Unfaithful x
-oneMore (Checked.Unfaithful lowest) faithful x = Checked.Unfaithful lowest
-oneMore (Checked.Refused cause) faithful x = Checked.Refused cause
+-- What the check finds: "the check stops at the lowest unfaithful word and names it, or answers faithful."
+pub data Finding : Type 0 where
+  all-faithful : Finding
+  lowest-unfaithful : ℕ → Finding
 
--- The answer for the words below n, by whether each is faithful.
-unfoldable pub wordsBelow : ℕ → (ℕ → Bool) → Checked
-wordsBelow zero faithful = Checked.Faithful
+-- "From 0 upwards": what is found up to the word x, and with x
+abbrev pub oneMore : Finding → Bool → ℕ → Finding
+oneMore all-faithful true x = all-faithful
+oneMore all-faithful false x = lowest-unfaithful x
+oneMore (lowest-unfaithful lowest) faithful x = lowest-unfaithful lowest
+
+-- What is found among the words below n, by whether each is faithful
+unfoldable pub wordsBelow : ℕ → (ℕ → Bool) → Finding
+wordsBelow zero faithful = all-faithful
 wordsBelow (suc n) faithful = oneMore (wordsBelow n faithful) (faithful n) n
 
-abbrev pub afterChecks : Verdict → Checked → Checked
-afterChecks Verdict.Passed answer = answer
-afterChecks (Verdict.Refused cause) answer = Checked.Refused cause
+abbrev pub checked : Verdict → Finding → Checked
+checked Verdict.Passed all-faithful = Checked.Faithful
+checked Verdict.Passed (lowest-unfaithful lowest) = Checked.Unfaithful lowest
+checked (Verdict.Refused cause) finding = Checked.Refused cause
 
 unfoldable pub checkVerdict : Design → List ℕ → List ℤ → Verdict
 checkVerdict d initial offsets = verdict (setChecks d (length initial) (length offsets))
 
 unfoldable pub checkAnswer : Design → List ℕ → List ℤ → Checked
 checkAnswer d initial offsets =
-    afterChecks (checkVerdict d initial offsets) (wordsBelow (2 ^ d .w) (faithfulAt d initial offsets))
+    checked (checkVerdict d initial offsets) (wordsBelow (2 ^ d .w) (faithfulAt d initial offsets))
 
--- Document 01's number of an answer: 0 where nothing is turned down.
-abbrev pub refusalOf : Checked → ℕ
-refusalOf Checked.Faithful = 0
-refusalOf (Checked.Unfaithful lowest) = 0
-refusalOf (Checked.Refused cause) = numberOf cause
+-- What each answer tells: faithful, the lowest unfaithful word, or the refusal's number
+abbrev pub toldBy : Checked → Told Finding
+toldBy Checked.Faithful = accepted all-faithful
+toldBy (Checked.Unfaithful lowest) = accepted (lowest-unfaithful lowest)
+toldBy (Checked.Refused cause) = refused (numberOf cause) 0
+
+-- What is to be told: "check 1 to 10", else what is found among all words
+unfoldable pub checkTold : Design → List ℕ → List ℤ → Told Finding
+checkTold d initial offsets = told (checkVerdict d initial offsets) (wordsBelow (2 ^ d .w) (faithfulAt d initial offsets))
 
 -- An input "has a word, less than one output unit from the exact value".
 pub record FaithfulWord (d : Design) (initial : List ℕ) (offsets : List ℤ) (x : ℕ) : Type 0 where

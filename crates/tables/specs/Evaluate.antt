@@ -7,6 +7,7 @@ use Rattle.refusal.specs.declared.Cause.{Cause}
 use Rattle.refusal.specs.declared.Verdict.{Verdict}
 use Rattle.refusal.specs.Numbers.{numberOf}
 use Rattle.refusal.specs.Checks.{Check, _↝_, verdict}
+use Rattle.refusal.specs.Told.{Told, accepted, refused, told}
 use Rattle.values.specs.Value.{wordCheck}
 use Rattle.design.specs.declared.Design.{Design}
 use Rattle.tables.specs.declared.Evaluated.{Evaluated}
@@ -27,7 +28,11 @@ evaluated (Verdict.Refused cause) word = Evaluated.Refused cause
 unfoldable pub evaluateAnswer : Design → List ℕ → List ℤ → ℕ → Evaluated
 evaluateAnswer d initial offsets x = evaluated (evaluateVerdict d initial offsets x) (wordAt d initial offsets x)
 
--- Document 01's number of an answer: 0 for a word.
-abbrev pub refusalOf : Evaluated → ℕ
-refusalOf (Evaluated.Word word) = 0
-refusalOf (Evaluated.Refused cause) = numberOf cause
+-- What each answer tells: the word, in output units, or the refusal's number
+abbrev pub toldBy : Evaluated → Told ℕ
+toldBy (Evaluated.Word word) = accepted (word .0)
+toldBy (Evaluated.Refused cause) = refused (numberOf cause) 0
+
+-- What is to be told: "evaluation 1 to 10, .. then 12 and 13", else the word
+unfoldable pub evaluateTold : Design → List ℕ → List ℤ → ℕ → Told ℕ
+evaluateTold d initial offsets x = told (evaluateVerdict d initial offsets x) (wordAt d initial offsets x)

@@ -2,11 +2,12 @@
 use mathlib.Core.List.{[], _∷_, _++_}
 use Prim.Native.Nat.{ℕ, _+_, _^_}
 use lib.Dec.{leb}
-use lib.IntN.{pos}
+use lib.IntN.{ℤ, pos}
 use Rattle.refusal.specs.declared.Cause.{Cause}
 use Rattle.refusal.specs.declared.Verdict.{Verdict}
 use Rattle.refusal.specs.Numbers.{numberOf}
 use Rattle.refusal.specs.Checks.{Check, _↝_, verdict}
+use Rattle.refusal.specs.Told.{Told, accepted, refused, told}
 use Rattle.values.specs.declared.Valued.{Valued}
 use Rattle.values.specs.Rows.{rowOf}
 use Rattle.values.specs.Floor.{floorValue}
@@ -26,7 +27,11 @@ valueVerdict kind w q g x = verdict (widthChecks kind w q g ++ wordCheck w x ∷
 unfoldable pub valueOf : ℕ → ℕ → ℕ → ℕ → ℕ → Valued
 valueOf kind w q g x = valued (valueVerdict kind w q g x) (floorValue (rowOf kind) w (q + g) (2 ^ w + x))
 
--- Document 01's number of an answer: 0 for a value.
-abbrev pub refusalOf : Valued → ℕ
-refusalOf (Valued.Value units) = 0
-refusalOf (Valued.Refused cause) = numberOf cause
+-- What each answer tells: the value, in table units, or the refusal's number
+abbrev pub toldBy : Valued → Told ℤ
+toldBy (Valued.Value units) = accepted (units .0)
+toldBy (Valued.Refused cause) = refused (numberOf cause) 0
+
+-- What is to be told: "values 1 to 4, 12", else L(X)
+unfoldable pub valueTold : ℕ → ℕ → ℕ → ℕ → ℕ → Told ℤ
+valueTold kind w q g x = told (valueVerdict kind w q g x) (pos (floorValue (rowOf kind) w (q + g) (2 ^ w + x)))

@@ -16,7 +16,7 @@ fn num(row: Row, w: u32, x: u64) -> u64
 }
 
 // inner: what it is divided by.
-pub fn den(row: Row, w: u32, x: u64) -> u64
+pub(crate) fn den(row: Row, w: u32, x: u64) -> u64
     requires { ⌜ ExactInput row w x ⌝ }
     ensures { λ r. ⌜ r ≡ Exact.den row w x ⌝ }
 {

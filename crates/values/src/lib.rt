@@ -2,10 +2,9 @@
 ghost use mathlib.Core.Path.{_≡_};
 ghost use Prim.Native.Nat.{_+_};
 ghost use lib.Dec.{T};
-ghost use Rattle.refusal.specs.Numbers.{verdictNumber};
 ghost use lib.IntN.{natAbs};
 ghost use lib.Signed.{nonNeg};
-ghost use Rattle.values.specs.Value.{valueVerdict, valueOf, refusalOf};
+ghost use Rattle.values.specs.Value.{valueOf, toldBy, valueTold};
 
 pub mod exact;
 pub mod floor;
@@ -44,7 +43,7 @@ pub enum Valued {
 // L(X) for an input word x, in table units.
 pub fn value(kind: u32, w: u32, q: u32, g: u32, x: u32) -> Valued
     ensures answer { λ r. ⌜ r ≡ valueOf kind w q g x ⌝ }
-    ensures number { λ r. ⌜ refusalOf r ≡ verdictNumber (valueVerdict kind w q g x) ⌝ }
+    ensures told { λ r. ⌜ toldBy r ≡ valueTold kind w q g x ⌝ }
 {
     if let Verdict::Refused(cause) = width_verdict(kind, w, q, g) {
         return Valued::Refused(cause);

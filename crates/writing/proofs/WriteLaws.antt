@@ -8,7 +8,6 @@ use lib.ListN.{length}
 use borrow.Author.Tests.{le-leb, lt-leb, ltb-false, not-false}
 use Rattle.refusal.specs.declared.Cause.{Cause}
 use Rattle.refusal.specs.declared.Verdict.{Verdict}
-use Rattle.refusal.specs.Numbers.{verdictNumber}
 use Rattle.refusal.specs.Checks.{verdict}
 use Rattle.refusal.proofs.Checks.{verdict-append, none-fails}
 use Rattle.design.specs.declared.Design.{Design}
@@ -29,7 +28,7 @@ use Rattle.lines.specs.Inputs.{SlotIn}
 use Rattle.lines.proofs.SlotLaws.{slot-in}
 use Rattle.lines.proofs.FrameLaws.{frame-length, frame-short, entry-short}
 use Rattle.writing.specs.declared.Written.{Written}
-use Rattle.writing.specs.Write.{numberCheck, lineChecks, writeVerdict, writeAnswer, bufferAfter, refusalOf}
+use Rattle.writing.specs.Write.{numberCheck, lineChecks, writeVerdict, writeAnswer, bufferAfter, toldBy, writeTold}
 
 -- "writer 1 to 10, 19, 18, 14"
 module _ (d : Design) (initial : List ℕ) (offsets : List ℤ) (n buffer : ℕ) where
@@ -109,19 +108,19 @@ module _ (d : Design) (initial : List ℕ) (offsets : List ℤ) (n : ℕ) (buffe
   abbrev pub Promised : Written → List ℕ → Type 0
   Promised r left =
       (r ≡ writeAnswer d initial offsets n (length buffer))
-      × ((refusalOf r ≡ verdictNumber (writeVerdict d initial offsets n (length buffer)))
+      × ((toldBy r ≡ writeTold d initial offsets n (length buffer))
       × (left ≡ bufferAfter d initial offsets n buffer))
 
   -- A refusal leaves the line buffer as it was,
   pub refuses : {cause : Cause} → writeVerdict d initial offsets n (length buffer) ≡ Verdict.Refused cause
       → Promised (Written.Refused cause) buffer
-  unfolding writeAnswer bufferAfter
+  unfolding writeAnswer bufferAfter writeTold
   refuses e = rw e (refl, (refl, refl))
 
   -- and otherwise the line stands at its start.
   pub writes : {count : ℕ} {left : List ℕ} → writeVerdict d initial offsets n (length buffer) ≡ Verdict.Passed
       → length (lineAt d initial offsets n) ≡ count → left ≡ over buffer 0 (lineAt d initial offsets n)
       → Promised (Written.Length count) left
-  unfolding writeAnswer bufferAfter
+  unfolding writeAnswer bufferAfter writeTold
   writes e count-is left-is =
-      rw e (rw count-is refl, (refl, left-is ∙ over-start buffer (lineAt d initial offsets n)))
+      rw e (rw count-is refl, (rw count-is refl, left-is ∙ over-start buffer (lineAt d initial offsets n)))

@@ -9,6 +9,7 @@ use Rattle.refusal.specs.declared.Cause.{Cause}
 use Rattle.refusal.specs.declared.Verdict.{Verdict}
 use Rattle.refusal.specs.Numbers.{numberOf}
 use Rattle.refusal.specs.Checks.{Check, _↝_, verdict}
+use Rattle.refusal.specs.Told.{Told, accepted, refused, told}
 use Rattle.design.specs.declared.Design.{Design}
 use Rattle.tables.specs.Fill.{setChecks, leaves}
 use Rattle.lines.specs.Slots.{lineCount, slotOf}
@@ -29,8 +30,8 @@ writeVerdict d initial offsets n buffer =
     ∷ lineChecks (entryFits (slotOf d n) initial offsets) (length (lineAt d initial offsets n)) buffer)
 
 abbrev pub written : Verdict → ℕ → Written
-written Verdict.Passed length = Written.Length length
-written (Verdict.Refused cause) length = Written.Refused cause
+written Verdict.Passed digits = Written.Length digits
+written (Verdict.Refused cause) digits = Written.Refused cause
 
 -- The writer "returns its length"; n is the asked number, `buffer` the length of the line buffer.
 unfoldable pub writeAnswer : Design → List ℕ → List ℤ → ℕ → ℕ → Written
@@ -42,7 +43,11 @@ unfoldable pub bufferAfter : Design → List ℕ → List ℤ → ℕ → List �
 bufferAfter d initial offsets n buffer =
     leaves (writeVerdict d initial offsets n (length buffer)) (lineAt d initial offsets n) buffer
 
--- Document 01's number of an answer: 0 for a length.
-abbrev pub refusalOf : Written → ℕ
-refusalOf (Written.Length length) = 0
-refusalOf (Written.Refused cause) = numberOf cause
+-- What each answer tells: the line's length, or the refusal's number
+abbrev pub toldBy : Written → Told ℕ
+toldBy (Written.Length digits) = accepted digits
+toldBy (Written.Refused cause) = refused (numberOf cause) 0
+
+-- What is to be told: "writer 1 to 10, 19, 18, 14", else the line's length
+unfoldable pub writeTold : Design → List ℕ → List ℤ → ℕ → ℕ → Told ℕ
+writeTold d initial offsets n buffer = told (writeVerdict d initial offsets n buffer) (length (lineAt d initial offsets n))

@@ -2,11 +2,10 @@
 ghost use mathlib.Core.Path.{_≡_};
 ghost use mathlib.Core.Bool.{true};
 ghost use lib.ListN.{length};
-ghost use Rattle.refusal.specs.Numbers.{verdictNumber};
 ghost use Rattle.refusal.specs.Checks.{verdict};
 ghost use Rattle.lines.specs.Lines.{entryFits, entryNumber};
 ghost use Rattle.lines.specs.Inputs.{SlotIn};
-ghost use Rattle.writing.specs.Write.{lineChecks, writeVerdict, writeAnswer, bufferAfter, refusalOf};
+ghost use Rattle.writing.specs.Write.{lineChecks, writeAnswer, bufferAfter, toldBy, writeTold};
 use design::Design;
 use encoding::numbers::complement;
 use encoding::numbers::fits_signed;
@@ -85,9 +84,8 @@ pub fn write_line(
 ) -> Written
     ensures answer { λ r.
         ⌜ r ≡ writeAnswer d (now (initial .entry)) (now (offsets .entry)) number (length (now (line .entry))) ⌝ }
-    ensures number { λ r.
-        ⌜ refusalOf r
-        ≡ verdictNumber (writeVerdict d (now (initial .entry)) (now (offsets .entry)) number (length (now (line .entry)))) ⌝ }
+    ensures told { λ r.
+        ⌜ toldBy r ≡ writeTold d (now (initial .entry)) (now (offsets .entry)) number (length (now (line .entry))) ⌝ }
     ensures line_buffer { λ r.
         ⌜ now (line .exit) ≡ bufferAfter d (now (initial .entry)) (now (offsets .entry)) number (now (line .entry)) ⌝ }
 {

@@ -1,5 +1,5 @@
 -- `checking::check` meets its contract: refusals 1 to 10, then the search.
-use mathlib.Core.Path.{_≡_, sym, _∙_}
+use mathlib.Core.Path.{_≡_, sym, ap, _∙_}
 use mathlib.Core.List.{List}
 use Prim.Native.Nat.{ℕ, _^_}
 use native.Mathlib.Omega.{arith}
@@ -8,29 +8,32 @@ use lib.ListN.{length}
 use borrow.Author.Needs.{needs}
 use Rattle.refusal.specs.declared.Cause.{Cause}
 use Rattle.refusal.specs.declared.Verdict.{Verdict}
-use Rattle.refusal.specs.Numbers.{verdictNumber}
 use Rattle.design.specs.declared.Design.{Design}
 use Rattle.design.proofs.LegalLaws.{limits}
 use Rattle.tables.specs.declared.Checked.{Checked}
 use Rattle.tables.specs.Inputs.{Usable}
-use Rattle.tables.specs.Check.{faithfulAt, wordsBelow, checkVerdict, checkAnswer, refusalOf}
+use Rattle.tables.specs.Check.{faithfulAt, wordsBelow, checked, checkVerdict, checkAnswer, toldBy, checkTold}
 use Rattle.tables.proofs.SetLaws.{usable}
-use Rattle.tables.proofs.CheckLaws.{check-searches, search-unrefused}
+use Rattle.tables.proofs.CheckLaws.{check-searches, checked-told}
 use Rattle.checking.proofs.check.Statement.{statement}
 use Rattle.checking.proofs.check.Tie as tie
 
 module _ (d : Design) (initial : List ℕ) (offsets : List ℤ) where
   -- what is promised of an answer
   abbrev Promised : Checked → Type 0
-  Promised r = (r ≡ checkAnswer d initial offsets) × (refusalOf r ≡ verdictNumber (checkVerdict d initial offsets))
+  Promised r = (r ≡ checkAnswer d initial offsets) × (toldBy r ≡ checkTold d initial offsets)
+
+  promised : (r : Checked) → r ≡ checkAnswer d initial offsets → Promised r
+  unfolding checkAnswer checkTold
+  promised r e = (e, ap toldBy e ∙ checked-told (checkVerdict d initial offsets) _)
 
   refused : (cause : Cause) → checkVerdict d initial offsets ≡ Verdict.Refused cause → Promised (Checked.Refused cause)
   unfolding checkAnswer
-  refused cause e = (rw e, rw e)
+  refused cause e = promised _ (rw e)
 
   searched : checkVerdict d initial offsets ≡ Verdict.Passed → (r : Checked)
-      → r ≡ wordsBelow (2 ^ d .w) (faithfulAt d initial offsets) → Promised r
-  searched e r r-is = (r-is ∙ sym (check-searches d initial offsets e), rw (r-is, e) (search-unrefused _ _))
+      → r ≡ checked Verdict.Passed (wordsBelow (2 ^ d .w) (faithfulAt d initial offsets)) → Promised r
+  searched e r r-is = promised r (r-is ∙ sym (check-searches d initial offsets e))
 
 set-verdict-requires : tie.Need-set-verdict-requires
 set-verdict-requires c κs = search needs

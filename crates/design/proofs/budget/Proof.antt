@@ -1,9 +1,8 @@
 -- `design::budget` meets its contract: the verdict's refusal, or the budget of a legal design.
-use mathlib.Core.Path.{sym, ap, _∙_}
+use mathlib.Core.Path.{refl, sym, _∙_}
 use borrow.Author.Needs.{needs}
-use Rattle.design.specs.declared.Measured.{Measured}
 use Rattle.design.specs.Legal.{Legal}
-use Rattle.design.specs.Answers.{budgetAnswer}
+use Rattle.design.specs.Answers.{budgetAnswer, budgetTold}
 use Rattle.design.proofs.budget.Statement.{statement}
 use Rattle.design.proofs.budget.Tie as tie
 
@@ -14,7 +13,7 @@ enum-known-cause : tie.Need-enum-known-cause
 enum-known-cause c = search needs
 
 returns : tie.Need-returns
-unfolding budgetAnswer
+unfolding budgetAnswer budgetTold
 returns c =
     let e = sym (c .before .before .before .design-verdict .ensures) ∙ c .before .cause .given .1 in
     (rw e, rw e)
@@ -30,8 +29,8 @@ budget-of-requires : tie.Need-budget-of-requires
 budget-of-requires c κs = legal c
 
 returns-2 : tie.Need-returns-2
-unfolding budgetAnswer
-returns-2 c = (rw (legal (c .before)) (ap Measured.Is (c .budget-of .ensures)), rw (legal (c .before)))
+unfolding budgetAnswer budgetTold
+returns-2 c = rw (legal (c .before), c .budget-of .ensures) (refl, refl)
 
 pub budget-spec : {M : Type 1} → statement M
 budget-spec = tie.close (tie.spec design-verdict-requires enum-known-cause returns enum-told budget-of-requires returns-2)

@@ -1,9 +1,8 @@
 -- `design::size` meets its contract: the verdict's refusal, or the size of a legal design.
-use mathlib.Core.Path.{sym, ap, _∙_}
+use mathlib.Core.Path.{refl, sym, _∙_}
 use borrow.Author.Needs.{needs}
-use Rattle.design.specs.declared.Measured.{Measured}
 use Rattle.design.specs.Legal.{Legal}
-use Rattle.design.specs.Answers.{sizeAnswer}
+use Rattle.design.specs.Answers.{sizeAnswer, sizeTold}
 use Rattle.design.proofs.size.Statement.{statement}
 use Rattle.design.proofs.size.Tie as tie
 
@@ -14,7 +13,7 @@ enum-known-cause : tie.Need-enum-known-cause
 enum-known-cause c = search needs
 
 returns : tie.Need-returns
-unfolding sizeAnswer
+unfolding sizeAnswer sizeTold
 returns c =
     let e = sym (c .before .before .before .design-verdict .ensures) ∙ c .before .cause .given .1 in
     (rw e, rw e)
@@ -30,8 +29,8 @@ size-of-requires : tie.Need-size-of-requires
 size-of-requires c κs = legal c
 
 returns-2 : tie.Need-returns-2
-unfolding sizeAnswer
-returns-2 c = (rw (legal (c .before)) (ap Measured.Is (c .size-of .ensures)), rw (legal (c .before)))
+unfolding sizeAnswer sizeTold
+returns-2 c = rw (legal (c .before), c .size-of .ensures) (refl, refl)
 
 pub size-spec : {M : Type 1} → statement M
 size-spec = tie.close (tie.spec design-verdict-requires enum-known-cause returns enum-told size-of-requires returns-2)

@@ -7,16 +7,15 @@ use lib.ListN.{length}
 use lib.IntN.{ℤ}
 use Rattle.refusal.specs.declared.Cause.{Cause}
 use Rattle.refusal.specs.declared.Verdict.{Verdict}
-use Rattle.refusal.specs.Numbers.{verdictNumber}
 use Rattle.refusal.specs.Checks.{verdict}
 use Rattle.refusal.proofs.Checks.{verdict-append}
 use Rattle.design.specs.declared.Design.{Design}
 use Rattle.tables.specs.declared.Evaluated.{Evaluated}
 use Rattle.tables.specs.Sum.{wordAt}
 use Rattle.tables.specs.Fill.{setChecks}
-use Rattle.tables.specs.Evaluate.{wordChecks, evaluated, evaluateVerdict, evaluateAnswer, refusalOf}
+use Rattle.tables.specs.Evaluate.{wordChecks, evaluated, evaluateVerdict, evaluateAnswer, toldBy, evaluateTold}
 use Rattle.tables.proofs.SetLaws.{usable}
-use Rattle.tables.proofs.WordLaws.{evaluated-number}
+use Rattle.tables.proofs.WordLaws.{evaluated-told}
 use Rattle.evaluating.proofs.evaluate.Statement.{statement}
 use Rattle.evaluating.proofs.evaluate.Tie as tie
 
@@ -24,19 +23,21 @@ use Rattle.evaluating.proofs.evaluate.Tie as tie
 module _ (d : Design) (initial : List ℕ) (offsets : List ℤ) (x : ℕ) where
   -- what is promised of an answer
   abbrev Promised : Evaluated → Type 0
-  Promised r = (r ≡ evaluateAnswer d initial offsets x) × (refusalOf r ≡ verdictNumber (evaluateVerdict d initial offsets x))
+  Promised r = (r ≡ evaluateAnswer d initial offsets x) × (toldBy r ≡ evaluateTold d initial offsets x)
+
+  promised : (r : Evaluated) → r ≡ evaluateAnswer d initial offsets x → Promised r
+  unfolding evaluateAnswer evaluateTold
+  promised r e = (e, ap toldBy e ∙ evaluated-told (evaluateVerdict d initial offsets x) _)
 
   refused : (cause : Cause) → verdict (setChecks d (length initial) (length offsets)) ≡ Verdict.Refused cause
       → Promised (Evaluated.Refused cause)
   unfolding evaluateAnswer evaluateVerdict
-  refused cause e = (rw (verdict-append, e), rw (verdict-append, e))
+  refused cause e = promised _ (rw (verdict-append, e))
 
   answered : verdict (setChecks d (length initial) (length offsets)) ≡ Verdict.Passed
       → (r : Evaluated) → r ≡ evaluated (verdict (wordChecks d initial offsets x)) (wordAt d initial offsets x) → Promised r
   unfolding evaluateAnswer evaluateVerdict
-  answered passed r e =
-      let number = evaluated-number (verdict (wordChecks d initial offsets x)) (wordAt d initial offsets x) in
-      (rw (verdict-append, passed) e, rw (verdict-append, passed) (ap refusalOf e ∙ number))
+  answered passed r e = promised r (rw (verdict-append, passed) e)
 
 -- where the set passed
 set-passed : (c : tie.After-enum-told) →

@@ -7,13 +7,12 @@ use lib.IntN.{ℤ}
 use lib.ListN.{length, drop, length-map}
 use Rattle.refusal.specs.declared.Cause.{Cause}
 use Rattle.refusal.specs.declared.Verdict.{Verdict}
-use Rattle.refusal.specs.Numbers.{verdictNumber}
 use Rattle.design.specs.declared.Design.{Design}
 use Rattle.tables.specs.declared.Batched.{Batched}
 use Rattle.tables.specs.Sum.{wordAt}
-use Rattle.tables.specs.Batch.{roomVerdict, wordsBelow, placeVerdict, batchAnswer, batchVerdict, outputLeft, outputAfter, refusalOf}
+use Rattle.tables.specs.Batch.{roomVerdict, wordsBelow, placeVerdict, batchAnswer, outputLeft, outputAfter, toldBy, batchTold}
 use Rattle.tables.proofs.BatchLaws.{batch-all, batch-passed, room-tells}
-use Rattle.tables.proofs.BatchNumber.{batch-number}
+use Rattle.tables.proofs.BatchTold.{batch-told}
 use Rattle.evaluating.proofs.evaluate_batch.Statement.{statement}
 use Rattle.evaluating.proofs.evaluate_batch.Tie as tie
 
@@ -24,12 +23,12 @@ module _ (d : Design) (initial : List ℕ) (offsets : List ℤ) (words output : 
   Promised r left =
       (r ≡ batchAnswer d initial offsets words (length output))
       × ((left ≡ outputAfter d initial offsets words output)
-      × (refusalOf r ≡ verdictNumber (batchVerdict d initial offsets words (length output))))
+      × (toldBy r ≡ batchTold d initial offsets words (length output)))
 
   answered : (r : Batched) (left : List ℕ) → batchAnswer d initial offsets words (length output) ≡ r
       → left ≡ outputLeft r (map (wordAt d initial offsets) words) output → Promised r left
   unfolding outputAfter
-  answered r left e l = (sym e, (rw e l, ap refusalOf (sym e) ∙ batch-number d initial offsets words (length output)))
+  answered r left e l = (sym e, (rw e l, ap toldBy (sym e) ∙ batch-told d initial offsets words (length output)))
 
   room-refused : (cause : Cause) → roomVerdict d initial offsets (length words) (length output) ≡ Verdict.Refused cause
       → Promised (Batched.Refused cause 0) output

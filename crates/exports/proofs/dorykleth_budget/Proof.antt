@@ -15,7 +15,7 @@ put-measure-requires c κs = search needs
 returns : tie.Need-returns
 returns c =
     let a = c .before .before in
-    rw (← a .before .design-of .ensures, ← a .budget .ensures .0) (c .put-measure .ensures .0, c .put-measure .ensures .1)
+    rw (← a .before .design-of .ensures, ← a .budget .ensures .1) (c .put-measure .ensures .0, c .put-measure .ensures .1)
 
 pub dorykleth-budget-spec : {M : Type 1} → statement M
 dorykleth-budget-spec =

@@ -32,20 +32,21 @@ number-requires c κs = search needs
 returns : tie.Need-returns
 returns c =
     let a = c .before .before .before in
-    let faithful = sym (a .check .ensures .0) ∙ c .before .enum-told .given .1 in
-    rw (← a .before .design-of .ensures, faithful) (refl, c .words-of .ensures ∙ words-counted _ (faithful-legal _ _ _ faithful))
+    let faithful = c .before .enum-told .given .1 in
+    rw (← a .before .design-of .ensures, ← a .check .ensures .1, faithful)
+    (refl, c .words-of .ensures ∙ words-counted _ (faithful-legal _ _ _ (sym (a .check .ensures .0) ∙ faithful)))
 
 returns-2 : tie.Need-returns-2
 returns-2 c =
     let m = c .before in
     let a = m .before .before in
-    rw (← a .before .design-of .ensures, ← a .check .ensures .0, m .x .given .1) (refl, refl)
+    rw (← a .before .design-of .ensures, ← a .check .ensures .1, m .x .given .1) (refl, refl)
 
 returns-3 : tie.Need-returns-3
 returns-3 c =
     let m = c .before .before in
     let a = m .before .before in
-    rw (← a .before .design-of .ensures, ← a .check .ensures .0, m .cause .given .1) (c .number .ensures, refl)
+    rw (← a .before .design-of .ensures, ← a .check .ensures .1, m .cause .given .1) (c .number .ensures, refl)
 
 pub dorykleth-check-spec : {M : Type 1} → statement M
 dorykleth-check-spec =

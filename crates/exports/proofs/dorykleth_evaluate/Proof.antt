@@ -23,13 +23,13 @@ returns : tie.Need-returns
 returns c =
     let m = c .before in
     let a = m .before .before in
-    rw (← a .before .design-of .ensures, ← a .evaluate .ensures .0, m .units .given .1) (refl, refl)
+    rw (← a .before .design-of .ensures, ← a .evaluate .ensures .1, m .units .given .1) (refl, refl)
 
 returns-2 : tie.Need-returns-2
 returns-2 c =
     let m = c .before .before in
     let a = m .before .before in
-    rw (← a .before .design-of .ensures, ← a .evaluate .ensures .0, m .cause .given .1) (c .number .ensures, refl)
+    rw (← a .before .design-of .ensures, ← a .evaluate .ensures .1, m .cause .given .1) (c .number .ensures, refl)
 
 pub dorykleth-evaluate-spec : {M : Type 1} → statement M
 dorykleth-evaluate-spec =

@@ -26,7 +26,7 @@ returns : tie.Need-returns
 returns c =
     let m = c .before in
     let a = m .before .before .before .before in
-    rw (← a .before .before .design-of .ensures, ← a .evaluate-batch .ensures .0, m .count .given .1)
+    rw (← a .before .before .design-of .ensures, ← a .evaluate-batch .ensures .1 .1, m .count .given .1)
     (refl, (a .evaluate-batch .ensures .1 .0, refl))
 
 same-length-2 : tie.Need-same-length-2
@@ -36,7 +36,7 @@ returns-2 : tie.Need-returns-2
 returns-2 c =
     let m = c .before .before in
     let a = m .before .before .before .before in
-    rw (← a .before .before .design-of .ensures, ← a .evaluate-batch .ensures .0, m .cause .given .1)
+    rw (← a .before .before .design-of .ensures, ← a .evaluate-batch .ensures .1 .1, m .cause .given .1)
     (c .number .ensures, (a .evaluate-batch .ensures .1 .0, refl))
 
 pub dorykleth-evaluate-batch-spec : {M : Type 1} → statement M

@@ -15,7 +15,7 @@ put-measure-requires c κs = search needs
 returns : tie.Need-returns
 returns c =
     let a = c .before .before in
-    rw (← a .before .design-of .ensures, ← a .size .ensures .0) (c .put-measure .ensures .0, c .put-measure .ensures .1)
+    rw (← a .before .design-of .ensures, ← a .size .ensures .1) (c .put-measure .ensures .0, c .put-measure .ensures .1)
 
 pub dorykleth-size-spec : {M : Type 1} → statement M
 dorykleth-size-spec =

@@ -6,10 +6,11 @@ use borrow.Author.Needs.{needs}
 use lib.Dec.{leb}
 use Rattle.refusal.specs.declared.Cause.{Cause}
 use Rattle.refusal.specs.declared.Verdict.{Verdict}
+use Rattle.refusal.specs.Checks.{passes}
 use Rattle.design.specs.Legal.{designVerdict, Legal}
 use Rattle.lines.specs.Slots.{lineCount}
 use Rattle.reading.specs.declared.Reading.{Reading}
-use Rattle.reading.specs.ReadLine.{passes, possible}
+use Rattle.reading.specs.ReadLine.{possible}
 use Rattle.reading.proofs.ReadLaws.{first-possible, later-possible}
 use Rattle.reading.proofs.is_possible.Statement.{statement}
 use Rattle.reading.proofs.is_possible.Tie as tie

@@ -1,5 +1,5 @@
 -- `values::value` meets its contract: the verdict of the widths, then the test of the word, then the floor value.
-use mathlib.Core.Path.{_≡_, sym, _∙_}
+use mathlib.Core.Path.{_≡_, refl, sym, ap, _∙_}
 use Prim.Native.Nat.{ℕ, _+_, _^_, _≤_, _<_}
 use native.Mathlib.Omega.{arith}
 use borrow.Author.Needs.{needs}
@@ -8,8 +8,8 @@ use lib.IntN.{pos}
 use lib.Pow.{pow-mono}
 use Rattle.refusal.specs.declared.Cause.{Cause}
 use Rattle.refusal.specs.declared.Verdict.{Verdict}
-use Rattle.refusal.specs.Numbers.{verdictNumber}
 use Rattle.refusal.specs.Checks.{verdict}
+use Rattle.refusal.specs.Told.{told}
 use Rattle.refusal.proofs.Checks.{verdict-append}
 use Rattle.values.specs.declared.TableUnits.{TableUnits}
 use Rattle.values.specs.declared.Valued.{Valued}
@@ -17,30 +17,38 @@ use Rattle.values.specs.Rows.{rowOf}
 use Rattle.values.specs.Floor.{floorValue}
 use Rattle.values.specs.Inputs.{FloorInput}
 use Rattle.values.specs.Widths.{widthChecks}
-use Rattle.values.specs.Value.{valueVerdict, valueOf, wordCheck, refusalOf}
+use Rattle.values.specs.Value.{valued, valueVerdict, valueOf, wordCheck, toldBy, valueTold}
 use Rattle.values.proofs.WidthLaws.{Widths, widths-of, row-lawful}
 use Rattle.values.proofs.value.Statement.{statement}
 use Rattle.values.proofs.value.Tie as tie
+
+valued-told : (v : Verdict) (n : ℕ) → toldBy (valued v n) ≡ told v (pos n)
+valued-told Verdict.Passed n = refl
+valued-told (Verdict.Refused cause) n = refl
 
 -- The answer by the verdict of the widths and the test of the word.
 module _ (kind w q g x : ℕ) where
   -- what is promised of an answer
   abbrev Promised : Valued → Type 0
-  Promised r = (r ≡ valueOf kind w q g x) × (refusalOf r ≡ verdictNumber (valueVerdict kind w q g x))
+  Promised r = (r ≡ valueOf kind w q g x) × (toldBy r ≡ valueTold kind w q g x)
+
+  promised : (r : Valued) → r ≡ valueOf kind w q g x → Promised r
+  unfolding valueOf valueTold
+  promised r e = (e, ap toldBy e ∙ valued-told (valueVerdict kind w q g x) _)
 
   refused : (cause : Cause) → verdict (widthChecks kind w q g) ≡ Verdict.Refused cause → Promised (Valued.Refused cause)
   unfolding valueOf valueVerdict wordCheck
-  refused cause e = (rw (verdict-append, e), rw (verdict-append, e))
+  refused cause e = promised _ (rw (verdict-append, e))
 
   module _ (passed : verdict (widthChecks kind w q g) ≡ Verdict.Passed) where
     past : 2 ^ w ≤ x → Promised (Valued.Refused Cause.WordRange)
     unfolding valueOf valueVerdict wordCheck
-    past h = (rw (verdict-append, passed, le-leb _ _ h), rw (verdict-append, passed, le-leb _ _ h))
+    past h = promised _ (rw (verdict-append, passed, le-leb _ _ h))
 
     within : x < 2 ^ w → (units : TableUnits) → units ≡ record { 0 = pos (floorValue (rowOf kind) w (q + g) (2 ^ w + x)) }
         → Promised (Valued.Value units)
     unfolding valueOf valueVerdict wordCheck
-    within h units e = (rw (verdict-append, passed, lt-leb _ _ h, e), rw (verdict-append, passed, lt-leb _ _ h))
+    within h units e = promised _ (rw (verdict-append, passed, lt-leb _ _ h, e))
 
     fits : x < 2 ^ w → FloorInput (rowOf kind) w (q + g) (2 ^ w + x)
     fits h =

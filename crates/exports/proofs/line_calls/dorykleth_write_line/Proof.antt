@@ -10,8 +10,8 @@ design-of-requires c κs = search needs
 write-line-requires : tie.Need-write-line-requires
 write-line-requires c κs = search needs
 
-enum-known-digits : tie.Need-enum-known-digits
-enum-known-digits c = search needs
+enum-known-count : tie.Need-enum-known-count
+enum-known-count c = search needs
 
 enum-known-cause : tie.Need-enum-known-cause
 enum-known-cause c = search needs
@@ -26,7 +26,7 @@ returns : tie.Need-returns
 returns c =
     let m = c .before in
     let a = m .before .before .before .before in
-    rw (← a .before .before .design-of .ensures, ← a .write-line .ensures .0, m .digits .given .1)
+    rw (← a .before .before .design-of .ensures, ← a .write-line .ensures .1 .0, m .count .given .1)
     (refl, (a .write-line .ensures .1 .1, refl))
 
 same-length-2 : tie.Need-same-length-2
@@ -36,7 +36,7 @@ returns-2 : tie.Need-returns-2
 returns-2 c =
     let m = c .before .before in
     let a = m .before .before .before .before in
-    rw (← a .before .before .design-of .ensures, ← a .write-line .ensures .0, m .cause .given .1)
+    rw (← a .before .before .design-of .ensures, ← a .write-line .ensures .1 .0, m .cause .given .1)
     (c .number .ensures, (a .write-line .ensures .1 .1, refl))
 
 pub dorykleth-write-line-spec : {M : Type 1} → statement M
@@ -45,7 +45,7 @@ dorykleth-write-line-spec =
     (tie.spec
     design-of-requires
     write-line-requires
-    enum-known-digits
+    enum-known-count
     enum-known-cause
     number-requires
     same-length
