@@ -73,7 +73,11 @@ table-room d n h = sum-mono (offsetCount d) n (d .m) (le-of-lt h)
 pub offset-input : (d : Design) → Limits d → (i A : ℕ) → i < d .m → A < 2 ^ aOf d i
     → OffsetInput (hiAt d i A + loAt d i A) (bOf d i) (position d i)
 offset-input d l i A h A-lt =
-    record { bits = omega (arith, bits-end d l i h, l .widths .w-high); small = slopes-reach d l i A h A-lt }
+    record {
+      b-low = l .table i h .b-low;
+      bits = omega (arith, bits-end d l i h, l .widths .w-high);
+      small = slopes-reach d l i A h A-lt;
+    }
 
 -- The first n segments of table i are written over what the offsets held before, and the next one begins at this place.
 pub record Segments (d : Design) (i : ℕ) (before table : List ℤ) (at n : ℕ) : Type 0 where

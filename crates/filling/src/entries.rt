@@ -7,6 +7,7 @@ ghost use Rattle.design.specs.Cut.{aOf, initialCount};
 ghost use Rattle.design.specs.Cut as Cut;
 ghost use Rattle.design.specs.Legal.{Legal};
 ghost use Rattle.tables.specs.Entries.{valueAt, initialAt, hiAt, loAt, oddNumber, signed, offsetOf};
+ghost use Rattle.tables.specs.Meaning.{Meaning};
 ghost use Rattle.filling.specs.Inputs.{OffsetInput};
 use design::Design;
 use design::legal::pair_at;
@@ -83,11 +84,12 @@ fn with_sign(rising: bool, j: i64, t: u64) -> i32
     }
 }
 
-// inner: the offset of B = word, by Hi + Lo of its segment, b and p of its table, and the function's sign.
+// inner: the offset of B = word, by Hi + Lo of its segment, b and p of its table, and the function's sign, and what it means.
 pub fn offset_of(slopes: u64, b: u32, p: u32, rising: bool, word: u64) -> i32
     requires { ⌜ OffsetInput slopes b p ⌝ }
     requires { ⌜ word < 2 ^ b ⌝ }
     ensures { λ r. ⌜ r ≡ offsetOf slopes b p rising word ⌝ }
+    ensures { λ r. ⌜ Meaning slopes b p rising word r ⌝ }
 {
     let j = odd_number(b, word);
     let t = slopes * size(j) * pow2(p) / (1 << 18);

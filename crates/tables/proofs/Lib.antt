@@ -3,6 +3,7 @@ pub mod SetLaws
 pub mod EntryLaws
 pub mod SignedLaws
 pub mod EntryBounds
+pub mod MeaningLaws
 pub mod LookupLaws
 pub mod SumLaws
 pub mod CheckLaws

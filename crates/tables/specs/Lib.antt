@@ -2,6 +2,7 @@
 pub mod Lookup
 pub mod Inputs
 pub mod Entries
+pub mod Meaning
 pub mod Sum
 pub mod Faithful
 pub mod Fill

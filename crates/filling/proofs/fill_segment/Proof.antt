@@ -59,7 +59,7 @@ loop-less c = omega arith
 loop-again : tie.Need-loop-again Inv-loop μ-loop
 loop-again c =
     let inv = c .before .before .loop .inv in
-    let entry = toZ-ofZ w32 _ (record { sfits = c .offset-of .ok }) ∙ c .offset-of .ensures in
+    let entry = toZ-ofZ w32 _ (record { sfits = c .offset-of .ok }) ∙ c .offset-of .ensures .0 in
     record {
       so-far = run-one _ _ _ _ _ _ (inv .so-far) (inv .place) entry (inside (c .before));
       kept = simp length-set (inv .kept);

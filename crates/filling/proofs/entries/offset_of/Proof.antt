@@ -1,4 +1,5 @@
--- `filling::entries::offset_of` meets its contract: |j| is at most 2^b, so the product is at most 2^39 and T at most 2^21.
+-- `filling::entries::offset_of` meets its contract: |j| is at most 2^b, so the product is at most 2^39 and T at most 2^21. What the
+-- entry means is a law of its definition.
 use mathlib.Core.Path.{_≡_, _∙_}
 use Prim.Native.Nat.{_^_, _≤_}
 use native.Mathlib.Omega.{arith}
@@ -10,6 +11,7 @@ use mir.Val.{toZ, ofZ}
 use mir.ValLaws.{toZ-ofZ}
 use Rattle.tables.specs.Entries.{oddNumber, magnitude, offsetOf}
 use Rattle.tables.proofs.EntryBounds.{odd-small, half-product-small, product-small, quotient-small}
+use Rattle.tables.proofs.MeaningLaws.{offset-means}
 use Rattle.filling.proofs.entries.offset_of.Statement.{statement}
 use Rattle.filling.proofs.entries.offset_of.Tie as tie
 
@@ -52,12 +54,19 @@ with-sign-requires c κs =
     let s = c .before .before .before in
     rw (size-is (c .before)) (omega (arith, quotient-small _ _ _ _ (s .pre .0 .small) (s .pre .1) _ (unit-le c)))
 
-returns : tie.Need-returns
+-- the result, as its bits are read
+offset-is : (c : tie.After-with-sign) → let a = c .before .before .before .before .args in
+    toZ w32 (ofZ w32 (c .with-sign .result)) ≡ offsetOf (a .slopes) (a .b) (a .p) (a .rising) (a .word)
 unfolding offsetOf magnitude
-returns c =
+offset-is c =
     let b = c .before in
     toZ-ofZ w32 _ (record { sfits = c .with-sign .ok }) ∙ c .with-sign .ensures
     ∙ rw (odd-is (b .before .before), size-is (b .before), b .pow2 .ensures)
+
+returns : tie.Need-returns
+returns c =
+    let s = c .before .before .before .before in
+    (offset-is c, rw (offset-is c) (offset-means _ _ _ _ _ (s .pre .0 .b-low) (s .pre .1)))
 
 pub offset-of-spec : {M : Type 1} → statement M
 offset-of-spec =
