@@ -32,8 +32,7 @@ use Rattle.tables.specs.Batch.{outputCheck, roomVerdict, placeVerdict, batchAns
 use Rattle.tables.specs.Check.{checkVerdict, checkAnswer}
 use Rattle.demand3.specs.Demand.{margin, scaledWord, Word3, Batch3, Demand3}
 use Rattle.tables.proofs.SetLaws.{set-passed}
-use Rattle.demand3.proofs.Offsets.{added, taken}
-use Rattle.demand3.proofs.Totals.{total-balance, not-negative}
+use Rattle.demand3.proofs.Totals.{added, taken, total-balance, not-negative}
 use Rattle.demand3.proofs.ErrorBound.{offsetFrom, sum-low, sum-high}
 use Rattle.demand3.proofs.WordBound.{Near, GoodWord, sum-in-range, good-word}
 use Rattle.demand3.proofs.Said.{said}

@@ -18,7 +18,8 @@ use Rattle.design.proofs.BudgetLaws.{spread-le-largest}
 use Rattle.tables.specs.Entries.{valueAt, endValues, initialAt, hiAt, loAt, offsetAt}
 use Rattle.demand3.proofs.Enclosed.{above-start, above-end, below-start, below-end}
 use Rattle.demand3.proofs.Path.{first, last, done, left, done-left, course, intervalStart, intervalEnd, slopes-hold}
-use Rattle.demand3.proofs.Offsets.{added, taken, offset-stands}
+use Rattle.demand3.proofs.Totals.{added, taken}
+use Rattle.demand3.proofs.Offsets.{offset-low, offset-high}
 
 -- What one table contributes, an offset that adds `plus` and takes `minus`, and `share` of the budget.
 record Table (high low done left plus minus share : ℕ) : Type 0 where
@@ -89,8 +90,7 @@ module _ (d : Design) (l : Limits d) (x : ℕ) (x-lt : x < 2 ^ d .w) where
       Table (hiAt d i A) (loAt d i A) (done d x i) (left d x i) (added (offsetFrom d x i)) (taken (offsetFrom d x i)) (tableBudget d i)
   unfolding offsetFrom
   table-of i h =
-      let o = offset-stands d x i in
-      table _ _ _ _ _ _ _ _ (sym (add-sub-of-le (ordered-at i h))) (share-enough i h) (o .at-least) (o .at-most)
+      table _ _ _ _ _ _ _ _ (sym (add-sub-of-le (ordered-at i h))) (share-enough i h) (offset-low d l x i h) (offset-high d l x i h)
 
   -- M is the sum of the values at both ends, whichever comes first.
   both-ends : valueAt d (first d x) + valueAt d (last d x) ≡ endValues d (initialWord d x)

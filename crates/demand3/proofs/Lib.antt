@@ -3,8 +3,8 @@ pub mod Steps
 pub mod Climb
 pub mod Enclosed
 pub mod Path
-pub mod Offsets
 pub mod Totals
+pub mod Offsets
 pub mod ErrorBound
 pub mod WordBound
 pub mod Said

@@ -8,13 +8,20 @@ use lib.IntN.{ℤ, pos, negsuc, subℕ, _+ℤ_}
 use borrow.Author.Tests.{ltb-true, ltb-false}
 use Rattle.design.specs.Cut.{sumBelow}
 use Rattle.tables.specs.Sum.{signedSum}
-use Rattle.demand3.proofs.Offsets.{added, taken}
+
+abbrev pub added : ℤ → ℕ
+added (pos n) = n
+added (negsuc n) = 0
+
+abbrev pub taken : ℤ → ℕ
+taken (pos n) = 0
+taken (negsuc n) = suc n
 
 -- z is a less t
 abbrev pub Balance : ℤ → ℕ → ℕ → Type 0
 Balance z a t = a + taken z ≡ t + added z
 
-difference : (a t : ℕ) → Balance (subℕ a t) a t
+pub difference : (a t : ℕ) → Balance (subℕ a t) a t
 difference a t = go (ltb a t) refl
   where
     go : (less : Bool) → ltb a t ≡ less → Balance (cond less (negsuc (t - suc a)) (pos (a - t))) a t

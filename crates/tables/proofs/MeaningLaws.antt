@@ -49,7 +49,7 @@ cut-stands true size = (
 )
 cut-stands false size = (neg-lt _ _ (lt-mul-div-succ size (pow-pos 18)), neg-le _ _ (mul-div-le size (2 ^ 18)))
 
-pub offset-stands : (slopes b p : ℕ) (rising : Bool) (B : ℕ)
+offset-stands : (slopes b p : ℕ) (rising : Bool) (B : ℕ)
     → StandsFor (offsetOf slopes b p rising B) (signedProduct slopes p rising (oddNumber b B))
 unfolding offsetOf signed magnitude
 offset-stands slopes b p rising B =
