@@ -13,7 +13,7 @@ signedProduct slopes p rising j = cond rising (pos slopes *ℤ j *ℤ pos (2 ^ p
 
 -- "It stands for itself plus one half (000, section 5.3)." An entry n stands for each v between 2^18·n and 2^18·(n+1): the end
 -- towards zero is one of them, the other end is not. So T stands for 2^18·T ≤ v < 2^18·(T+1), and -1 - T for the mirror image of that,
--- -2^18·(T+1) < v ≤ -2^18·T.
+-- -2^18·(T+1) < v ≤ -2^18·T. Only v = 0 has two entries that stand for it, 0 and -1; (Hi+Lo)·j·2^(p_i) is not 0, as neither Hi nor j is.
 unfoldable pub StandsFor : ℤ → ℤ → Type 0
 StandsFor (pos T) v = (pos (2 ^ 18 * T) ≤ℤ v) × (v <ℤ pos (2 ^ 18 * (T + 1)))
 StandsFor (negsuc T) v = (negℤ (pos (2 ^ 18 * (T + 1))) <ℤ v) × (v ≤ℤ negℤ (pos (2 ^ 18 * T)))
