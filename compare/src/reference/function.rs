@@ -76,8 +76,8 @@ impl Function {
         }
     }
 
-    /// L(X), the floor of the exact value in table units. Each division is exact or rounds down,
-    /// and the greatest n with n² ≤ r is also the greatest with n² ≤ floor(r).
+    /// L(X), the floor of the exact value in table units. Each division rounds down, and the
+    /// greatest n with n² ≤ r is also the greatest with n² ≤ floor(r).
     #[inline]
     pub fn floor(&self, x: Int) -> Int {
         let Function { row, w, p, .. } = *self;
@@ -85,11 +85,21 @@ impl Function {
         match row.form {
             // The greatest n with n·X ≤ 2^(P+w).
             Form::Reciprocal => (one << (p + w)) / x,
-            // The greatest n with n²·2^w ≤ c·X·4^P; 2P ≥ 16 ≥ w, so the shift loses nothing.
-            Form::Root => ((row.c * x) << (2 * p - w)).isqrt(),
+            // The greatest n with n²·2^w ≤ c·X·4^P.
+            Form::Root => scaled(row.c * x, 2 * p, w).isqrt(),
             // The greatest n with n²·c·X ≤ 4^P·2^w.
             Form::ReciprocalRoot => ((one << (2 * p + w)) / (row.c * x)).isqrt(),
         }
+    }
+}
+
+/// floor(n·2^up / 2^down), with one shift by the difference, to whichever side it is.
+#[inline]
+fn scaled(n: Int, up: u32, down: u32) -> Int {
+    if up >= down {
+        n << (up - down)
+    } else {
+        n >> (down - up)
     }
 }
 

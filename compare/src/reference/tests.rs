@@ -1,5 +1,6 @@
 //! The document's examples, starred or not, and its traps.
 
+use super::function::Function;
 use super::*;
 
 /// G is kind 0, w 8, q 8, g 4, alpha 5, m 1, (3,3).
@@ -65,6 +66,24 @@ fn values_by_definition() {
                     _ => n * n * scaled <= 1 << (2 * p + w),
                 };
                 assert!(at_most(n) && !at_most(n + 1), "{kind} {w} {q} {g} {x}");
+            }
+        }
+    }
+}
+
+/// A root needs no w below 2P: where 4^P / 2^w is no whole number, the rest is cut off under the
+/// root. No legal width is that large.
+#[test]
+fn roots_of_wide_words() {
+    for kind in 1..=2 {
+        let least = Function::new(kind, 16, 6, 2).unwrap();
+        for w in [15, 16, 17, 18, 20, 24] {
+            let function = Function { w, ..least };
+            for x in [0, 1, 2, (1 << w) / 3, (1 << w) - 2, (1 << w) - 1] {
+                let argument = function.argument(x);
+                let n = function.floor(argument);
+                let at_most = |n: Int| (n * n) << w <= (function.row.c * argument) << 16;
+                assert!(at_most(n) && !at_most(n + 1), "{kind} {w} {x}");
             }
         }
     }
