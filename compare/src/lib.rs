@@ -5,6 +5,7 @@
 #![allow(clippy::duplicate_mod)]
 
 pub mod comparison;
+pub mod frames;
 pub mod library;
 pub mod narrow;
 pub mod random;

@@ -88,6 +88,23 @@ fn number(d: &mut Design, place: usize) -> &mut u32 {
     }
 }
 
+/// The two ways to the most entries there are, as alpha and m: w 16 and a+b = 12 in all tables,
+/// with alpha 13 and 3 tables or alpha 12 and 4 (alpha 13 leaves 3 bits, too few for 4 tables).
+pub const LARGEST: [(u32, u32); 2] = [(13, 3), (12, 4)];
+
+/// A design cut in one of these ways.
+pub fn largest(kind: u32, (q, g): (u32, u32), (alpha, m): (u32, u32)) -> Design {
+    Design {
+        kind,
+        w: 16,
+        q,
+        g,
+        alpha,
+        m,
+        pairs: [(11, 1); 4],
+    }
+}
+
 impl Random {
     /// Mostly small, so that sets are small; all widths come up.
     fn width(&mut self, least: u32) -> u32 {
@@ -195,22 +212,12 @@ impl Random {
         }
     }
 
-    /// A design with the most entries there are: w 16 and a+b = 12 in all tables, with alpha 13
-    /// and 3 tables or alpha 12 and 4 (alpha 13 leaves 3 bits, too few for 4 tables).
+    /// A design with the most entries there are.
     pub fn largest(&mut self, kind: u32) -> Design {
-        let (alpha, m) = self.pick(&[(13, 3), (12, 4)]);
+        let cut = self.pick(&LARGEST);
         let g = self.pick(&[4, 5, 6, 6]);
         let (q, g) = self.precision(None, Some(g));
-        let pairs = [(11, 1); 4];
-        Design {
-            kind,
-            w: 16,
-            q,
-            g,
-            alpha,
-            m,
-            pairs,
-        }
+        largest(kind, (q, g), cut)
     }
 
     /// A design with one number at or beside one of its limits, the others legal if they can be.

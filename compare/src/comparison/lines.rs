@@ -1,24 +1,9 @@
 //! Lines written, lines read and reports.
 
 use super::Comparison;
+use crate::frames::{design_line, sealed};
 use crate::random::{lengths, Given, Tables};
 use crate::wide::reference::{Design, Reading};
-
-/// The digits of a frame whose last byte makes the sum right.
-fn sealed(body: &[u8]) -> Vec<u8> {
-    let sum = body.iter().fold(0u8, |sum, byte| sum.wrapping_add(*byte));
-    let bytes = body.iter().copied().chain([sum.wrapping_neg()]);
-    let digits = bytes.map(|byte| format!("{byte:02X}"));
-    digits.collect::<String>().into_bytes()
-}
-
-/// An 01 line with the low bytes of a design's numbers, legal or not, and `pairs` pairs.
-fn design_line(d: &Design, pairs: usize) -> Vec<u8> {
-    let numbers = [1, d.kind, d.w, d.q, d.g, d.alpha, d.m];
-    let pairs = d.pairs.iter().cycle().take(pairs);
-    let numbers = numbers.into_iter().chain(pairs.flat_map(|&(a, b)| [a, b]));
-    sealed(&numbers.map(|number| number as u8).collect::<Vec<_>>())
-}
 
 /// A frame's body from its line, if the line is sound enough for that.
 fn body(line: &[u8]) -> Option<Vec<u8>> {

@@ -1,0 +1,106 @@
+//! Which answers the programs gave, and how often.
+
+use std::collections::BTreeMap;
+
+/// A program with answers it must give: those of its own, and how it prints the refusal of a
+/// design's line.
+struct Wanted {
+    name: &'static str,
+    answers: &'static [&'static str],
+    refused: &'static str,
+}
+
+/// Refusal 10 is none of them: the programs' tables are long enough for every set.
+const WANTED: [Wanted; 4] = [
+    Wanted {
+        name: "report",
+        answers: &["ADMITTED", "NOT ADMITTED"],
+        refused: "REFUSED",
+    },
+    Wanted {
+        name: "make_set",
+        answers: &["digits", "REFUSED 11"],
+        refused: "REFUSED",
+    },
+    Wanted {
+        name: "check_set",
+        answers: &["FAITHFUL", "UNFAITHFUL", "UNFINISHED"],
+        refused: "LINE REFUSED",
+    },
+    Wanted {
+        name: "evaluate_set",
+        answers: &[
+            "digits",
+            "REFUSED 12",
+            "REFUSED 13",
+            "NOT A WORD",
+            "UNFINISHED",
+        ],
+        refused: "LINE REFUSED",
+    },
+];
+
+/// The refusals of a design's line.
+const REFUSALS: [u8; 11] = [15, 16, 1, 2, 3, 4, 5, 6, 7, 8, 9];
+
+impl Wanted {
+    fn all(&self) -> impl Iterator<Item = String> + '_ {
+        let refused = REFUSALS.iter().map(|n| format!("{} {n}", self.refused));
+        let answers = self.answers.iter().map(|answer| answer.to_string());
+        answers.chain(refused)
+    }
+}
+
+/// A printed line without the numbers that only say where.
+fn sort_of(line: &str) -> String {
+    let words: Vec<&str> = line.split(' ').collect();
+    match words[..] {
+        ["LINE", _, "REFUSED", refusal] => format!("LINE REFUSED {refusal}"),
+        ["BUDGET", _, "LIMIT", _, "BITS", _, ref verdict @ ..] => verdict.join(" "),
+        ["UNFAITHFUL" | "UNFINISHED", _] => words[0].into(),
+        _ if line.starts_with(|c: char| c.is_ascii_digit()) => "digits".into(),
+        _ => line.into(),
+    }
+}
+
+#[derive(Default)]
+pub struct Answers {
+    counts: BTreeMap<(&'static str, String), usize>,
+}
+
+impl Answers {
+    /// Counts each printed line.
+    pub fn note(&mut self, name: &'static str, text: &str) {
+        for line in text.lines() {
+            *self.counts.entry((name, sort_of(line))).or_default() += 1;
+        }
+    }
+
+    fn count(&self, name: &'static str, answer: &str) -> usize {
+        let key = (name, answer.to_string());
+        self.counts.get(&key).copied().unwrap_or(0)
+    }
+
+    pub fn print(&self) {
+        println!("program        times each answer came up");
+        for wanted in &WANTED {
+            let each = wanted
+                .all()
+                .map(|answer| format!("{answer}: {}", self.count(wanted.name, &answer)));
+            println!("{:14} {}", wanted.name, each.collect::<Vec<_>>().join("  "));
+        }
+    }
+
+    /// What did not come up though it should have.
+    pub fn missing(&self) -> Vec<String> {
+        let of_program = |wanted: &'static Wanted| {
+            let unmet = wanted
+                .all()
+                .filter(|answer| self.count(wanted.name, answer) == 0);
+            unmet
+                .map(|answer| format!("{}: {answer}", wanted.name))
+                .collect::<Vec<_>>()
+        };
+        WANTED.iter().flat_map(of_program).collect()
+    }
+}

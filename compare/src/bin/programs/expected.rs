@@ -1,0 +1,122 @@
+//! What each program should print for an input.
+
+use compare::random::Tables;
+use compare::wide::reference::{self, Checked, Design, Reading};
+
+/// Tables that hold every legal set.
+fn largest_tables() -> Tables {
+    let (initial, offsets) = (vec![0; 1 << 13], vec![0; 4 << 12]);
+    Tables { initial, offsets }
+}
+
+fn begin() -> Reading {
+    let design = Design {
+        kind: 0,
+        w: 0,
+        q: 0,
+        g: 0,
+        alpha: 0,
+        m: 0,
+        pairs: [(0, 0); 4],
+    };
+    Reading { design, taken: 0 }
+}
+
+/// The lines of a set, each with a newline.
+pub fn lines_of(d: &Design, tables: &Tables) -> Vec<String> {
+    let mut buffer = [0; 32];
+    (0..)
+        .map_while(|n| {
+            let Tables { initial, offsets } = tables;
+            let length = reference::write_line(d, initial, offsets, n, &mut buffer).ok()?;
+            let digits = std::str::from_utf8(&buffer[..length]).expect("digits");
+            Some(format!("{digits}\n"))
+        })
+        .collect()
+}
+
+/// The lines of an input: a last one without a newline counts, if it has a byte.
+fn input_lines(input: &[u8]) -> Vec<&[u8]> {
+    let mut lines: Vec<&[u8]> = input.split(|&byte| byte == b'\n').collect();
+    if lines.last().is_some_and(|line| line.is_empty()) {
+        lines.pop();
+    }
+    lines
+}
+
+fn first_line(input: &[u8]) -> &[u8] {
+    input_lines(input).first().copied().unwrap_or_default()
+}
+
+pub fn report(input: &[u8]) -> String {
+    reference::report(first_line(input))
+}
+
+pub fn make_set(input: &[u8]) -> String {
+    let Tables {
+        mut initial,
+        mut offsets,
+    } = largest_tables();
+    let (taken, state) = begin().read_line(&mut initial, &mut offsets, first_line(input));
+    let filled = taken.and_then(|()| reference::fill(&state.design, &mut initial, &mut offsets));
+    match filled {
+        Ok(()) => lines_of(&state.design, &Tables { initial, offsets }).concat(),
+        Err(refusal) => format!("REFUSED {refusal}\n"),
+    }
+}
+
+/// A set that is read to its end with the lines behind it, or what is printed instead.
+fn read_set(input: &[u8]) -> Result<(Design, Tables, Vec<&[u8]>), String> {
+    let Tables {
+        mut initial,
+        mut offsets,
+    } = largest_tables();
+    let mut state = begin();
+    let mut lines = input_lines(input).into_iter();
+    while !state.is_finished() {
+        let Some(line) = lines.next() else {
+            return Err(format!("UNFINISHED {}\n", state.taken));
+        };
+        let (taken, next) = state.read_line(&mut initial, &mut offsets, line);
+        if let Err(refusal) = taken {
+            return Err(format!("LINE {} REFUSED {refusal}\n", state.taken));
+        }
+        state = next;
+    }
+    let tables = Tables { initial, offsets };
+    Ok((state.design, tables, lines.collect()))
+}
+
+pub fn check_set(input: &[u8]) -> String {
+    let (d, tables, _) = match read_set(input) {
+        Ok(set) => set,
+        Err(text) => return text,
+    };
+    match reference::check(&d, &tables.initial, &tables.offsets) {
+        Ok(Checked::Faithful) => "FAITHFUL\n".into(),
+        Ok(Checked::Unfaithful(x)) => format!("UNFAITHFUL {x}\n"),
+        Err(refusal) => format!("REFUSED {refusal}\n"),
+    }
+}
+
+/// A decimal number below 2^32: digits and nothing else.
+fn decimal(line: &[u8]) -> Option<u32> {
+    let text = std::str::from_utf8(line).ok()?;
+    let digits = text.bytes().all(|byte| byte.is_ascii_digit());
+    text.parse().ok().filter(|_| digits)
+}
+
+pub fn evaluate_set(input: &[u8]) -> String {
+    let (d, tables, words) = match read_set(input) {
+        Ok(set) => set,
+        Err(text) => return text,
+    };
+    let answer = |line: &&[u8]| match decimal(line) {
+        None => "NOT A WORD\n".into(),
+        Some(x) => match reference::evaluate(&d, &tables.initial, &tables.offsets, x) {
+            Ok(word) => format!("{word}\n"),
+            Err(refusal) => format!("REFUSED {refusal}\n"),
+        },
+    };
+    words.iter().map(answer).collect()
+}

@@ -1,0 +1,156 @@
+//! Runs the programs on good and damaged input and compares what they print with what the
+//! reference says they should. Its argument is the directory of the programs.
+
+mod answers;
+mod expected;
+mod inputs;
+
+use std::io::Write;
+use std::path::{Path, PathBuf};
+use std::process::{Command, ExitCode, Output, Stdio};
+
+use answers::Answers;
+use compare::random::Random;
+
+/// A program by its name, and what it should print for an input.
+type Program = (&'static str, fn(&[u8]) -> String);
+
+/// The programs that read a line, and those that read a set.
+const LINE_PROGRAMS: [Program; 2] = [
+    ("report", expected::report),
+    ("make_set", expected::make_set),
+];
+const SET_PROGRAMS: [Program; 2] = [
+    ("check_set", expected::check_set),
+    ("evaluate_set", expected::evaluate_set),
+];
+
+struct Runs {
+    directory: PathBuf,
+    random: Random,
+    count: usize,
+    answers: Answers,
+}
+
+impl Runs {
+    fn new(directory: PathBuf) -> Runs {
+        Runs {
+            directory,
+            random: Random::new(1),
+            count: 0,
+            answers: Answers::default(),
+        }
+    }
+
+    /// The programs that are not there.
+    fn missing(&self) -> Vec<&'static str> {
+        let names = LINE_PROGRAMS.iter().chain(&SET_PROGRAMS).map(|p| p.0);
+        names
+            .filter(|name| !self.directory.join(name).is_file())
+            .collect()
+    }
+
+    /// Every program on the same input.
+    fn all(&mut self, input: &[u8]) {
+        self.line(input);
+        self.set(input);
+    }
+
+    /// The programs that read a line.
+    fn line(&mut self, input: &[u8]) {
+        for program in LINE_PROGRAMS {
+            self.compare(program, input);
+        }
+    }
+
+    /// The programs that read a set.
+    fn set(&mut self, input: &[u8]) {
+        for program in SET_PROGRAMS {
+            self.compare(program, input);
+        }
+    }
+
+    /// Ends everything at a difference. A program ends with status 0 whatever it prints.
+    fn compare(&mut self, (name, expected): Program, input: &[u8]) {
+        let output = run(&self.directory.join(name), input);
+        let expected = expected(input);
+        if output.stdout != expected.as_bytes() || !output.status.success() {
+            print_difference(name, input, &output, &expected);
+            std::process::exit(1);
+        }
+        self.count += 1;
+        self.answers.note(name, &expected);
+    }
+}
+
+fn run(program: &Path, input: &[u8]) -> Output {
+    let mut child = Command::new(program)
+        .stdin(Stdio::piped())
+        .stdout(Stdio::piped())
+        .spawn()
+        .unwrap_or_else(|error| panic!("{} does not start: {error}", program.display()));
+    let mut stdin = child.stdin.take().expect("a pipe");
+    let input = input.to_vec();
+    // A program may end before it has read all, and then the rest cannot be written.
+    let writer = std::thread::spawn(move || {
+        let _ = stdin.write_all(&input);
+    });
+    let output = child.wait_with_output().expect("the program ends");
+    writer.join().expect("the writer ends");
+    output
+}
+
+fn print_difference(name: &str, input: &[u8], output: &Output, expected: &str) {
+    let printed = String::from_utf8_lossy(&output.stdout);
+    println!("{name} on\n{}", shortened(&String::from_utf8_lossy(input)));
+    println!("printed\n{}", shortened(&printed));
+    println!("and not\n{}", shortened(expected));
+    let same = printed
+        .lines()
+        .zip(expected.lines())
+        .take_while(|(left, right)| left == right);
+    println!("{} lines are the same; {}", same.count(), output.status);
+}
+
+/// The start of a text that has many lines, and of each line that has many characters.
+fn shortened(text: &str) -> String {
+    let (lines, length) = (text.lines().count(), 100);
+    let shown = if lines > 1000 { 5 } else { lines };
+    let mut start: Vec<String> = text.lines().take(shown).map(str::to_string).collect();
+    for line in &mut start {
+        let characters = line.chars().count();
+        if characters > length {
+            let kept: String = line.chars().take(length).collect();
+            *line = format!("{kept}... {characters} characters");
+        }
+    }
+    if shown < lines {
+        start.push(format!("... {lines} lines"));
+    }
+    start.join("\n")
+}
+
+fn main() -> ExitCode {
+    let Some(directory) = std::env::args().nth(1) else {
+        println!("usage: programs DIRECTORY");
+        return ExitCode::FAILURE;
+    };
+    let mut runs = Runs::new(directory.into());
+    let missing = runs.missing();
+    if !missing.is_empty() {
+        let (names, directory) = (missing.join(" "), runs.directory.display());
+        println!("not in {directory}: {names}; 'rt check {names}' builds them in target/bin");
+        return ExitCode::FAILURE;
+    }
+    runs.inputs();
+    runs.answers.print();
+    let missing = runs.answers.missing();
+    for missing in &missing {
+        println!("did not come up: {missing}");
+    }
+    if !missing.is_empty() {
+        return ExitCode::FAILURE;
+    }
+    println!("programs: {} runs, no difference", runs.count);
+    ExitCode::SUCCESS
+}

@@ -1,0 +1,19 @@
+//! Lines put together by hand, sound ones of any bytes.
+
+use crate::wide::reference::Design;
+
+/// The digits of a frame whose last byte makes the sum right.
+pub fn sealed(body: &[u8]) -> Vec<u8> {
+    let sum = body.iter().fold(0u8, |sum, byte| sum.wrapping_add(*byte));
+    let bytes = body.iter().copied().chain([sum.wrapping_neg()]);
+    let digits = bytes.map(|byte| format!("{byte:02X}"));
+    digits.collect::<String>().into_bytes()
+}
+
+/// An 01 line with the low bytes of a design's numbers, legal or not, and `pairs` pairs.
+pub fn design_line(d: &Design, pairs: usize) -> Vec<u8> {
+    let numbers = [1, d.kind, d.w, d.q, d.g, d.alpha, d.m];
+    let pairs = d.pairs.iter().cycle().take(pairs);
+    let numbers = numbers.into_iter().chain(pairs.flat_map(|&(a, b)| [a, b]));
+    sealed(&numbers.map(|number| number as u8).collect::<Vec<_>>())
+}
