@@ -133,7 +133,11 @@ impl Calls {
     pub fn design(&mut self, d: &Design) {
         let input = || format!("{d:?}\n");
         let _ = self.same_answer("legal", (reference::legal(d), library::legal(d)), input);
-        let _ = self.same_answer("budget", (reference::budget(d), library::budget(d)), input);
+        let budgets = (reference::budget(d), library::budget(d));
+        let budget = self.same_answer("budget", budgets, input);
+        if budget.is_ok_and(|budget| budget >> 32 != 0) {
+            self.tally.note("budget of 2^32 or more");
+        }
         let _ = self.same_answer("size", (reference::size(d), library::size(d)), input);
     }
 

@@ -39,7 +39,10 @@ impl Comparison {
                 }
             };
             self.stored_set(&d);
-            self.calls.tally.note("whole set of 20480 entries stored");
+            self.calls.tally.note(&format!(
+                "whole set of 20480 entries stored: alpha {}",
+                d.alpha
+            ));
         }
     }
 

@@ -38,9 +38,10 @@ pub const CALLS: [Call; 12] = [
 const PLAIN: Call = call("is_finished", &[0]);
 
 /// Things that must come up, and how often at the least.
-const WANTED: [(&str, u64); 23] = [
+const WANTED: [(&str, u64); 25] = [
     ("budget equal to the limit", 5),
     ("budget one below the limit", 5),
+    ("budget of 2^32 or more", 100),
     ("check: faithful", 1000),
     ("check: unfaithful, word 0", 100),
     ("check: unfaithful, another word", 1000),
@@ -58,7 +59,8 @@ const WANTED: [(&str, u64); 23] = [
     ("whole set stored: kind 2", 200),
     ("whole set stored: kind 3", 200),
     ("whole set stored: kind 4", 200),
-    ("whole set of 20480 entries stored", 5),
+    ("whole set of 20480 entries stored: alpha 12", 1),
+    ("whole set of 20480 entries stored: alpha 13", 1),
     ("batch refused at a place above 0", 1000),
     ("sum out of range", 1000),
     ("sum below 0", 500),

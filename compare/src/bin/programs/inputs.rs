@@ -101,6 +101,7 @@ impl Runs {
         let d = self.four_tables(kind);
         self.filled_set(&d);
         self.longer_lines(&d);
+        self.nothing_behind(&d);
     }
 
     /// Lines of designs of any sort, legal or not.
@@ -144,6 +145,16 @@ impl Runs {
             self.random.damage(d, &mut tables);
         }
         self.set_and_words(d, &tables);
+    }
+
+    /// Nothing is read behind the line or the set that is asked for, nor is anything waited for.
+    fn nothing_behind(&mut self, d: &Design) {
+        let tables = self.random.filled(d);
+        let lines = lines_of(d, &tables);
+        for name in ["report", "make_set"] {
+            self.reads_only(name, &lines[0], &lines[1]);
+        }
+        self.reads_only("check_set", &lines.concat(), "7\n");
     }
 
     /// A set that nobody filled, of a legal design, admitted or not.

@@ -5,7 +5,8 @@ mod answers;
 mod expected;
 mod inputs;
 
-use std::io::Write;
+use std::fs::File;
+use std::io::{Seek, Write};
 use std::path::{Path, PathBuf};
 use std::process::{Command, ExitCode, Output, Stdio};
 
@@ -81,6 +82,22 @@ impl Runs {
         self.count += 1;
         self.answers.note(name, &expected);
     }
+
+    /// Ends everything if a program does not read exactly what it is asked to.
+    fn reads_only(&mut self, name: &str, asked: &str, behind: &str) {
+        let input = [asked, behind].concat();
+        let read = bytes_read(&self.directory.join(name), input.as_bytes());
+        let read = read.unwrap_or_else(|error| panic!("{name} on a file: {error}"));
+        if read != asked.len() as u64 {
+            let input = shortened(&input);
+            println!(
+                "{name} on\n{input}\nread {read} bytes and not {}",
+                asked.len()
+            );
+            std::process::exit(1);
+        }
+        self.count += 1;
+    }
 }
 
 fn run(program: &Path, input: &[u8]) -> Output {
@@ -98,6 +115,20 @@ fn run(program: &Path, input: &[u8]) -> Output {
     let output = child.wait_with_output().expect("the program ends");
     writer.join().expect("the writer ends");
     output
+}
+
+/// How much of an input a program reads. The program shares its place in the file.
+fn bytes_read(program: &Path, input: &[u8]) -> std::io::Result<u64> {
+    let path = std::env::temp_dir().join(format!("programs-{}", std::process::id()));
+    std::fs::write(&path, input)?;
+    let file = File::open(&path);
+    std::fs::remove_file(&path)?;
+    let mut file = file?;
+    Command::new(program)
+        .stdin(file.try_clone()?)
+        .stdout(Stdio::null())
+        .status()?;
+    file.stream_position()
 }
 
 fn print_difference(name: &str, input: &[u8], output: &Output, expected: &str) {
