@@ -22,7 +22,7 @@ fn begin() -> Reading {
     Reading { design, taken: 0 }
 }
 
-/// The lines of a set, each with a newline.
+/// The lines of a set, each with a newline; none from an entry on that does not fit its 3 bytes.
 pub fn lines_of(d: &Design, tables: &Tables) -> Vec<String> {
     let mut buffer = [0; 32];
     (0..)

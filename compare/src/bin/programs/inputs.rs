@@ -196,6 +196,7 @@ impl Runs {
     /// A set with the most entries there are: made, cut off before its last line, with another
     /// last line, and with every word behind it.
     fn largest_set(&mut self, d: &Design) {
+        assert!(is_admitted(d), "{d:?} is not admitted");
         let tables = self.random.filled(d);
         let mut lines = lines_of(d, &tables);
         self.line(lines[0].as_bytes());
