@@ -1,13 +1,18 @@
 // Reads a set from standard input, line by line, and says whether it is faithful.
+ghost use lib.ListN.{length};
+ghost use Rattle.set_console.specs.Reading.{HoldsEverySet};
 use checking::check;
 use set_console::INITIAL;
 use set_console::OFFSETS;
 use set_console::print_checked;
 use set_console::read_set;
 
-fn read_and_check(initial: &mut [u32], offsets: &mut [i32]) {
-    let state = read_set(initial, offsets);
-    if state.is_finished() {
+fn read_and_check(initial: &mut [u32], offsets: &mut [i32])
+    requires { ⌜ HoldsEverySet (length (now initial)) (length (now offsets)) ⌝ }
+{
+    let set = read_set(initial, offsets);
+    let state = set.state;
+    if set.finished {
         print_checked(check(state.design, initial, offsets));
     }
 }

@@ -1,6 +1,7 @@
 // What the programs share: reading a line from standard input, and writing reports and refusals to standard output. No contract can
-// say what is read or written, so nothing that matters is decided here.
+// say what comes in or what is written, so nothing that matters is decided here.
 ghost use Rattle.io.specs.Counts.{Counts};
+ghost use Rattle.console.specs.Reading.{IsInput, LineRead};
 use libc::STDIN_FILENO;
 use libc::STDOUT_FILENO;
 use refusal::Cause;
@@ -12,26 +13,41 @@ pub enum Input {
     End,
 }
 
+// A byte that came.
+fn came(byte: u8) -> Input
+    ensures { λ r. ⌜ IsInput r ⌝ }
+{
+    Input::Byte(byte)
+}
+
 // A byte at a time, so that nothing behind what is asked for is waited for. An input that cannot be read counts as ended.
-pub fn read_byte() -> Input {
+pub fn read_byte() -> Input
+    ensures { λ r. ⌜ IsInput r ⌝ }
+{
     let mut byte = [0u8; 1];
     if io::read_full(STDIN_FILENO, &mut byte) == 0 {
         return Input::End;
     }
-    Input::Byte(byte[0])
+    came(byte[0])
+}
+
+// Why no more of a line is read: its newline came, the input ended, or it is cut off, being longer than any line may be.
+pub enum LineEnd {
+    Newline,
+    Input,
+    Cut,
 }
 
 // The start of a line, up to the newline, the end of the input, or 33 bytes: a line of more than 32 is refused whatever follows,
-// so no more of it is needed and endless input does no harm. A last line without a newline counts as a line; `present` is false
-// where the input ended before the first byte.
+// so no more of it is needed and endless input does no harm. A last line without a newline counts as a line, if it has a byte.
 pub struct Line {
     pub bytes: [u8; 33],
     pub count: usize,
-    pub present: bool,
+    pub end: LineEnd,
 }
 
 pub fn read_line() -> Line
-    ensures { λ r. ⌜ Counts (r .count) (r .bytes) ⌝ }
+    ensures { λ r. ⌜ LineRead r ⌝ }
 {
     let mut bytes = [0u8; 33];
     let mut count: usize = 0;
@@ -40,11 +56,15 @@ pub fn read_line() -> Line
             return Line {
                 bytes,
                 count,
-                present: 0 < count,
+                end: LineEnd::Input,
             };
         };
         if b == b'\n' {
-            break;
+            return Line {
+                bytes,
+                count,
+                end: LineEnd::Newline,
+            };
         }
         bytes[count] = b;
         count += 1;
@@ -52,7 +72,7 @@ pub fn read_line() -> Line
     Line {
         bytes,
         count,
-        present: true,
+        end: LineEnd::Cut,
     }
 }
 
@@ -65,9 +85,9 @@ fn print(text: Text) -> bool
     io::write_all(STDOUT_FILENO, &bytes[..count])
 }
 
-// Writes the report on a line; false where it could not be written whole.
-pub fn print_report(line: &[u8]) -> bool {
-    print(report_text::report(line))
+// Writes the report on a line.
+pub fn print_report(line: &[u8]) {
+    print(report_text::report(line));
 }
 
 // Writes a refusal and its newline; false where that could not be written whole.

@@ -1,4 +1,6 @@
 // Reads a set from standard input, then an input word in decimal on each further line, and writes each word's output word.
+ghost use lib.ListN.{length};
+ghost use Rattle.set_console.specs.Reading.{HoldsEverySet};
 use console::Input;
 use console::read_byte;
 use design::Design;
@@ -79,9 +81,12 @@ fn answer_all(d: Design, initial: &[u32], offsets: &[i32]) {
     }
 }
 
-fn read_and_answer(initial: &mut [u32], offsets: &mut [i32]) {
-    let state = read_set(initial, offsets);
-    if state.is_finished() {
+fn read_and_answer(initial: &mut [u32], offsets: &mut [i32])
+    requires { ⌜ HoldsEverySet (length (now initial)) (length (now offsets)) ⌝ }
+{
+    let set = read_set(initial, offsets);
+    let state = set.state;
+    if set.finished {
         answer_all(state.design, initial, offsets);
     }
 }

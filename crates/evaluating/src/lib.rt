@@ -12,7 +12,7 @@ ghost use Rattle.tables.specs.Evaluate as Evaluate;
 ghost use Rattle.tables.specs.Batch.{roomVerdict, placeVerdict, wordsBelow, batchAnswer, batchTold, outputAfter};
 ghost use Rattle.tables.specs.Batch as Batch;
 
-pub mod range;
+mod range;
 
 use design::Design;
 use design::measure::offset_total;

@@ -10,7 +10,7 @@ ghost use Rattle.tables.specs.Writing.{over};
 ghost use Rattle.filling.specs.Inputs.{OffsetInput, TableInput};
 ghost use Rattle.filling.specs.Segment.{segmentOffsets};
 
-pub mod entries;
+mod entries;
 
 use design::Design;
 use design::legal::pair_at;

@@ -1,23 +1,26 @@
 // Reads one design's line from standard input and writes the lines of its filled set, or the refusal.
+ghost use lib.ListN.{length};
+ghost use Rattle.set_console.specs.Reading.{HoldsEverySet};
 use design::Design;
 use filling::fill;
 use refusal::Verdict;
 use set_console::INITIAL;
-use set_console::LINES;
 use set_console::OFFSETS;
 use set_console::begin;
 use set_console::print_line;
 
-// One line after another, until the set has no more.
+// One line after another, until the writer gives no more.
 fn print_set(d: Design, initial: &[u32], offsets: &[i32]) {
     let mut number = 0;
-    while number < LINES && print_line(d, initial, offsets, number) {
+    while print_line(d, initial, offsets, number) {
         number += 1;
     }
 }
 
 // The reader's refusals are the report's in the same order, for the tables are long enough for every set; then the fill's.
-fn make(line: &[u8], initial: &mut [u32], offsets: &mut [i32]) {
+fn make(line: &[u8], initial: &mut [u32], offsets: &mut [i32])
+    requires { ⌜ HoldsEverySet (length (now initial)) (length (now offsets)) ⌝ }
+{
     let read = begin().read_line(initial, offsets, line);
     let verdict = read.verdict;
     if let Verdict::Refused(cause) = verdict {

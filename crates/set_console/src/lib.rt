@@ -1,6 +1,13 @@
 // What the programs over whole sets share: reading a set from standard input, and writing a line of a set or the answer of a check to
 // standard output. No contract can say what is read or written, so nothing that matters is decided here.
 ghost use mathlib.Core.Path.{_≡_};
+ghost use mathlib.Core.Bool.{true};
+ghost use lib.ListN.{length};
+ghost use Rattle.refusal.specs.declared.Verdict.{Verdict};
+ghost use Rattle.writing.specs.Write.{writeVerdict};
+ghost use Rattle.reading.specs.ReadLine.{finished, session};
+ghost use Rattle.set_console.specs.Reading.{HoldsEverySet, Stepped, Came};
+use console::LineEnd;
 use design::Design;
 use design::Pair;
 use libc::STDOUT_FILENO;
@@ -11,19 +18,22 @@ use tables::Checked;
 use writing::Written;
 use writing::write_line;
 
-// Tables of these lengths hold every legal set: alpha is at most 13, and there are at most 4 tables of at most 12 bits
-// (`initial-count-small` and `offset-total-small` of `design`).
+// Tables of these lengths hold every legal set: alpha is at most 13, and there are at most 4 tables of at most 12 bits. That is proved
+// where a program lends its tables.
 pub const INITIAL: usize = 8192;
 
 pub const OFFSETS: usize = 16384;
-
-// No legal set has more lines: a line for each entry, the design's and the last (`lines-small` of `lines`).
-pub const LINES: usize = 24578;
 
 // What came of taking a line: the state to go on with, and whether there is more to take.
 struct Step {
     state: Reading,
     more: bool,
+}
+
+// What came of reading a set: the last state, and whether the set was read to its end.
+pub struct SetRead {
+    pub state: Reading,
+    pub finished: bool,
 }
 
 // A reading with no line taken, whose design is not read.
@@ -58,15 +68,29 @@ fn print_refused_line(number: usize, cause: Cause) {
     console::print_refused(cause);
 }
 
+// Whether there is no line: the input ended before a byte of it came.
+fn is_absent(end: LineEnd, count: usize) -> bool {
+    match end {
+        LineEnd::Input => count == 0,
+        LineEnd::Newline => false,
+        LineEnd::Cut => false,
+    }
+}
+
 // Takes the next line of the input, or says why not. Every line before it was taken, so its number is that of the lines taken.
-fn take_line(state: Reading, initial: &mut [u32], offsets: &mut [i32]) -> Step {
+fn take_line(state: Reading, initial: &mut [u32], offsets: &mut [i32]) -> Step
+    ensures { λ r.
+        ⌜ Stepped (session state (now (initial .entry)) (now (offsets .entry)))
+        (session (r .state) (now (initial .exit)) (now (offsets .exit))) (r .more) ⌝ }
+{
     let line = console::read_line();
-    if !line.present {
+    let bytes = line.bytes;
+    let count = line.count;
+    let end = line.end;
+    if is_absent(end, count) {
         print_number(b"UNFINISHED ", state.taken as u64);
         return Step { state, more: false };
     }
-    let bytes = line.bytes;
-    let count = line.count;
     let read = state.read_line(initial, offsets, &bytes[..count]);
     let verdict = read.verdict;
     if let Verdict::Refused(cause) = verdict {
@@ -80,33 +104,43 @@ fn take_line(state: Reading, initial: &mut [u32], offsets: &mut [i32]) -> Step {
     }
 }
 
-// Reads a set from the input, and nothing behind it. Where the reading that comes back is not finished, it has been said why.
-pub fn read_set(initial: &mut [u32], offsets: &mut [i32]) -> Reading {
+// Reads a set from the input, and nothing behind it, into tables that hold every legal set. Where it is not finished, it has been said why.
+pub fn read_set(initial: &mut [u32], offsets: &mut [i32]) -> SetRead
+    requires { ⌜ HoldsEverySet (length (now initial)) (length (now offsets)) ⌝ }
+    ensures came { λ r.
+        ⌜ Came (now (initial .entry)) (now (offsets .entry)) (session (r .state) (now (initial .exit)) (now (offsets .exit))) ⌝ }
+    ensures told { λ r. ⌜ r .finished ≡ finished (r .state) ⌝ }
+{
     let mut state = begin();
-    for _ in 0..LINES {
+    let mut more = true;
+    while more {
         let step = take_line(state, initial, offsets);
         state = step.state;
-        if !step.more {
-            return state;
-        }
+        more = step.more;
     }
-    state
+    SetRead {
+        state,
+        finished: state.is_finished(),
+    }
 }
 
 // Writes the digits at the start of a line buffer with a newline behind them.
-fn print_digits(buffer: &mut [u8], length: usize) -> bool {
-    if buffer.len() <= length {
+fn print_digits(buffer: &mut [u8], digits: usize) -> bool {
+    if buffer.len() <= digits {
         return false;
     }
-    buffer[length] = b'\n';
-    io::write_all(STDOUT_FILENO, &buffer[..length + 1])
+    buffer[digits] = b'\n';
+    io::write_all(STDOUT_FILENO, &buffer[..digits + 1])
 }
 
-// Writes a line of a set; false where the set has no such line or it could not be written whole.
-pub fn print_line(d: Design, initial: &[u32], offsets: &[i32], number: usize) -> bool {
+// Writes a line of a set; false where the writer gives no such line or it could not be written whole.
+pub fn print_line(d: Design, initial: &[u32], offsets: &[i32], number: usize) -> bool
+    ensures { λ r.
+        ⌜ (r ≡ true → writeVerdict d (now (initial .entry)) (now (offsets .entry)) number 33 ≡ Verdict.Passed) ⌝ }
+{
     let mut buffer = [0u8; 33];
     match write_line(d, initial, offsets, number, &mut buffer) {
-        Written::Length(length) => print_digits(&mut buffer, length),
+        Written::Length(digits) => print_digits(&mut buffer, digits),
         Written::Refused(_) => false,
     }
 }

@@ -33,14 +33,14 @@ pub record SoFar (s : Session) (came : List (List ℕ)) : Type 0 where
   pub entries-fit : (n : ℕ) → n < s .state .taken → entryFits (slotOf (s .state .design) n) (s .initial) (s .offsets) ≡ true
 
 -- Storing keeps the tables' lengths.
-initial-length : (slot : Slot) (v : ℕ) (initial : List ℕ) → length (initialStored slot v initial) ≡ length initial
+pub initial-length : (slot : Slot) (v : ℕ) (initial : List ℕ) → length (initialStored slot v initial) ≡ length initial
 unfolding initialStored
 initial-length Slot.Design v initial = refl
 initial-length (Slot.Initial index) v initial = length-set initial index v
 initial-length (Slot.Offset table index place) v initial = refl
 initial-length (Slot.End before) v initial = refl
 
-offsets-length : (slot : Slot) (v : ℕ) (offsets : List ℤ) → length (offsetsStored slot v offsets) ≡ length offsets
+pub offsets-length : (slot : Slot) (v : ℕ) (offsets : List ℤ) → length (offsetsStored slot v offsets) ≡ length offsets
 unfolding offsetsStored
 offsets-length Slot.Design v offsets = refl
 offsets-length (Slot.Initial index) v offsets = refl
@@ -92,7 +92,7 @@ module _ (s : Session) (came : List (List ℕ)) (so-far : SoFar s came) (line : 
   so-far-accepted passes = let some = accepted-line s line passes in rw (some .accepted .moved) (one-more some)
 
 -- A refused line changes nothing.
-refused-stands : (s : Session) (line : List ℕ) (cause : Cause) → verdictOn s line ≡ Verdict.Refused cause → after s line ≡ s
+pub refused-stands : (s : Session) (line : List ℕ) (cause : Cause) → verdictOn s line ≡ Verdict.Refused cause → after s line ≡ s
 unfolding after
 refused-stands s line cause e = rw e
 

@@ -1,21 +1,24 @@
--- `console::read_line` meets its contract: the count stays within the array.
-use Prim.Native.Nat.{_-_, _≤_}
+-- `console::read_line` meets its contract: the count stays within the array, no newline is stored, and a line is cut off only where it is
+-- refused whatever follows.
+use Prim.Native.Nat.{ℕ, _-_, _≤_}
 use mathlib.Core.Path.{_≡_}
+use native.Mathlib.Nat.{not-suc-le-zero}
 use native.Mathlib.Omega.{arith}
 use borrow.Author.Needs.{needs}
 use lib.ListN.{length}
-use Rattle.io.proofs.Counting.{counts}
+use Rattle.console.specs.declared.LineEnd.{LineEnd}
+use Rattle.console.proofs.LineLaws.{NoNewline, one-more, ended, cut-off}
 use Rattle.console.proofs.read_line.Statement.{statement}
 use Rattle.console.proofs.read_line.Tie as tie
 
 abbrev Inv-loop : tie.InvT-loop
-Inv-loop bytes₀ count₀ bytes count = (count ≤ 33) × (length bytes ≡ 33)
+Inv-loop bytes₀ count₀ bytes count = (count ≤ 33) × (length bytes ≡ 33) × NoNewline bytes count
 
 abbrev μ-loop : tie.MeasureT-loop
 μ-loop bytes₀ count₀ bytes count = 33 - count
 
 loop-holds : tie.Need-loop-holds Inv-loop μ-loop
-loop-holds c = search needs
+loop-holds c = (search needs, search needs, λ i h. absurd (not-suc-le-zero h))
 
 read-byte-requires : tie.Need-read-byte-requires Inv-loop μ-loop
 read-byte-requires c κs = search needs
@@ -27,7 +30,14 @@ enum-told : tie.Need-enum-told Inv-loop μ-loop
 enum-told c = search needs
 
 returns : tie.Need-returns Inv-loop μ-loop
-returns c = counts _ _ (omega arith)
+returns c =
+    let inv = c .before .before .before .before .loop .inv in
+    ended _ _ (omega (arith, inv)) (inv .2) LineEnd.Input (λ e. let z : _≡_ {A = ℕ} 0 1 = cc in absurd (omega arith))
+
+returns-2 : tie.Need-returns-2 Inv-loop μ-loop
+returns-2 c =
+    let inv = c .before .before .before .before .before .before .loop .inv in
+    ended _ _ (omega (arith, inv)) (inv .2) LineEnd.Newline (λ e. let z : _≡_ {A = ℕ} 0 1 = cc in absurd (omega arith))
 
 array-write-bytes : tie.Need-array-write-bytes Inv-loop μ-loop
 array-write-bytes c = search needs
@@ -39,13 +49,14 @@ loop-less : tie.Need-loop-less Inv-loop μ-loop
 loop-less c = search needs
 
 loop-again : tie.Need-loop-again Inv-loop μ-loop
-loop-again c = search needs
-
-returns-2 : tie.Need-returns-2 Inv-loop μ-loop
-returns-2 c = counts _ _ (omega arith)
+loop-again c =
+    let l = c .before .before .before .before .before .before .loop in
+    (search needs, search needs, one-more (l .bytes) (l .count) _ (omega arith) (l .inv .2) (c .if1 .left))
 
 returns-3 : tie.Need-returns-3 Inv-loop μ-loop
-returns-3 c = counts _ _ (omega arith)
+returns-3 c =
+    let inv = c .before .loop .inv in
+    cut-off _ _ (omega (arith, inv)) (inv .2) (omega (arith, inv))
 
 pub read-line-spec : {M : Type 1} → statement M
 read-line-spec =
@@ -58,9 +69,9 @@ read-line-spec =
     enum-known-b
     enum-told
     returns
+    returns-2
     array-write-bytes
     add-count
     loop-less
     loop-again
-    returns-2
     returns-3)

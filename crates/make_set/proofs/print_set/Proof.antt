@@ -1,6 +1,8 @@
--- `make_set::print_set` is safe and ends: it counts its lines.
+-- `make_set::print_set` is safe and ends: a line that was printed is one of the set's.
 use Prim.Native.Nat.{_-_}
 use native.Mathlib.Omega.{arith}
+use Rattle.lines.specs.Slots.{lineCount}
+use Rattle.set_console.proofs.LineLaws.{Within, given-within}
 use Rattle.make_set.proofs.print_set.Statement.{statement}
 use Rattle.make_set.proofs.print_set.Tie as tie
 
@@ -8,7 +10,13 @@ abbrev Inv-loop : tie.InvT-loop
 Inv-loop d initial offsets number₀ number = Unit {0}
 
 abbrev μ-loop : tie.MeasureT-loop
-μ-loop d initial offsets number₀ number = 24578 - number
+μ-loop d initial offsets number₀ number = lineCount d - number
+
+-- the line that was printed
+printed : (c : tie.Then1 Inv-loop μ-loop) →
+    let l = c .before .before in
+    Within (l .before .before .args .d) (l .loop .number)
+printed c = given-within _ _ _ _ _ (c .before .print-line .ensures (c .if1 .taken))
 
 loop-holds : tie.Need-loop-holds Inv-loop μ-loop
 loop-holds c = tt
@@ -17,19 +25,16 @@ print-line-requires : tie.Need-print-line-requires Inv-loop μ-loop
 print-line-requires c κs = tt
 
 add-number : tie.Need-add-number Inv-loop μ-loop
-add-number c = omega arith
+add-number c = omega (arith, printed c)
 
 loop-less : tie.Need-loop-less Inv-loop μ-loop
-loop-less c = omega arith
+loop-less c = omega (arith, printed c)
 
 loop-again : tie.Need-loop-again Inv-loop μ-loop
 loop-again c = tt
 
 returns : tie.Need-returns Inv-loop μ-loop
 returns c = tt
-
-returns-2 : tie.Need-returns-2 Inv-loop μ-loop
-returns-2 c = tt
 
 pub print-set-spec : {M : Type 1} → statement M
 print-set-spec =
@@ -42,5 +47,4 @@ print-set-spec =
     add-number
     loop-less
     loop-again
-    returns
-    returns-2)
+    returns)

@@ -1,54 +1,52 @@
--- `set_console::read_set` is safe and ends: the loop counts its lines, and the tables keep their lengths.
+-- `set_console::read_set` meets its contract: each step feeds what it took, and the loop ends since no set has more lines than are left.
 use mathlib.Core.Path.{_≡_, refl}
-use Prim.Native.Nat.{_-_}
-use native.Mathlib.Omega.{arith}
+use Prim.Native.Nat.{ℕ}
 use borrow.Author.Needs.{needs}
-use lib.ListN.{length}
+use Rattle.reading.specs.ReadLine.{session}
+use Rattle.reading.proofs.ReadLaws.{first-possible}
+use Rattle.set_console.specs.Reading.{Came}
+use Rattle.set_console.proofs.FeedLaws.{came-none, came-more, few-taken, left, left-less}
 use Rattle.set_console.proofs.read_set.Statement.{statement}
 use Rattle.set_console.proofs.read_set.Tie as tie
 
 abbrev Inv-loop : tie.InvT-loop
-Inv-loop initial₀ offsets₀ state₀ counter₀ initial offsets state counter =
-    (length initial ≡ length initial₀) × (length offsets ≡ length offsets₀)
+Inv-loop initial₀ offsets₀ state₀ more₀ initial offsets state more = Came initial₀ offsets₀ (session state initial offsets)
 
 abbrev μ-loop : tie.MeasureT-loop
-μ-loop initial₀ offsets₀ state₀ counter₀ initial offsets state counter = 24578 - counter
+μ-loop initial₀ offsets₀ state₀ more₀ initial offsets state more = left more (state .taken)
 
 begin-requires : tie.Need-begin-requires Inv-loop μ-loop
-begin-requires c κs = tt
+begin-requires c κs = search needs
 
 loop-holds : tie.Need-loop-holds Inv-loop μ-loop
-loop-holds c = (refl, refl)
+loop-holds c = came-none _ _ _ (c .begin .ensures) (first-possible _ (c .begin .ensures))
 
 take-line-requires : tie.Need-take-line-requires Inv-loop μ-loop
-take-line-requires c κs = tt
-
-same-length : tie.Need-same-length Inv-loop μ-loop
-same-length c = search needs
-
-same-length-2 : tie.Need-same-length-2 Inv-loop μ-loop
-same-length-2 c = search needs
-
-returns : tie.Need-returns Inv-loop μ-loop
-returns c = search needs
-
-add-counter : tie.Need-add-counter Inv-loop μ-loop
-add-counter c = omega arith
+take-line-requires c κs = search needs
 
 loop-less : tie.Need-loop-less Inv-loop μ-loop
-loop-less c = omega arith
+loop-less c =
+    let t = c .before .before .before .before in
+    let i = t .before .before .before in
+    let l = i .before .loop in
+    left-less (l .state .taken) _ _ _ (few-taken _ (l .inv .is-possible)) (i .loop-test .taken) (t .take-line .ensures .moves)
 
 loop-again : tie.Need-loop-again Inv-loop μ-loop
-loop-again c = search needs
+loop-again c =
+    let t = c .before .before .before .before in
+    came-more _ _ _ _ _ (t .before .before .before .before .loop .inv) (t .take-line .ensures)
 
-same-length-3 : tie.Need-same-length-3 Inv-loop μ-loop
-same-length-3 c = search needs
+is-finished-requires : tie.Need-is-finished-requires Inv-loop μ-loop
+is-finished-requires c κs = search needs
 
-same-length-4 : tie.Need-same-length-4 Inv-loop μ-loop
-same-length-4 c = search needs
+same-length : tie.Need-same-length Inv-loop μ-loop
+same-length c = c .before .before .loop .inv .initial-length
 
-returns-2 : tie.Need-returns-2 Inv-loop μ-loop
-returns-2 c = search needs
+same-length-2 : tie.Need-same-length-2 Inv-loop μ-loop
+same-length-2 c = c .before .before .loop .inv .offsets-length
+
+returns : tie.Need-returns Inv-loop μ-loop
+returns c = (c .before .before .loop .inv, c .is-finished .ensures)
 
 pub read-set-spec : {M : Type 1} → statement M
 read-set-spec =
@@ -59,12 +57,9 @@ read-set-spec =
     begin-requires
     loop-holds
     take-line-requires
-    same-length
-    same-length-2
-    returns
-    add-counter
     loop-less
     loop-again
-    same-length-3
-    same-length-4
-    returns-2)
+    is-finished-requires
+    same-length
+    same-length-2
+    returns)

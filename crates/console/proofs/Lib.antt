@@ -1,0 +1,2 @@
+-- Laws of lines that are read.
+pub mod LineLaws

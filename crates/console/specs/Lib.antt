@@ -1,0 +1,2 @@
+-- What a reader has to believe of lines that programs read.
+pub mod Reading

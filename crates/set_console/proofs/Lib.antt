@@ -1,0 +1,3 @@
+-- Laws of sets that programs read and write.
+pub mod FeedLaws
+pub mod LineLaws
