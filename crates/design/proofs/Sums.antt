@@ -1,7 +1,7 @@
 -- Sums and tests over the numbers below a bound.
-use mathlib.Core.Path.{_≡_, refl, ap₂}
+use mathlib.Core.Path.{_≡_, refl}
 use mathlib.Core.Bool as Bool
-use mathlib.Core.Bool.{Bool, true, false, _||_, or-true}
+use mathlib.Core.Bool.{Bool, true, false, or-true}
 use mathlib.Core.Logic.{⊎-elim}
 use Prim.Native.Nat.{ℕ, zero, suc, _+_, _*_, _≤_, _<_}
 use native.Mathlib.Nat.{eq-or-lt-of-le, le-of-suc-le-suc, not-suc-le-zero, le-trans, le-step, le-refl, le-add-right}
@@ -21,18 +21,6 @@ none-below zero test e i h = absurd (not-suc-le-zero h)
 none-below (suc n) test e i h =
     let parts = neither _ _ e in
     below-suc h (λ at. rw at (parts .1)) (λ below. none-below n test (parts .0) i below)
-
-pub some-congruence : (n : ℕ) (f g : ℕ → Bool) → ((i : ℕ) → i < n → f i ≡ g i) → someBelow n f ≡ someBelow n g
-unfolding someBelow
-some-congruence zero f g same = refl
-some-congruence (suc n) f g same =
-    ap₂ _||_ (some-congruence n f g (λ i h. same i (le-step h))) (same n (le-refl _))
-
-pub sum-congruence : (n : ℕ) (f g : ℕ → ℕ) → ((i : ℕ) → i < n → f i ≡ g i) → sumBelow n f ≡ sumBelow n g
-unfolding sumBelow
-sum-congruence zero f g same = refl
-sum-congruence (suc n) f g same =
-    ap₂ _+_ (sum-congruence n f g (λ i h. same i (le-step h))) (same n (le-refl _))
 
 -- a sum grows with its bound, and keeps below a bound for each part
 pub sum-mono : (f : ℕ → ℕ) (i n : ℕ) → i ≤ n → sumBelow i f ≤ sumBelow n f

@@ -39,20 +39,9 @@ tenth-within (suc (suc k)) n two few =
     let e : suc (suc k) - 1 ≡ suc k = omega arith in
     rw e (omega (arith, rw (pow-suc 10 (suc k)) at few))
 
-length-within : (fuel k n : ℕ) → 1 ≤ k → n < 10 ^ k → length (decimalWithin fuel n) ≤ k
-unfolding decimalWithin
-length-within zero k n pos few = omega arith
-length-within (suc fuel) k n pos few =
-    length-step fuel n k pos
-    (λ two. let tenth = tenth-within k n two few in length-within fuel (k - 1) (n / 10) (tenth .0) (tenth .1))
-
 pub decimal-length : (n : ℕ) → length (decimal n) ≤ 20
 unfolding decimal
 decimal-length n = length-fuel 20 n
-
-pub decimal-length-within : (k n : ℕ) → 1 ≤ k → n < 10 ^ k → length (decimal n) ≤ k
-unfolding decimal
-decimal-length-within k n pos few = length-within 20 k n pos few
 
 drop-set : (l : List ℕ) (i v : ℕ) → i < length l → drop i (set l i v) ≡ v ∷ drop (suc i) l
 drop-set l i v h = rw set-split (drop-at (take i l) (v ∷ drop (suc i) l) i (length-take-le i l (le-of-lt h)))

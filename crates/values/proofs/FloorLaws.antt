@@ -6,7 +6,7 @@ use native.Mathlib.Nat.{le-trans, le-antisymm, pow-le-pow-left, not-le-of-lt, lt
 use native.Mathlib.Decide.{decLe}
 use native.Mathlib.Omega.{arith}
 use lib.Dec.{leb}
-use borrow.Author.Tests.{leb-true, leb-false, le-leb, lt-leb}
+use borrow.Author.Tests.{leb-true, leb-false}
 use Rattle.values.specs.declared.rows.Row.{Row}
 use Rattle.values.specs.Rows.{Lawful}
 use Rattle.values.specs.Inputs.{InRange}
@@ -32,15 +32,6 @@ module _ (k limit : ℕ) where
   unfolding rootFrom
   root-from zero root low high = record { low = low; high = high }
   root-from (suc b) root low high = digit b root (leb ((root + 2 ^ b) ^ k) limit) refl (root-from b) low high
-
-  -- One digit of the search, by its test.
-  pub digit-one : (b root : ℕ) → (root + 2 ^ b) ^ k ≤ limit → rootFrom k limit (suc b) root ≡ rootFrom k limit b (root + 2 ^ b)
-  unfolding rootFrom
-  digit-one b root h = simp (le-leb _ _ h)
-
-  pub digit-zero : (b root : ℕ) → limit < (root + 2 ^ b) ^ k → rootFrom k limit (suc b) root ≡ rootFrom k limit b root
-  unfolding rootFrom
-  digit-zero b root h = simp (lt-leb _ _ h)
 
   -- The search over b digits finds the root, if b digits hold it, and there is only one.
   pub root-searched : 1 ≤ k → (b : ℕ) → limit < (2 ^ b) ^ k → IsRoot k limit (rootFrom k limit b 0)
