@@ -1,5 +1,4 @@
 -- Laws of the report's text.
 pub mod ReportLaws
-mod Examples
 pub mod TextLaws
 pub mod DecimalLaws

@@ -36,7 +36,7 @@ G-with g a b =
     none : Pair
     none = record { a = 0; b = 0 }
 
-abbrev G : Design
+abbrev pub G : Design
 G = G-with 4 3 3
 
 abbrev minus : ℕ → ℤ

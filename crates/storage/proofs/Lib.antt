@@ -11,7 +11,5 @@ pub mod ReadingBack
 pub mod InOrder
 -- What the fill writes:
 pub mod FilledFits
--- Examples:
-pub mod Examples
 -- All together:
 pub mod Stored

@@ -1,3 +1,2 @@
 -- Laws of input words in decimal.
 pub mod DecimalLaws
-mod Examples

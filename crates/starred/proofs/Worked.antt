@@ -1,0 +1,175 @@
+-- Worked examples beside the starred list, of the definitions that the calls promise to equal. The numbers, lines and texts are document
+-- 01's or were worked out from it apart from the definitions. A definition that is wrong fails here even where its code is wrong alike.
+use mathlib.Core.Path.{_≡_, refl}
+use mathlib.Core.List.{List, [], _∷_, map}
+use Prim.Native.Nat.{ℕ, _^_}
+use Prim.Native.String.{String}
+use lib.IntN.{pos}
+use lib.ListN.{replicate, set}
+use Rattle.refusal.specs.declared.Cause.{Cause}
+use Rattle.refusal.specs.declared.Verdict.{Verdict}
+use Rattle.refusal.specs.Numbers.{numberOf}
+use Rattle.values.specs.declared.Valued.{Valued}
+use Rattle.values.specs.Value.{valueOf}
+use Rattle.design.specs.declared.Pair.{Pair}
+use Rattle.design.specs.declared.Design.{Design}
+use Rattle.design.specs.declared.Measured.{Measured}
+use Rattle.design.specs.Answers.{budgetAnswer, sizeAnswer}
+use Rattle.tables.specs.declared.Batched.{Batched}
+use Rattle.tables.specs.declared.Checked.{Checked}
+use Rattle.tables.specs.Fill.{initialEntries, offsetEntries}
+use Rattle.tables.specs.Batch.{batchAnswer}
+use Rattle.tables.specs.Check.{checkAnswer}
+use Rattle.tables.proofs.Opened.{tables-opened}
+use Rattle.frames.specs.Hex as Hex
+use Rattle.frames.specs.Line as Line
+use Rattle.frames.specs.DesignFrame as DesignFrame
+use Rattle.encoding.specs.Bytes as Bytes
+use Rattle.encoding.specs.Encode as Encode
+use Rattle.encoding.specs.DesignBytes as DesignBytes
+use Rattle.lines.specs.Slots as Slots
+use Rattle.lines.specs.Lines as Lines
+use Rattle.lines.specs.Lines.{lineAt}
+use Rattle.writing.specs.declared.Written.{Written}
+use Rattle.writing.specs.Write as Write
+use Rattle.writing.specs.Write.{writeAnswer}
+use Rattle.reading.specs.ReadLine as ReadLine
+use Rattle.reading.specs.ReadLine.{session, readAnswer}
+use Rattle.report_text.specs.Words as Words
+use Rattle.report_text.specs.Words.{ascii, textOf}
+use Rattle.report_text.specs.Report as Report
+use Rattle.report_text.specs.Report.{reportOf}
+use Rattle.word_text.specs.declared.ReadWord.{ReadWord}
+use Rattle.word_text.specs.Decimal as Decimal
+use Rattle.word_text.specs.Decimal.{wordIn}
+use Rattle.starred.proofs.Starred.{G}
+
+abbrev pair : ℕ → ℕ → Pair
+pair a b = record { a = a; b = b }
+
+-- Two tables: kind 4, w 8, q 8, g 4, alpha 4, m 2, (4,2), (3,2)
+abbrev two-tables : Design
+two-tables =
+    record { kind = 4; w = 8; q = 8; g = 4; alpha = 4; m = 2; pairs = pair 4 2 ∷ pair 3 2 ∷ pair 0 0 ∷ pair 0 0 ∷ [] }
+
+-- Widths as large as they may be: kind 0, w 16, q 16, g 4, alpha 13, m 1, (9,3)
+abbrev widest : Design
+widest =
+    record { kind = 0; w = 16; q = 16; g = 4; alpha = 13; m = 1; pairs = pair 9 3 ∷ pair 0 0 ∷ pair 0 0 ∷ pair 0 0 ∷ [] }
+
+-- All causes, in the order of their numbers
+abbrev causes : List Cause
+causes =
+    Cause.Kind ∷ Cause.InputWidth ∷ Cause.OutputWidth ∷ Cause.GuardBits ∷ Cause.InitialBits ∷ Cause.TableCount ∷ Cause.SegmentBits
+    ∷ Cause.OffsetBits ∷ Cause.CutSum ∷ Cause.TablesShort ∷ Cause.NotAdmitted ∷ Cause.WordRange ∷ Cause.SumRange ∷ Cause.OutputShort
+    ∷ Cause.Line ∷ Cause.Frame ∷ Cause.State ∷ Cause.EntryWidth ∷ Cause.LineNumber ∷ []
+
+-- G's first line
+abbrev G-line : String
+G-line = "010008080405010303DF"
+
+-- The report on a line is the text.
+abbrev Reports : String → String → Type 0
+Reports line text = reportOf (ascii line) ≡ textOf (ascii text)
+
+-- Line n of G's set as it is filled
+abbrev Line-of-G : ℕ → String → Type 0
+Line-of-G n line = lineAt G (initialEntries G) (offsetEntries G) n ≡ ascii line
+
+-- The check of G's set with initial entry 0 changed
+abbrev check-with : ℕ → Checked
+check-with entry = checkAnswer G (set (initialEntries G) 0 entry) (offsetEntries G)
+
+pub record Worked : Type 0 where
+  -- Every cause's number
+  pub numbers : map numberOf causes
+      ≡ 1 ∷ 2 ∷ 3 ∷ 4 ∷ 5 ∷ 6 ∷ 7 ∷ 8 ∷ 9 ∷ 10 ∷ 11 ∷ 12 ∷ 13 ∷ 14 ∷ 15 ∷ 16 ∷ 17 ∷ 18 ∷ 19 ∷ []
+  -- 2 before 3: w 5 with q 5
+  pub w-before-q : valueOf 0 5 5 4 0 ≡ Valued.Refused Cause.InputWidth
+  -- alpha 13 passes, and so do w 16, q 16, q+g 20 and a+b 12: 8192 and 4096 entries of 24 bits
+  pub widest-size : sizeAnswer widest ≡ Measured.Is 294912
+  -- (m+2)·2^17 in the budget of two tables
+  pub two-tables-budget : budgetAnswer two-tables ≡ Measured.Is 1318223
+  -- and in their report
+  pub two-tables-report : Reports "0104080804040204020302D6" "BUDGET 1318223 LIMIT 2097152 BITS 2688 ADMITTED\n"
+  -- The report of document 01's example
+  pub admitted : Reports G-line "BUDGET 1895955 LIMIT 2097152 BITS 2304 ADMITTED\n"
+  -- The report on G with (2,3)
+  pub not-admitted : Reports "010008080405010203E0" "BUDGET 3008038 LIMIT 2097152 BITS 1536 NOT ADMITTED\n"
+  -- 15: an empty line, one digit too many, lower case, a wrong sum, 34 digits
+  pub unsound : map (λ line. reportOf (ascii line))
+      ("" ∷ "010008080405010303DF0" ∷ "010008080405010303df" ∷ "010008080405010303DE" ∷ "0000000000000000000000000000000000" ∷ [])
+      ≡ replicate 5 (textOf (ascii "REFUSED 15\n"))
+  -- 16: one pair for m 2
+  pub too-short-for-m : Reports "010008080405020303DE" "REFUSED 16\n"
+  -- 1 before 2: kind 5 with w 5
+  pub kind-first : Reports "010505080405010303DD" "REFUSED 1\n"
+  -- 6: m 0
+  pub no-table : Reports "01000808040500E6" "REFUSED 6\n"
+  -- 7 on all tables before 8: (3,9), (6,1) for alpha 5
+  pub seven-before-eight : Reports "0100080804050203090601D1" "REFUSED 7\n"
+  -- G's lines: the design
+  pub line-0 : Line-of-G 0 G-line
+  -- initial entry 0
+  pub line-1 : Line-of-G 1 "020000000FD21D"
+  -- offset 0
+  pub line-33 : Line-of-G 33 "03000000000032CB"
+  -- offset 7, a negative one
+  pub line-40 : Line-of-G 40 "03000007FFFFCD2B"
+  -- the number of frames before the last
+  pub line-97 : Line-of-G 97 "0400619B"
+  -- Zeros behind m from an 01 line, not the sum byte that follows its pair, nor what stood there before
+  pub zeros-behind-m : readAnswer
+      (session (record { design = two-tables; taken = 0 }) (replicate 32 0) (replicate 64 (pos 0)))
+      (ascii G-line)
+      ≡ record { verdict = Verdict.Passed; state = record { design = G; taken = 1 } }
+  -- 18 before 14: an initial entry of 2^24 for a line buffer of length 0
+  pub width-before-room : writeAnswer G (2 ^ 24 ∷ initialEntries G) (offsetEntries G) 1 0 ≡ Written.Refused Cause.EntryWidth
+  -- 14 before 12, and its place is 0: two words, the second too great, for an output of length 1
+  pub room-before-words : batchAnswer G (initialEntries G) (offsetEntries G) (0 ∷ 256 ∷ []) 1 ≡ Batched.Refused Cause.OutputShort 0
+  -- "initial 0 changed to 4046: faithful": at x 0 Y is 4096, the word 256
+  pub just-faithful : check-with 4046 ≡ Checked.Faithful
+  -- "to 4045: word 0 is named": Y is 4095, the word 255, exactly one unit from 256
+  pub one-unit-off : check-with 4045 ≡ Checked.Unfaithful 0
+  -- Input words in decimal: leading zeros, and the greatest
+  pub decimal-words : map (λ line. wordIn (ascii line)) ("007" ∷ "4294967295" ∷ []) ≡ ReadWord.Word 7 ∷ ReadWord.Word 4294967295 ∷ []
+  -- No input words: an empty line, the character before 0, the one after 9, 2^32
+  pub no-words : map (λ line. wordIn (ascii line)) ("" ∷ "/" ∷ "7:" ∷ "4294967296" ∷ []) ≡ replicate 4 ReadWord.NotAWord
+
+pub worked : Worked
+unfolding
+    tables-opened Hex.digitValue Hex.allDigits Hex.bytesOf Line.total Line.sumFails Line.lineFails Line.lineChecks DesignFrame.frameFails
+    DesignFrame.frameChecks DesignFrame.framePair DesignFrame.frameDesign Bytes.bigEndian Bytes.complement Bytes.fits
+    Encode.digitOf Encode.hexOf Encode.sumByte Encode.withSum Encode.lineOf DesignBytes.pairBytes DesignBytes.designBytes
+    Slots.lineCount Slots.tableOf Slots.offsetSlot Slots.slotOf Lines.frameHead Lines.entryWidth Lines.entryNumber Lines.entryFits
+    Lines.frameOf Lines.lineAt Write.numberCheck Write.lineChecks Write.writeVerdict Write.writeAnswer ReadLine.possible ReadLine.stateCheck
+    ReadLine.designOf ReadLine.dueFails ReadLine.dueChecks ReadLine.readVerdict ReadLine.verdictOn ReadLine.after ReadLine.readAnswer
+    Words.decimalWithin Words.decimal Words.textOf Report.lineText Report.designText Report.refusedText Report.reportVerdict Report.reportOf
+    Decimal.allDigits Decimal.isDecimal Decimal.numberIn Decimal.wordIn
+worked =
+    record {
+      numbers = refl;
+      w-before-q = refl;
+      widest-size = refl;
+      two-tables-budget = refl;
+      two-tables-report = refl;
+      admitted = refl;
+      not-admitted = refl;
+      unsound = refl;
+      too-short-for-m = refl;
+      kind-first = refl;
+      no-table = refl;
+      seven-before-eight = refl;
+      line-0 = refl;
+      line-1 = refl;
+      line-33 = refl;
+      line-40 = refl;
+      line-97 = refl;
+      zeros-behind-m = refl;
+      width-before-room = refl;
+      room-before-words = refl;
+      just-faithful = refl;
+      one-unit-off = refl;
+      decimal-words = refl;
+      no-words = refl;
+    }
