@@ -3,5 +3,4 @@ pub mod Sums
 pub mod LegalLaws
 pub mod CutLaws
 pub mod BudgetLaws
-pub mod Beyond
 pub mod Opened

@@ -1,4 +1,7 @@
--- How demand 2's last sentence is proved, one file a subject.
+-- How the statements on stored sets are proved, one file a subject.
+-- Designs of which the same is read:
+pub mod SameDesigns
+pub mod Unread
 -- The law of lines, from the line to the writer and from the writer to the line:
 pub mod Entries
 pub mod Fitting
@@ -11,5 +14,5 @@ pub mod ReadingBack
 pub mod InOrder
 -- What the fill writes:
 pub mod FilledFits
--- All together:
+-- Demand 2's last sentence, all together:
 pub mod Stored

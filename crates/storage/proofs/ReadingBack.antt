@@ -13,7 +13,6 @@ use Rattle.refusal.specs.declared.Verdict.{Verdict}
 use Rattle.design.specs.declared.Design.{Design}
 use Rattle.design.specs.Cut.{initialCount, offsetTotal}
 use Rattle.design.specs.Same.{Same}
-use Rattle.design.proofs.Beyond.{initial-count-same, offset-total-same}
 use Rattle.tables.specs.Inputs.{Usable}
 use Rattle.tables.specs.Fill.{listBelow}
 use Rattle.tables.specs.Writing.{over}
@@ -27,12 +26,12 @@ use Rattle.lines.specs.declared.Slot.{Slot}
 use Rattle.lines.specs.Slots.{lineCount, slotOf, offsetSlot}
 use Rattle.lines.specs.Lines.{entryNumber, entryFits, lineAt, setLines}
 use Rattle.lines.proofs.SlotLaws.{slot-initial, slot-offset, slot-last}
-use Rattle.lines.proofs.Unread.{line-same, slot-same, line-count-same}
 use Rattle.reading.specs.ReadLine.{Session, session, initialStored, offsetsStored, verdictOn, after}
 use Rattle.reading.proofs.ReadLaws.{finished-at-end}
 use Rattle.storage.specs.Feeding.{Begins, Finished, feed, keptIf, accepted}
 use Rattle.storage.specs.Sets.{TableSet, Storable, linesIn}
 use Rattle.storage.specs.Storage.{ReadsBack}
+use Rattle.storage.proofs.SameDesigns.{initial-count-same, offset-total-same, line-count-same, slot-same, line-same}
 use Rattle.storage.proofs.Fitting.{storable-fits}
 use Rattle.storage.proofs.Taking.{given-usable, first-passes, first-taken, later-passes, later-taken}
 
@@ -96,7 +95,7 @@ module _ (t : TableSet) (ok : Storable t) (s : Session) (begins : Begins s) (ini
   line = lineAt (t .design) (t .initial) (t .offsets)
 
   line-given : (n : ℕ) → line n ≡ lineAt e (t .initial) (t .offsets) n
-  line-given n = ap (λ (f : ℕ → List ℕ). f n) (sym (line-same e (t .design) same (t .initial) (t .offsets)))
+  line-given n = sym (line-same e (t .design) same (t .initial) (t .offsets) n)
 
   -- The tables are long enough, also while they are stored in.
   usable-given : Usable e (length (s .initial)) (length (s .offsets))

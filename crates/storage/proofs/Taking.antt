@@ -13,7 +13,6 @@ use Rattle.refusal.specs.declared.Verdict.{Verdict}
 use Rattle.design.specs.declared.Design.{Design}
 use Rattle.design.specs.Cut.{initialCount, offsetTotal}
 use Rattle.design.specs.Legal.{Legal}
-use Rattle.design.proofs.Beyond.{verdict-same, initial-count-same, offset-total-same}
 use Rattle.tables.specs.Inputs.{Usable}
 use Rattle.tables.proofs.SetLaws.{tables-long}
 use Rattle.frames.specs.Hex.{bytesOf}
@@ -34,6 +33,7 @@ use Rattle.reading.specs.declared.Reading.{Reading}
 use Rattle.reading.specs.ReadLine.{Session, session, begins, headFails, entryIn, initialStored, offsetsStored, verdictOn, after}
 use Rattle.reading.proofs.BeginsLaws.{begins-append}
 use Rattle.reading.proofs.ReadLaws.{passed, begun-possible, first-possible, first-design, later-design, first-passed, later-passed}
+use Rattle.storage.proofs.SameDesigns.{initial-count-same, offset-total-same, answers-same}
 
 -- A frame of a set: it begins as it should, and its entry is read as it was written.
 module _ (d : Design) (slot : Slot) (initial : List ℕ) (offsets : List ℤ) where
@@ -126,7 +126,7 @@ module _ (d : Design) (legal : Legal d) (set-initial : List ℕ) (set-offsets : 
   given-usable =
       let same = design-back d legal in
       record {
-        legal = verdict-same given d same ∙ legal;
+        legal = answers-same given d same .design ∙ legal;
         initial-long = rw (initial-count-same given d same) initial-long;
         offsets-long = rw (offset-total-same given d same) offsets-long;
       }

@@ -3,3 +3,4 @@ pub mod Sets
 pub mod File
 pub mod Feeding
 pub mod Storage
+pub mod Unread

@@ -11,5 +11,4 @@ pub mod WordLaws
 pub mod BatchLaws
 pub mod Opened
 pub mod BatchTold
-pub mod Unread
 pub mod WritingLaws

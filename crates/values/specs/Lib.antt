@@ -3,6 +3,7 @@ pub mod Rows
 pub mod Exact
 pub mod Inputs
 pub mod Floor
+pub mod Document
 pub mod Slopes
 pub mod Widths
 pub mod Value
