@@ -1,7 +1,7 @@
 -- Pairs beyond m are not read, and what a reader leaves in them.
-use mathlib.Core.Path.{_≡_, refl, sym, ap, _∙_}
+use mathlib.Core.Path.{_≡_, refl, sym, _∙_}
 use mathlib.Core.List.{List}
-use Prim.Native.Nat.{ℕ, zero, suc, _+_, _≤_, _<_}
+use Prim.Native.Nat.{ℕ, zero, suc, _≤_, _<_}
 use native.Mathlib.Omega.{arith}
 use lib.ListN.{length, getD}
 use lib.IntN.{ℤ}
@@ -12,8 +12,7 @@ use Rattle.design.specs.Same.{Same}
 use Rattle.tables.specs.Fill.{tablesCheck}
 use Rattle.frames.specs.Hex.{bytesOf}
 use Rattle.frames.specs.DesignFrame.{framePair, frameDesign}
-use Rattle.lines.specs.declared.Slot.{Slot}
-use Rattle.lines.specs.Slots.{lineCount, slotOf}
+use Rattle.lines.specs.Slots.{slotOf}
 use Rattle.reading.specs.declared.Reading.{Reading}
 use Rattle.reading.specs.ReadLine.{
   stateCheck,
@@ -36,7 +35,7 @@ use Rattle.reading.proofs.ReadLaws.{
   later-possible,
   not-begun,
 }
-use Rattle.storage.specs.Unread.{SameAnswers, SameReading, SameRead, Unread}
+use Rattle.storage.specs.Unread.{SameReading, SameRead, Unread}
 use Rattle.storage.proofs.SameDesigns.{
   initial-count-same,
   offset-total-same,
@@ -49,18 +48,6 @@ use Rattle.storage.proofs.SameDesigns.{
 -- A state
 abbrev at : Design → ℕ → Reading
 at d n = record { design = d; taken = n }
-
--- With no line taken the verdict is on the line alone, whatever the design.
-first-verdict : (d e : Design) (initial offsets : ℕ) (line : List ℕ)
-    → readVerdict (at d 0) initial offsets line ≡ readVerdict (at e 0) initial offsets line
-unfolding readVerdict stateCheck
-first-verdict d e initial offsets line =
-    rw (
-      first-possible (at d 0) refl,
-      first-possible (at e 0) refl,
-      first-checks (at d 0) initial offsets (bytesOf line) refl,
-      first-checks (at e 0) initial offsets (bytesOf line) refl,
-    )
 
 -- A later line is compared with what is read of the design.
 module _ (d e : Design) (s : Same d e) (n : ℕ) (some : 0 < n) where
@@ -86,17 +73,24 @@ module _ (d e : Design) (s : Same d e) (n : ℕ) (some : 0 < n) where
   later-finished =
       rw (later-possible (at d n) some, later-possible (at e n) some, answers-same d e s .design, line-count-same d e s)
 
--- Any number of lines taken: with none the designs may be any two.
+-- With no line taken the designs may be any two: the verdict is on the line alone, and the reading is not finished.
 verdict-same : (d e : Design) (n : ℕ) → (0 < n → Same d e) → (initial offsets : ℕ) (line : List ℕ)
     → readVerdict (at d n) initial offsets line ≡ readVerdict (at e n) initial offsets line
-verdict-same d e zero same initial offsets line = first-verdict d e initial offsets line
+unfolding readVerdict stateCheck
+verdict-same d e zero same initial offsets line =
+    rw (
+      first-possible (at d 0) refl,
+      first-possible (at e 0) refl,
+      first-checks (at d 0) initial offsets (bytesOf line) refl,
+      first-checks (at e 0) initial offsets (bytesOf line) refl,
+    )
 verdict-same d e (suc n) same initial offsets line = later-verdict d e (same (omega arith)) (suc n) (omega arith) initial offsets line
 
 finished-same : (d e : Design) (n : ℕ) → (0 < n → Same d e) → finished (at d n) ≡ finished (at e n)
 finished-same d e zero same = not-begun (at d 0) refl ∙ sym (not-begun (at e 0) refl)
 finished-same d e (suc n) same = later-finished d e (same (omega arith)) (suc n) (omega arith)
 
--- the design that counts, from the line or from the state
+-- The design that counts, the line's or the state's
 design-same : (d e : Design) (n : ℕ) → (0 < n → Same d e) → (bytes : List ℕ) → Same (designOf (at d n) bytes) (designOf (at e n) bytes)
 unfolding designOf
 design-same d e zero same bytes = search
@@ -117,7 +111,7 @@ module _ (d e : Design) (n : ℕ) (same : 0 < n → Same d e) (initial : List �
         initial = rw (slot, head);
         offsets = rw (slot, head);
       }
-  moved-same (Verdict.Refused cause) bytes = record { taken = refl; design = same; initial = refl; offsets = refl }
+  moved-same (Verdict.Refused cause) bytes = record { taken = refl; design = λ some. same (omega arith); initial = refl; offsets = refl }
 
   read-same : (line : List ℕ) → SameRead (session (at d n) initial offsets) (session (at e n) initial offsets) line
   unfolding verdictOn after
@@ -128,11 +122,6 @@ module _ (d e : Design) (n : ℕ) (same : 0 < n → Same d e) (initial : List �
         after = rw alike (moved-same (verdictOn (session (at e n) initial offsets) line) (bytesOf line));
         finished = finished-same d e n same;
       }
-
-reader : (s t : Session) → SameReading s t → (line : List ℕ) → SameRead s t line
-reader s t r line =
-    rw (← r .taken, ← r .initial, ← r .offsets)
-    (read-same (s .state .design) (t .state .design) (s .state .taken) (r .design) (s .initial) (s .offsets) line)
 
 -- What a reader leaves in the pairs beyond m: zeros on a first line,
 frame-zeros : (bytes : List ℕ) (i : ℕ) → frameDesign bytes .m ≤ i
@@ -154,8 +143,9 @@ unfolding after
 unread =
     record {
       not-read = answers-same;
-      reader = reader;
-      zeros = λ s line none passed.
-          rw (passed, first-design (s .state) (bytesOf line) none) (frame-zeros (bytesOf line));
+      reader = λ s t r line.
+          rw (← r .taken, ← r .initial, ← r .offsets)
+          (read-same (s .state .design) (t .state .design) (s .state .taken) (r .design) (s .initial) (s .offsets) line);
+      zeros = λ s line none passed. rw (passed, first-design (s .state) (bytesOf line) none) (frame-zeros (bytesOf line));
       kept = λ s line. moved-design (verdictOn s line) s (bytesOf line);
     }

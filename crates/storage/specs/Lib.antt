@@ -1,4 +1,4 @@
--- What a reader has to believe of stored sets.
+-- What a reader has to believe of stored sets, and of pairs that are not read.
 pub mod Sets
 pub mod File
 pub mod Feeding

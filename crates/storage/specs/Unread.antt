@@ -1,7 +1,6 @@
 -- Document 01, "A design": "Pairs beyond m are not read; a reader leaves zeros there on an 01 line and keeps them as they came on later
 -- lines, and sets are compared without them."
 use mathlib.Core.Path.{_≡_}
-use mathlib.Core.Bool.{Bool}
 use mathlib.Core.List.{List}
 use Prim.Native.Nat.{ℕ, _≤_, _<_}
 use lib.ListN.{getD}

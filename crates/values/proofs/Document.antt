@@ -1,7 +1,7 @@
 -- Both sides of the one inequality, and L, are for each kind what document 01 writes.
 use mathlib.Core.Path.{_≡_, refl, sym, _∙_, ap₂, transport}
 use mathlib.Core.Logic.{⊎-elim}
-use Prim.Native.Nat.{ℕ, _+_, _*_, _^_, _≤_}
+use Prim.Native.Nat.{ℕ, _*_, _^_, _≤_}
 use native.Mathlib.Nat.{one-mul, mul-comm, pow-suc, pow-zero}
 use native.Mathlib.Omega.{arith}
 use lib.Pow.{pow-add}
