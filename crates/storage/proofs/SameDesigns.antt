@@ -1,10 +1,12 @@
 -- Designs of which the same is read get the same answers. Every definition comes down to the six numbers and to the pairs below m.
-use mathlib.Core.Path.{_≡_, refl, ap₂, fun-ext}
+use mathlib.Core.Path.{_≡_, refl, _∙_, ap₂, fun-ext}
 use mathlib.Core.List.{List, _++_}
 use Prim.Native.Nat.{ℕ, zero, suc}
 use lib.IntN.{ℤ}
+use Rattle.design.specs.declared.Pair.{Pair}
 use Rattle.design.specs.declared.Design.{Design}
 use Rattle.design.specs.Cut.{
+  tables,
   pairAt,
   aOf,
   bOf,
@@ -60,34 +62,39 @@ opened = tt
 -- Those of them that a rewrite has to be told to look into
 ruleset insides = (aOf, bOf, offsetCount, tableBreaks, tableBudget, initialAt, offsetFor, placeVerdict, wordAt, faithfulAt, slotOf)
 
+-- The design with other pairs
+abbrev with-pairs : Design → List Pair → Design
+with-pairs d pairs = record { kind = d .kind; w = d .w; q = d .q; g = d .g; alpha = d .alpha; m = d .m; pairs = pairs }
+
+-- Designs of which the same is read differ in their pairs alone.
+only-pairs : (P : Design → Type 0) (d e : Design) → Same d e
+    → ((pairs : List Pair) → tables d ≡ tables (with-pairs d pairs) → P (with-pairs d pairs)) → P e
+unfolding tables
+only-pairs P d e s p =
+    rw (← s .kind, ← s .w, ← s .q, ← s .g, ← s .alpha, ← s .m) (p (e .pairs) (s .tables ∙ rw (s .m)))
+
 module _ (d e : Design) (s : Same d e) where
   -- how many entries and lines there are
   pub initial-count-same : initialCount d ≡ initialCount e
-  unfolding opened
+  unfolding initialCount
   initial-count-same = rw (s .alpha)
 
   pub offset-total-same : offsetTotal d ≡ offsetTotal e
   unfolding opened
-  offset-total-same = rw (s .tables, s .m, insides)
+  offset-total-same = only-pairs (λ e. offsetTotal d ≡ offsetTotal e) d e s (λ pairs t. rw (t, insides))
 
   pub line-count-same : lineCount d ≡ lineCount e
   unfolding lineCount
   line-count-same = rw (initial-count-same, offset-total-same)
 
-  -- the offsets that the fill writes
-  offsets-below-same : (n : ℕ) → offsetsBelow d n ≡ offsetsBelow e n
-  unfolding opened offsetsBelow
-  offsets-below-same zero = refl
-  offsets-below-same (suc n) = ap₂ _++_ (offsets-below-same n) (rw (s .tables, s .kind, s .w, s .q, s .g, insides))
-
   -- what a line holds, and its head
   pub slot-same : (n : ℕ) → slotOf d n ≡ slotOf e n
   unfolding opened
-  slot-same n = rw (s .tables, s .alpha, s .m, insides)
+  slot-same n = only-pairs (λ e. slotOf d n ≡ slotOf e n) d e s (λ pairs t. rw (t, insides))
 
   pub head-same : (slot : Slot) → frameHead d slot ≡ frameHead e slot
   unfolding frameHead designBytes
-  head-same Slot.Design = rw (s .tables, s .kind, s .w, s .q, s .g, s .alpha, s .m)
+  head-same Slot.Design = only-pairs (λ e. designBytes d ≡ designBytes e) d e s (λ pairs t. rw t)
   head-same (Slot.Initial index) = refl
   head-same (Slot.Offset table index place) = refl
   head-same (Slot.End before) = refl
@@ -96,27 +103,35 @@ module _ (d e : Design) (s : Same d e) where
   unfolding lineAt frameOf
   line-same initial offsets n = rw (slot-same n, head-same (slotOf e n))
 
-  pub answers-same : SameAnswers d e
-  unfolding opened
-  answers-same =
-      record {
-        design = rw (s .tables, s .kind, s .w, s .q, s .g, s .alpha, s .m, insides);
-        budget = rw (s .tables, s .kind, s .w, s .q, s .g, s .alpha, s .m, insides);
-        size = rw (s .tables, s .kind, s .w, s .q, s .g, s .alpha, s .m, insides);
-        set = λ initial offsets. rw (s .tables, s .kind, s .w, s .q, s .g, s .alpha, s .m, insides);
-        fill = λ initial offsets. rw (s .tables, s .kind, s .w, s .q, s .g, s .alpha, s .m, insides);
-        initial-table = λ initial offsets. rw (s .tables, s .kind, s .w, s .q, s .g, s .alpha, s .m, insides);
-        offset-tables = λ initial offsets.
-            rw (offsets-below-same (d .m), s .tables, s .kind, s .w, s .q, s .g, s .alpha, s .m, insides);
-        sum = λ initial offsets x. rw (s .tables, s .w, s .alpha, s .m, insides);
-        evaluate = λ initial offsets x. rw (s .tables, s .kind, s .w, s .q, s .g, s .alpha, s .m, insides);
-        batch = λ initial offsets words output. rw (s .tables, s .kind, s .w, s .q, s .g, s .alpha, s .m, insides);
-        output = λ initial offsets words output. rw (s .tables, s .kind, s .w, s .q, s .g, s .alpha, s .m, insides);
-        check = λ initial offsets. rw (s .tables, s .kind, s .w, s .q, s .g, s .alpha, s .m, insides);
-        write = λ initial offsets n buffer.
-            rw (line-same initial offsets n, s .tables, s .kind, s .w, s .q, s .g, s .alpha, s .m, insides);
-        line-buffer = λ initial offsets n buffer.
-            rw (line-same initial offsets n, s .tables, s .kind, s .w, s .q, s .g, s .alpha, s .m, insides);
-        line = line-same;
-        lines = λ initial offsets. rw (fun-ext (line-same initial offsets), line-count-same);
-      }
+-- The offsets that the fill writes
+offsets-below-same : (d : Design) (pairs : List Pair) → tables d ≡ tables (with-pairs d pairs)
+    → (n : ℕ) → offsetsBelow d n ≡ offsetsBelow (with-pairs d pairs) n
+unfolding opened offsetsBelow
+offsets-below-same d pairs t zero = refl
+offsets-below-same d pairs t (suc n) = ap₂ _++_ (offsets-below-same d pairs t n) (rw (t, insides))
+
+pub answers-same : (d e : Design) → Same d e → SameAnswers d e
+unfolding opened
+answers-same d e s =
+    only-pairs (SameAnswers d) d e s
+    (λ pairs t.
+    let same : Same d (with-pairs d pairs) = search in
+    let line = line-same d (with-pairs d pairs) same in
+    record {
+      design = rw (t, insides);
+      budget = rw (t, insides);
+      size = rw (t, insides);
+      set = λ initial offsets. rw (t, insides);
+      fill = λ initial offsets. rw (t, insides);
+      initial-table = λ initial offsets. rw (t, insides);
+      offset-tables = λ initial offsets. rw (offsets-below-same d pairs t (d .m), t, insides);
+      sum = λ initial offsets x. rw (t, insides);
+      evaluate = λ initial offsets x. rw (t, insides);
+      batch = λ initial offsets words output. rw (t, insides);
+      output = λ initial offsets words output. rw (t, insides);
+      check = λ initial offsets. rw (t, insides);
+      write = λ initial offsets n buffer. rw (line initial offsets n, t, insides);
+      line-buffer = λ initial offsets n buffer. rw (line initial offsets n, t, insides);
+      line = line;
+      lines = λ initial offsets. rw (fun-ext (line initial offsets), t, insides);
+    })
