@@ -16,7 +16,7 @@ ghost use Rattle.tables.specs.Check.{checkTold};
 ghost use Rattle.exports.specs.Numbers.{designOf};
 ghost use Rattle.exports.specs.Behind.{behind, placeAfter, firstAfter, sumTold};
 
-pub mod design_numbers;
+mod design_numbers;
 pub mod line_calls;
 
 use checking::check;

@@ -8,7 +8,7 @@ use native.Mathlib.Omega.{arith}
 use lib.ListN.{length}
 use lib.IntN.{ℤ}
 use mathlib.Core.Logic.{inl, inr}
-use borrow.Author.Tests.{not-false}
+use borrow.Author.Tests.{not-true, not-false}
 use Rattle.refusal.specs.declared.Cause.{Cause}
 use Rattle.refusal.specs.declared.Verdict.{Verdict}
 use Rattle.reading.specs.declared.Reading.{Reading}
@@ -68,7 +68,14 @@ feed-append (line ∷ lines) more s = feed-append lines more (after s line)
 -- No line came: the reading stands, and there is no more to take.
 pub none-taken : (s : Session) → Stepped s s false
 unfolding feed
-none-taken s = record { lines = []; fed = refl; moves = λ e. absurd (true≢false (sym e)); stops = λ e. inr refl }
+none-taken s =
+    record {
+      lines = [];
+      fed = refl;
+      moves = λ e. absurd (true≢false (sym e));
+      unfinished = λ e. absurd (true≢false (sym e));
+      stops = λ e. inr refl;
+    }
 
 -- A line came, and the reader's answer and tables are these.
 module _ (state : Reading) (initial initial' : List ℕ) (offsets offsets' : List ℤ) (line : List ℕ) (read : Read) where
@@ -97,6 +104,7 @@ module _ (state : Reading) (initial initial' : List ℕ) (offsets offsets' : Lis
           lines = line ∷ [];
           fed = rw (initial-is, offsets-is, state-told);
           moves = λ more. rw (state-told, verdict-told e);
+          unfinished = λ more. not-true _ more;
           stops = λ done. inl (not-false _ done);
         }
 

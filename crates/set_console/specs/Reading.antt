@@ -21,9 +21,10 @@ HoldsEverySet initial offsets = (d : Design) → Legal d → Usable d initial of
 pub record Stepped (before next : Session) (more : Bool) : Type 0 where
   pub lines : List (List ℕ)
   pub fed : feed before lines ≡ next
-  -- There is more to take where a line was accepted, which "moves the reading state on by one",
+  -- There is more to take where a line was accepted, which "moves the reading state on by one", and the reading is not finished,
   pub moves : more ≡ true → next .state .taken ≡ before .state .taken + 1
-  -- and no more only where the reading is finished or no line was taken.
+  pub unfinished : more ≡ true → finished (next .state) ≡ false
+  -- and no more only where it is finished or no line was taken.
   pub stops : more ≡ false → (finished (next .state) ≡ true) ⊎ (next ≡ before)
 
 -- A set that was read into these tables: "a reading begun with no line taken, each call given the state that the call before gave back and
