@@ -1,12 +1,14 @@
 -- `checking::search` meets its contract: up to here every word is faithful, over whole intervals and then within one.
 use mathlib.Core.Path.{_≡_, refl}
-use Prim.Native.Nat.{_+_, _-_, _*_, _^_, _≤_, _<_}
+use mathlib.Core.Bool.{Bool}
+use Prim.Native.Nat.{ℕ, _+_, _-_, _*_, _^_, _≤_, _<_}
 use native.Mathlib.Nat.{zero-mul, add-zero, add-assoc}
 use native.Mathlib.Omega.{arith}
 use lib.ListN.{length}
 use borrow.Author.Tests.{not-true, not-false}
 use Rattle.refusal.proofs.Checks.{tested}
 use Rattle.design.proofs.LegalLaws.{limits}
+use Rattle.tables.specs.declared.Checked.{Checked}
 use Rattle.tables.specs.Inputs.{SameInterval}
 use Rattle.tables.specs.Check.{faithfulAt}
 use Rattle.checking.proofs.SearchLaws.{
@@ -88,8 +90,14 @@ mul-entry c = omega (arith, numbers c .1)
 shared-slice-read-entry : tie.Need-shared-slice-read-entry Inv-loop μ-loop Inv-words μ-words
 shared-slice-read-entry c = numbers (c .before) .0
 
+searched-start : (faithful : ℕ → Bool) (answer : Checked) (start : ℕ) → Searched faithful answer start → Searched faithful answer (start + 0)
+searched-start faithful answer start s = rw add-zero s
+
 loop-holds : tie.Need-loop-holds Inv-loop μ-loop Inv-words μ-words
-loop-holds c = (rw add-zero (c .before .before .words .inv .0), omega arith)
+loop-holds c =
+    let a = c .before .before .before .before .before .before .before .args in
+    let start = c .before .before .words .interval * c .before .before .before .pow22 .result in
+    (searched-start (faithfulAt (a .d) (a .initial .now) (a .offsets .now)) _ start (c .before .before .words .inv .0), omega arith)
 
 -- the word of this turn, in one interval with the first
 words : (c : tie.In-loop Inv-loop μ-loop Inv-words μ-words) → let b = c .before .before .before .before in

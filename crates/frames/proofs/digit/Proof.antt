@@ -1,7 +1,9 @@
 -- `frames::digit` meets its contract: the tests that lead to an answer are those that lead to its case of `digitValue`.
-use mathlib.Core.Path.{sym, _∙_}
+use mathlib.Core.Path.{_≡_, sym, _∙_}
+use mathlib.Core.Bool.{false}
 use native.Mathlib.Omega.{arith}
 use borrow.Author.Needs.{needs}
+use Rattle.refusal.specs.Checks.{outside}
 use Rattle.frames.specs.Hex.{digitValue}
 use Rattle.refusal.proofs.Checks.{inside}
 use Rattle.frames.proofs.digit.Statement.{statement}
@@ -13,18 +15,21 @@ outside-requires c κs = search needs
 outside-requires-2 : tie.Need-outside-requires-2
 outside-requires-2 c κs = search needs
 
+-- a character that is not refused is one from 'A' to 'F'
+letter : (c : tie.Else2) → outside 65 70 (c .before .before .before .before .args .c) ≡ false
+letter c = sym (c .before .outside2 .ensures) ∙ c .if2 .left
+
 returns : tie.Need-returns
 unfolding digitValue
 returns c =
     rw (← c .before .before .before .outside .ensures, c .before .before .if1 .taken, ← c .before .outside2 .ensures, c .if2 .taken)
 
 sub-result : tie.Need-sub-result
-sub-result c = omega (arith, inside 65 70 (c .before .before .before .before .args .c) (sym (c .before .outside2 .ensures) ∙ c .if2 .left))
+sub-result c = omega (arith, inside 65 70 (c .before .before .before .before .args .c) (letter c))
 
 returns-2 : tie.Need-returns-2
 unfolding digitValue
-returns-2 c =
-    rw (← c .before .before .before .outside .ensures, c .before .before .if1 .taken, ← c .before .outside2 .ensures, c .if2 .left)
+returns-2 c = rw (← c .before .before .before .outside .ensures, c .before .before .if1 .taken, letter c)
 
 sub-result-2 : tie.Need-sub-result-2
 sub-result-2 c = inside 48 57 (c .before .before .args .c) (sym (c .before .outside .ensures) ∙ c .if1 .left) .0

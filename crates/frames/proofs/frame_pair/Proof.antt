@@ -1,4 +1,6 @@
 -- `frames::frame_pair` meets its contract: the test of i against m picks the case of `framePair`, and each read is within the 16 bytes.
+use native.Mathlib.Omega.{arith}
+use lib.ListN.{getD}
 use borrow.Author.Needs.{needs}
 use borrow.Author.Tests.{lt-ltb, le-ltb}
 use Rattle.frames.specs.DesignFrame.{framePair}
@@ -13,7 +15,7 @@ cast-m c = search needs
 
 returns : tie.Need-returns
 unfolding framePair
-returns c = rw (le-ltb _ _ (c .if1 .taken))
+returns c = rw (le-ltb (c .before .args .i) (getD (c .before .args .t1) 6 0) (omega arith))
 
 mul-t9 : tie.Need-mul-t9
 mul-t9 c = search needs
@@ -41,7 +43,7 @@ cast-t19 c = search needs
 
 returns-2 : tie.Need-returns-2
 unfolding framePair
-returns-2 c = rw (lt-ltb _ _ (c .if1 .left))
+returns-2 c = rw (lt-ltb (c .before .args .i) (getD (c .before .args .t1) 6 0) (omega arith))
 
 pub frame-pair-spec : {M : Type 1} → statement M
 frame-pair-spec =

@@ -1,20 +1,37 @@
 -- `writing::line_verdict` meets its contract: 18, then 14.
+use mathlib.Core.Path.{_≡_}
+use mathlib.Core.Bool.{Bool, true, false, not}
+use Prim.Native.Nat.{ℕ, _<_, _≤_}
 use borrow.Author.Tests.{lt-ltb, le-ltb}
+use Rattle.refusal.specs.declared.Cause.{Cause}
+use Rattle.refusal.specs.declared.Verdict.{Verdict}
+use Rattle.refusal.specs.Checks.{verdict}
 use Rattle.writing.specs.Write.{lineChecks}
 use Rattle.writing.proofs.line_verdict.Statement.{statement}
 use Rattle.writing.proofs.line_verdict.Tie as tie
 
+-- The verdict by the two tests: whether the entry fits, then whether there is room for the line.
+module _ (fits : Bool) (line buffer : ℕ) where
+  too-wide : not fits ≡ true → Verdict.Refused Cause.EntryWidth ≡ verdict (lineChecks fits line buffer)
+  unfolding lineChecks
+  too-wide wide = rw wide
+
+  no-room : not fits ≡ false → buffer < line → Verdict.Refused Cause.OutputShort ≡ verdict (lineChecks fits line buffer)
+  unfolding lineChecks
+  no-room narrow short = rw (narrow, lt-ltb _ _ short)
+
+  writable : not fits ≡ false → line ≤ buffer → Verdict.Passed ≡ verdict (lineChecks fits line buffer)
+  unfolding lineChecks
+  writable narrow long = rw (narrow, le-ltb _ _ long)
+
 returns : tie.Need-returns
-unfolding lineChecks
-returns c = rw (c .if1 .taken)
+returns c = let a = c .before .args in too-wide (a .fits) (a .line) (a .buffer) (c .if1 .taken)
 
 returns-2 : tie.Need-returns-2
-unfolding lineChecks
-returns-2 c = rw (c .before .if1 .left, lt-ltb _ _ (c .if2 .taken))
+returns-2 c = let a = c .before .before .args in no-room (a .fits) (a .line) (a .buffer) (c .before .if1 .left) (c .if2 .taken)
 
 returns-3 : tie.Need-returns-3
-unfolding lineChecks
-returns-3 c = rw (c .before .if1 .left, le-ltb _ _ (c .if2 .left))
+returns-3 c = let a = c .before .before .args in writable (a .fits) (a .line) (a .buffer) (c .before .if1 .left) (c .if2 .left)
 
 pub line-verdict-spec : {M : Type 1} → statement M
 line-verdict-spec = tie.close (tie.spec returns returns-2 returns-3)

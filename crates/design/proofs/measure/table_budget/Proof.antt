@@ -48,6 +48,18 @@ pow2-requires-2 c κs =
     let e = c .before .before .before .pre in
     omega (arith, e .1 .1, bits-end _ (limits _ (e .0)) _ (e .1 .0), limits _ (e .0) .widths)
 
+-- the product of this call
+product : (c : tie.After-largest-spread) →
+    (c .before .before .before .pow2 .result - 1) * c .before .before .pow22 .result * c .largest-spread .result
+    ≡ tableBudget (c .before .before .before .before .before .before .args .d) (c .before .before .before .before .before .before .args .i)
+product c =
+    let b = c .before .before .before in
+    budget-is _ _ _ _ _ _ (b .before .before .before .pre .1 .1) (b .before .before .pair-at .ensures) (b .pow2 .ensures)
+    (c .before .before .pow22 .ensures) _ _ (b .before .row-of .ensures) (c .largest-spread .ensures)
+
+returns : tie.Need-returns
+returns c = product c
+
 mul-result : tie.Need-mul-result
 mul-result c =
     let e = c .before .before .before .before .pre in
@@ -63,22 +75,10 @@ largest-spread-requires c κs =
     rw (c .before .before .before .row-of .ensures, c .before .before .before .before .pair-at .ensures)
     (slopewise _ (limits _ (e .0)) _ (e .1 .0))
 
--- the product of this call
-product : (c : tie.After-largest-spread) →
-    (c .before .before .before .pow2 .result - 1) * c .before .before .pow22 .result * c .largest-spread .result
-    ≡ tableBudget (c .before .before .before .before .before .before .args .d) (c .before .before .before .before .before .before .args .i)
-product c =
-    let b = c .before .before .before in
-    budget-is _ _ _ _ _ _ (b .before .before .before .pre .1 .1) (b .before .before .pair-at .ensures) (b .pow2 .ensures)
-    (c .before .before .pow22 .ensures) _ _ (b .before .row-of .ensures) (c .largest-spread .ensures)
-
 mul-result-2 : tie.Need-mul-result-2
 mul-result-2 c =
     let e = c .before .before .before .before .before .before .pre in
     rw (product c) (record { fits = lt-of-le-of-lt (table-budget-small _ (limits _ (e .0)) _ (e .1 .0)) (lit< tt) })
-
-returns : tie.Need-returns
-returns c = product c
 
 pub table-budget-spec : {M : Type 1} → statement M
 table-budget-spec =

@@ -1,4 +1,5 @@
 -- `values::slopes::spread` meets its contract: both ends lie on the segment, where Lo is at most Hi.
+use mathlib.Core.Path.{_≡_}
 use borrow.Author.Needs.{needs}
 use Rattle.values.specs.Inputs.{FloorInput}
 use Rattle.values.specs.Slopes as Slopes
@@ -26,18 +27,21 @@ hi-requires c κs = search (ends c)
 lo-requires : tie.Need-lo-requires
 lo-requires c κs = search (ends (c .before))
 
+returns : tie.Need-returns
+unfolding Slopes.spread
+returns c =
+    let b = c .before .before in
+    let a = b .before .before .args in
+    let low : c .lo .result ≡ Slopes.lo (a .row) (a .w) (a .p) (Slopes.segmentEnd (a .w) (a .a) (a .segment))
+    = rw (← b .segment-end .ensures) (c .lo .ensures) in
+    rw (low, c .before .hi .ensures, b .before .segment-start .ensures)
+
 sub-result : tie.Need-sub-result
 sub-result c =
     let b = c .before .before in
     let e = b .before .before .pre in
     rw (c .lo .ensures, c .before .hi .ensures)
     (search (rw (← b .segment-end .ensures, ← b .before .segment-start .ensures) at (ordered _ _ _ _ _ (e .0) (e .1))))
-
-returns : tie.Need-returns
-unfolding Slopes.spread
-returns c =
-    let b = c .before .before in
-    rw (c .lo .ensures, c .before .hi .ensures, b .segment-end .ensures, b .before .segment-start .ensures)
 
 pub spread-spec : {M : Type 1} → statement M
 spread-spec =

@@ -1,6 +1,7 @@
 -- `values::widths::width_verdict` meets its contract: each answer rewrites with the tests that led there.
 use mathlib.Core.Path.{_≡_}
 use mathlib.Core.Bool.{false}
+use Prim.Native.Nat.{_+_, _≤_}
 use native.Mathlib.Omega.{arith}
 use borrow.Author.Needs.{needs}
 use borrow.Author.Tests.{lt-ltb, le-ltb}
@@ -62,13 +63,16 @@ returns-5 : tie.Need-returns-5
 unfolding widthChecks
 returns-5 c =
     let b = c .before in
-    rw (kind-passed (b .before .before .before .before .before .before), w-passed (b .before .before .before .before), q-passed (b .before .before), g-passed b, lt-ltb _ _ (c .if5 .taken))
+    let a = b .before .before .before .before .before .before .before .before .args in
+    rw (kind-passed (b .before .before .before .before .before .before), w-passed (b .before .before .before .before), q-passed (b .before .before), g-passed b, lt-ltb 20 (a .q + a .g) (omega arith))
 
 returns-6 : tie.Need-returns-6
 unfolding widthChecks
 returns-6 c =
     let b = c .before in
-    rw (kind-passed (b .before .before .before .before .before .before), w-passed (b .before .before .before .before), q-passed (b .before .before), g-passed b, le-ltb _ _ (c .if5 .left))
+    let a = b .before .before .before .before .before .before .before .before .args in
+    let few : a .q + a .g ≤ 20 = omega (arith, inside 6 16 (a .q) (q-passed (b .before .before)), inside 2 6 (a .g) (g-passed b)) in
+    rw (kind-passed (b .before .before .before .before .before .before), w-passed (b .before .before .before .before), q-passed (b .before .before), g-passed b, le-ltb _ _ few)
 
 pub width-verdict-spec : {M : Type 1} → statement M
 width-verdict-spec =
