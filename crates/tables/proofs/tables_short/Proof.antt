@@ -21,8 +21,9 @@ offset-total-requires c κs = search needs
 returns-2 : tie.Need-returns-2
 unfolding initialCount
 returns-2 c =
+    let a = c .before .before .before .args in
     let long = rw (c .before .before .pow2 .ensures) at (c .before .if1 .left) in
-    rw (c .offset-total .ensures) (sym (offsets-tried _ _ _ long))
+    rw (c .offset-total .ensures) (sym (offsets-tried (a .d) (a .initial) (a .offsets) long))
 
 pub tables-short-spec : {M : Type 1} → statement M
 tables-short-spec = tie.close (tie.spec pow2-requires returns offset-total-requires returns-2)

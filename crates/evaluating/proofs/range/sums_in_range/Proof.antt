@@ -86,7 +86,9 @@ returns-2 c e =
     let start = s .before .before .before in
     let reach-is = ap (λ (n : ℕ). start .args .d .m * (n + 1)) (rw (s .before .offset-total .ensures) at (s .largest-magnitude .ensures)) in
     let none = rw (c .before .pow22 .ensures) at (sym (c .some-outside .ensures) ∙ not-true _ e) in
-    sums-stay _ (limits _ (start .pre .legal)) _ _ _ _ reach-is (b .pow2 .ensures) (c .before .before .if1 .left) none
+    let a = start .args in
+    sums-stay (a .d) (limits _ (start .pre .legal)) (a .initial .now) (a .offsets .now) (a .d .m * (s .largest-magnitude .result + 1))
+    (b .pow2 .result) reach-is (b .pow2 .ensures) (c .before .before .if1 .left) none
 
 pub sums-in-range-spec : {M : Type 1} → statement M
 sums-in-range-spec =

@@ -33,6 +33,14 @@ module _ (d : Design) (A : ℕ) (legal : Legal d) (A-lt : A < initialCount d) wh
     unfolding initialAt endValues
     entry-is first last unit first-is last-is unit-is = rw (first-is, last-is, unit-is, start-is, end-is)
 
+returns : tie.Need-returns
+returns c =
+    let b = c .before .before .before in
+    let e = b .before .before in
+    let s = e .before .before in
+    entry-is _ _ (s .pre .0) (s .pre .1 .1) _ _ (e .before .segment-start .ensures) (e .segment-end .ensures) _ _ _
+    (b .before .value-at .ensures .0) (b .value-at2 .ensures .0) (c .pow2 .ensures)
+
 segment-start-requires : tie.Need-segment-start-requires
 segment-start-requires c κs = interval _ _ (c .pre .0) (c .pre .1 .1)
 
@@ -89,14 +97,6 @@ add-result-3 c = omega (arith, entry-small c)
 
 cast-result-2 : tie.Need-cast-result-2
 cast-result-2 c = omega (arith, entry-small c)
-
-returns : tie.Need-returns
-returns c =
-    let b = c .before .before .before in
-    let e = b .before .before in
-    let s = e .before .before in
-    entry-is _ _ (s .pre .0) (s .pre .1 .1) _ _ (e .before .segment-start .ensures) (e .segment-end .ensures) _ _ _
-    (b .before .value-at .ensures .0) (b .value-at2 .ensures .0) (c .pow2 .ensures)
 
 pub initial-at-spec : {M : Type 1} → statement M
 initial-at-spec =
