@@ -14,13 +14,13 @@ use Rattle.evaluating.proofs.summed_verdict.Tie as tie
 
 abbrev Inv-loop : tie.InvT-loop
 Inv-loop d lookups initial offsets words i₀ i-end i =
-    (i ≤ length words) × ((j : ℕ) → j < i → placeVerdict d initial offsets words j ≡ Verdict.Passed)
+    ((j : ℕ) → j < i → placeVerdict d initial offsets words j ≡ Verdict.Passed) × (i ≤ length words)
 
 abbrev μ-loop : tie.MeasureT-loop
 μ-loop d lookups initial offsets words i₀ i-end i = i-end - i
 
 loop-holds : tie.Need-loop-holds Inv-loop μ-loop
-loop-holds c = (omega arith, below-none _)
+loop-holds c = (below-none _, omega arith)
 
 mul-word-answer : tie.Need-mul-word-answer Inv-loop μ-loop
 mul-word-answer c = omega arith
@@ -39,7 +39,7 @@ unfolding placeVerdict
 returns c =
     let b = c .before .before .before .before .before in
     let here : b .before .loop .i < length (b .before .before .before .before .args .words .now) = omega arith in
-    sym (batch-bad _ _ _ _ here (b .before .loop .inv .1)
+    sym (batch-bad _ _ _ _ here (b .before .loop .inv .0)
     (evaluated-refused _ _ (sym (c .before .before .before .word-answer .ensures) ∙ c .before .cause .given .1)))
 
 enum-told : tie.Need-enum-told Inv-loop μ-loop
@@ -56,13 +56,13 @@ unfolding placeVerdict
 loop-again c =
     let b = c .before .before .before .before .before in
     let passed = evaluated-word _ _ (sym (c .before .before .word-answer .ensures) ∙ c .enum-told .given .1) in
-    (omega arith, below-more _ _ (b .loop .inv .1) passed)
+    (below-more _ _ (b .loop .inv .0) passed, omega arith)
 
 returns-2 : tie.Need-returns-2 Inv-loop μ-loop
 returns-2 c =
     let words = c .before .before .before .before .args .words .now in
     let end : c .before .loop .i ≡ length words = omega arith in
-    sym (batch-all _ _ (rw end at (c .before .loop .inv .1)))
+    sym (batch-all _ _ (rw end at (c .before .loop .inv .0)))
 
 pub summed-verdict-spec : {M : Type 1} → statement M
 summed-verdict-spec =

@@ -17,11 +17,11 @@ pow2-requires c κs = omega (arith, limits _ (c .before .pre .0 .legal) .widths 
 returns : tie.Need-returns
 returns c =
     let a = c .before .before .before .args in
-    rw (word-past (a .d) (a .initial .now) (a .offsets .now) (a .x) (rw (c .before .pow2 .ensures) at (c .if1 .taken))) refl
+    rw (word-past (a .d) (a .initial .now) (a .offsets .now) (a .x) (omega (arith, c .before .pow2 .ensures))) refl
 
 -- where the word is in range
 within : (c : tie.Else1) → c .before .before .before .args .x < 2 ^ c .before .before .before .args .d .w
-within c = rw (c .before .pow2 .ensures) at (c .if1 .left)
+within c = omega (arith, c .before .pow2 .ensures)
 
 sum-of-requires : tie.Need-sum-of-requires
 sum-of-requires c κs = let p = c .before .before .before .pre in (p .0, (p .1, within c))

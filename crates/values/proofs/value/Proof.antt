@@ -84,7 +84,7 @@ pow2-requires : tie.Need-pow2-requires
 pow2-requires c κs = omega (arith, limits c)
 
 returns-2 : tie.Need-returns-2
-returns-2 c = past _ _ _ _ _ (passed (c .before .before)) (rw (c .before .pow2 .ensures) at (c .if1 .taken))
+returns-2 c = past _ _ _ _ _ (passed (c .before .before)) (omega (arith, c .before .pow2 .ensures))
 
 row-of-requires : tie.Need-row-of-requires
 row-of-requires c κs = omega (arith, limits (c .before .before))

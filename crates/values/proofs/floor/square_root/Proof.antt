@@ -68,17 +68,20 @@ loop-holds c = rw (c .pow2 .ensures) (begun _ _ (c .before .pre))
 mul-loop : tie.Need-mul-loop Inv-loop μ-loop
 mul-loop c = let small = c .loop .inv .small in omega (arith, mul-le-mul-right (c .loop .root) (le-of-lt small))
 
+loop-less : tie.Need-loop-less Inv-loop μ-loop
+loop-less c =
+    let limit = c .before .before .before .args .limit in
+    let root = c .before .loop .root in
+    omega (arith, square-closer limit root (root-pos root (c .loop-test .taken)) (c .loop-test .taken))
+
+loop-again : tie.Need-loop-again Inv-loop μ-loop
+loop-again c = step _ _ (c .before .loop .inv) (c .loop-test .taken)
+
 div-root : tie.Need-div-root Inv-loop μ-loop
 div-root c = root-pos _ (c .loop-test .taken)
 
 add-root-2 : tie.Need-add-root-2 Inv-loop μ-loop
 add-root-2 c = omega (arith, div-lt-iff-lt-mul (div-root c) .1 (c .loop-test .taken), c .before .loop .inv .small)
-
-loop-less : tie.Need-loop-less Inv-loop μ-loop
-loop-less c = square-closer _ _ (div-root c) (c .loop-test .taken)
-
-loop-again : tie.Need-loop-again Inv-loop μ-loop
-loop-again c = step _ _ (c .before .loop .inv) (c .loop-test .taken)
 
 returns : tie.Need-returns Inv-loop μ-loop
 returns c =
