@@ -1,5 +1,6 @@
 -- `filling::fill` meets its contract: the verdict of the set, then the budget against the limit, then both tables.
 use mathlib.Core.Path.{_≡_, sym, _∙_}
+use native.Mathlib.Omega.{arith}
 use borrow.Author.Needs.{needs}
 use lib.ListN.{length}
 use Rattle.refusal.specs.declared.Verdict.{Verdict}
@@ -43,7 +44,7 @@ returns-2 : tie.Need-returns-2
 returns-2 c =
     let b = c .before in
     refuses _ _ _
-    (not-admitted _ _ _ (passed (b .before .before)) (rw (b .before .limit-of .ensures, b .budget-of .ensures) at (c .if1 .taken)))
+    (not-admitted _ _ _ (passed (b .before .before)) (omega (arith, b .before .limit-of .ensures, b .budget-of .ensures)))
 
 fill-initial-requires : tie.Need-fill-initial-requires
 fill-initial-requires c κs = let u = set (c .before .before .before .before) in (u .legal, u .initial-long)

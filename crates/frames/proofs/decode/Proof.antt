@@ -99,14 +99,14 @@ loop-again c =
 unsound-requires-3 : tie.Need-unsound-requires-3 Inv-loop μ-loop
 unsound-requires-3 c κs = search needs
 
+returns-4 : tie.Need-returns-4 Inv-loop μ-loop
+returns-4 c =
+    finished (c .before .before .loop .inv) (c .before .loop-test .left) (length-passed (c .before .before .before)) (c .if4 .left)
+
 returns-3 : tie.Need-returns-3 Inv-loop μ-loop
 returns-3 c =
     let wrong = sum-wrong (c .before .before .before .loop .inv) (c .before .before .loop-test .left) (c .before .if4 .taken) in
     c .unsound3 .ensures ∙ sum-refused _ wrong
-
-returns-4 : tie.Need-returns-4 Inv-loop μ-loop
-returns-4 c =
-    finished (c .before .before .loop .inv) (c .before .loop-test .left) (length-passed (c .before .before .before)) (c .if4 .left)
 
 pub decode-spec : {M : Type 1} → statement M
 decode-spec =

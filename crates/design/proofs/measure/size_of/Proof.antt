@@ -14,6 +14,10 @@ pow2-requires c κs = omega (arith, limits _ (c .pre))
 offset-total-requires : tie.Need-offset-total-requires
 offset-total-requires c κs = c .before .pre
 
+returns : tie.Need-returns
+unfolding size initialCount
+returns c = rw (c .before .pow2 .ensures, c .offset-total .ensures)
+
 -- at most 8192 initial entries and 16384 offsets
 few : (c : tie.After-offset-total) → (c .before .pow2 .result ≤ 8192) × (c .offset-total .result ≤ 16384)
 unfolding initialCount
@@ -26,10 +30,6 @@ add-result c = omega (arith, few c)
 
 mul-result : tie.Need-mul-result
 mul-result c = omega (arith, few c)
-
-returns : tie.Need-returns
-unfolding size initialCount
-returns c = rw (c .before .pow2 .ensures, c .offset-total .ensures)
 
 pub size-of-spec : {M : Type 1} → statement M
 size-of-spec = tie.close (tie.spec pow2-requires offset-total-requires add-result mul-result returns)

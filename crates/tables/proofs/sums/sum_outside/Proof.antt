@@ -51,17 +51,17 @@ limit-small c =
 cast-limit : tie.Need-cast-limit
 cast-limit c = record { sfits = omega (arith, limit-small c) }
 
-returns : tie.Need-returns
-returns c =
-    let a = c .before .before .before .before .before .args in
-    below (a .d) (a .sum .0) _ (toZ-ofZ w64 (a .sum .0) (record { sfits = c .before .struct-told .given .0 .1 })) (c .if1 .taken)
-
 returns-2 : tie.Need-returns-2
 returns-2 c =
     let b = c .before .before .before .before .before in
     let a = b .before .before .args in
     above (a .d) (a .sum .0) _ (toZ-ofZ w64 (a .sum .0) (record { sfits = c .struct-told2 .given .0 .1 })) _
     (toZ-pos w64 (b .pow2 .result) (omega (arith, limit-small b)) ∙ ap pos (b .pow2 .ensures)) (c .before .before .if1 .left)
+
+returns : tie.Need-returns
+returns c =
+    let a = c .before .before .before .before .before .args in
+    below (a .d) (a .sum .0) _ (toZ-ofZ w64 (a .sum .0) (record { sfits = c .before .struct-told .given .0 .1 })) (c .if1 .taken)
 
 pub sum-outside-spec : {M : Type 1} → statement M
 sum-outside-spec =

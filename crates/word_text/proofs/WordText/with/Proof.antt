@@ -1,7 +1,10 @@
 -- `WordText::with` meets its contract: its two tests are those of the definition.
+use mathlib.Core.Path.{_≡_}
+use mathlib.Core.Bool.{false}
 use native.Mathlib.Omega.{arith}
 use borrow.Author.Needs.{needs}
 use borrow.Author.Tests.{le-leb, lt-leb}
+use Rattle.refusal.specs.Checks.{outside}
 use Rattle.refusal.proofs.Checks.{inside, tested}
 use Rattle.word_text.specs.Decimal.{afterCharacter}
 use Rattle.word_text.proofs.WordText.with.Statement.{statement}
@@ -14,6 +17,10 @@ returns c = simp (le-leb _ _ (c .if1 .taken))
 outside-requires : tie.Need-outside-requires
 outside-requires c κs = search needs
 
+-- a character that is not refused is a digit
+digit : (c : tie.Else2) → outside 48 57 (c .before .before .before .before .args .c) ≡ false
+digit c = tested (c .before .outside .ensures) (c .if2 .left)
+
 returns-2 : tie.Need-returns-2
 unfolding afterCharacter
 returns-2 c = simp (lt-leb _ _ (c .before .before .if1 .left), tested (c .before .outside .ensures) (c .if2 .taken))
@@ -22,7 +29,7 @@ mul-at-most-limit : tie.Need-mul-at-most-limit
 mul-at-most-limit c = search needs
 
 sub-at-most-limit : tie.Need-sub-at-most-limit
-sub-at-most-limit c = omega (arith, inside 48 57 (c .before .before .before .before .before .args .c) (tested (c .before .before .outside .ensures) (c .before .if2 .left)))
+sub-at-most-limit c = omega (arith, inside 48 57 (c .before .before .before .before .before .args .c) (digit (c .before)))
 
 cast-at-most-limit : tie.Need-cast-at-most-limit
 cast-at-most-limit c = search needs
@@ -37,7 +44,7 @@ returns-3 : tie.Need-returns-3
 unfolding afterCharacter
 returns-3 c =
     let d = c .before .before in
-    simp (c .at-most-limit .ensures, lt-leb _ _ (d .before .before .if1 .left), tested (d .before .outside .ensures) (d .if2 .left))
+    simp (c .at-most-limit .ensures, lt-leb _ _ (d .before .before .if1 .left), digit d)
 
 pub with-spec : {M : Type 1} → statement M
 with-spec =
