@@ -1,4 +1,4 @@
-// Goes through the examples of document 01 that are run and not proved, one line each. What each should come to is in the file stdout
+// Goes through the examples of document 01 that are not starred, one line each. What each should come to is in the file stdout
 // beside src/.
 use checking::check;
 use design::Design;

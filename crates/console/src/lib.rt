@@ -1,7 +1,7 @@
 // What the programs share: reading a line from standard input, and writing reports and refusals to standard output. No contract can
-// say what comes in or what is written, so nothing that matters is decided here.
+// say which bytes come in or go out; what can be said of a line, whatever the input is, `read_line` promises.
 ghost use Rattle.io.specs.Counts.{Counts};
-ghost use Rattle.console.specs.Reading.{IsInput, LineRead};
+ghost use Rattle.console.specs.Reading.{LineRead};
 use libc::STDIN_FILENO;
 use libc::STDOUT_FILENO;
 use refusal::Cause;
@@ -13,22 +13,13 @@ pub enum Input {
     End,
 }
 
-// A byte that came.
-fn came(byte: u8) -> Input
-    ensures { λ r. ⌜ IsInput r ⌝ }
-{
-    Input::Byte(byte)
-}
-
 // A byte at a time, so that nothing behind what is asked for is waited for. An input that cannot be read counts as ended.
-pub fn read_byte() -> Input
-    ensures { λ r. ⌜ IsInput r ⌝ }
-{
+pub fn read_byte() -> Input {
     let mut byte = [0u8; 1];
     if io::read_full(STDIN_FILENO, &mut byte) == 0 {
         return Input::End;
     }
-    came(byte[0])
+    Input::Byte(byte[0])
 }
 
 // Why no more of a line is read: its newline came, the input ended, or it is cut off, being longer than any line may be.
@@ -76,7 +67,7 @@ pub fn read_line() -> Line
     }
 }
 
-// Writes a text; false where it could not be written whole. inner: the caller sees to it that the text lies within its array.
+// Writes a text; false where it could not be written whole. The caller sees to it that the text lies within its array.
 fn print(text: Text) -> bool
     requires { ⌜ Counts (text .count) (text .bytes) ⌝ }
 {

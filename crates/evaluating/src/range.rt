@@ -56,7 +56,7 @@ fn some_outside(low: u32, high: u32, initial: &[u32], count: usize) -> bool
     found
 }
 
-// inner: whether every initial entry is further from both ends of the range than m offsets of the largest magnitude reach.
+// Whether every initial entry is further from both ends of the range than m offsets of the largest magnitude reach.
 pub fn sums_in_range(d: Design, initial: &[u32], offsets: &[i32]) -> bool
     requires { ⌜ Usable d (length (now initial)) (length (now offsets)) ⌝ }
     ensures { λ r. ⌜ (r ≡ true → SumsInRange d (now (initial .entry)) (now (offsets .entry))) ⌝ }
@@ -75,7 +75,7 @@ pub fn sums_in_range(d: Design, initial: &[u32], offsets: &[i32]) -> bool
     )
 }
 
-// inner: the lowest word of w bits or more, which is refused with 12, or how many words there are.
+// The lowest word of w bits or more, which is refused with 12, or how many words there are.
 pub fn width_answer(w: u32, words: &[u32]) -> Batched
     requires { ⌜ w ≤ 16 ⌝ }
     ensures { λ r. ⌜ r ≡ widthAnswer w (now (words .entry)) ⌝ }

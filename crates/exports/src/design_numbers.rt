@@ -7,7 +7,7 @@ use design::Pair;
 use refusal::Verdict;
 use refusal::number;
 
-// inner: the design that the numbers stand for.
+// The design that the numbers stand for.
 pub fn design_of(numbers: &[u32; 14]) -> Design
     ensures { λ r. ⌜ r ≡ designOf (now (numbers .entry)) ⌝ }
 {
@@ -38,7 +38,7 @@ pub fn design_of(numbers: &[u32; 14]) -> Design
     }
 }
 
-// inner: the other way round.
+// The other way round.
 pub fn put_design(d: Design, numbers: &mut [u32; 14])
     ensures { λ _. ⌜ now (numbers .exit) ≡ numbersOf d ⌝ }
 {
@@ -64,7 +64,7 @@ pub fn put_design(d: Design, numbers: &mut [u32; 14])
     ];
 }
 
-// inner: the number of a verdict, 0 where it passed.
+// The number of a verdict, 0 where it passed.
 pub fn verdict_number(verdict: Verdict) -> u8
     ensures { λ r. ⌜ r ≡ verdictNumber verdict ⌝ }
 {

@@ -13,6 +13,7 @@ use Rattle.design.specs.declared.Design.{Design}
 use Rattle.design.specs.Cut.{aOf, bOf, row, sumBelow, position, offsetCount, tableStart, offsetTotal}
 use Rattle.design.proofs.Sums.{sum-mono, sum-step, sum-next}
 use Rattle.design.proofs.LegalLaws.{Limits, bits-end}
+use Rattle.values.specs.Slopes.{hi}
 use Rattle.tables.specs.Entries.{offsetAt, hiAt, loAt, offsetOf}
 use Rattle.tables.specs.Fill.{listBelow, tableEntries, offsetsBelow}
 use Rattle.tables.proofs.EntryLaws.{list-length, offsets-length}
@@ -72,8 +73,10 @@ table-room d n h = sum-mono (offsetCount d) n (d .m) (le-of-lt h)
 -- The offsets of each segment can be asked for.
 pub offset-input : (d : Design) → Limits d → (i A : ℕ) → i < d .m → A < 2 ^ aOf d i
     → OffsetInput (hiAt d i A + loAt d i A) (bOf d i) (position d i)
+unfolding hiAt hi
 offset-input d l i A h A-lt =
     record {
+      slopes-low = omega arith;
       b-low = l .table i h .b-low;
       bits = omega (arith, bits-end d l i h, l .widths .w-high);
       small = slopes-reach d l i A h A-lt;

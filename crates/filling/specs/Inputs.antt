@@ -9,6 +9,7 @@ use Rattle.design.specs.Legal.{Legal}
 -- can lead to is small.
 pub record OffsetInput (slopes b p : ℕ) : Type 0 where
   pub b-low : 1 ≤ b
+  pub slopes-low : 1 ≤ slopes
   pub bits : b + p ≤ 16
   pub small : slopes * 2 ^ (b + p) ≤ 2 ^ 39
 

@@ -32,7 +32,7 @@ impl Text {
         }
     }
 
-    // The text with the word behind it. inner: the caller sees to it that the word fits.
+    // The text with the word behind it. The caller sees to it that the word fits.
     fn word(self, word: &[u8]) -> Text
         requires { ⌜ self .count + length (now word) ≤ 96 ⌝ }
         ensures { λ r. ⌜ ((t : List ℕ) → self ≡ textOf t → r ≡ textOf (t ++ now (word .entry))) ⌝ }
@@ -49,7 +49,7 @@ impl Text {
     }
 
     // The text with n's decimal digits behind it. Division gives the last digit first, so they are written from the end of
-    // an array of 20, which hold every n. inner: the caller sees to it that 20 digits fit.
+    // an array of 20, which hold every n. The caller sees to it that 20 digits fit.
     fn decimal(self, n: u64) -> Text
         requires { ⌜ self .count + 20 ≤ 96 ⌝ }
         ensures { λ r. ⌜ ((t : List ℕ) → self ≡ textOf t → r ≡ textOf (t ++ decimal n)) ⌝ }

@@ -1,5 +1,5 @@
 // What the programs over whole sets share: reading a set from standard input, and writing a line of a set or the answer of a check to
-// standard output. No contract can say what is read or written, so nothing that matters is decided here.
+// standard output. No contract can say which bytes come in or go out; what can be said of a set that is read is promised.
 ghost use mathlib.Core.Path.{_≡_};
 ghost use mathlib.Core.Bool.{true};
 ghost use lib.ListN.{length};
@@ -104,7 +104,8 @@ fn take_line(state: Reading, initial: &mut [u32], offsets: &mut [i32]) -> Step
     }
 }
 
-// Reads a set from the input, and nothing behind it, into tables that hold every legal set. Where it is not finished, it has been said why.
+// inner: reads a set from the input, and nothing behind it, into tables that hold every legal set. Where it is not finished, it has been
+// said why.
 pub fn read_set(initial: &mut [u32], offsets: &mut [i32]) -> SetRead
     requires { ⌜ HoldsEverySet (length (now initial)) (length (now offsets)) ⌝ }
     ensures came { λ r.

@@ -1,5 +1,6 @@
 -- Worked examples beside the starred list, of the definitions that the calls promise to equal. The numbers, lines and texts are document
--- 01's or were worked out from it apart from the definitions. A definition that is wrong fails here even where its code is wrong alike.
+-- 01's or were worked out from it apart from the definitions. The wrong definitions that docs/PROMISES.md lists fail here, even where their
+-- code is wrong alike.
 use mathlib.Core.Path.{_≡_, refl}
 use mathlib.Core.List.{List, [], _∷_, map}
 use Prim.Native.Nat.{ℕ, _^_}
@@ -84,6 +85,8 @@ pub record Worked : Type 0 where
   -- Every cause's number
   pub numbers : map numberOf causes
       ≡ 1 ∷ 2 ∷ 3 ∷ 4 ∷ 5 ∷ 6 ∷ 7 ∷ 8 ∷ 9 ∷ 10 ∷ 11 ∷ 12 ∷ 13 ∷ 14 ∷ 15 ∷ 16 ∷ 17 ∷ 18 ∷ 19 ∷ []
+  -- L for g 4, q 8, w 8: kind 2, x 0, and kind 3, x 255
+  pub other-kinds : (valueOf 2 8 8 4 0 ≡ Valued.Value (record { 0 = pos 5792 })) × (valueOf 3 8 8 4 255 ≡ Valued.Value (record { 0 = pos 2899 }))
   -- 2 before 3: w 5 with q 5
   pub w-before-q : valueOf 0 5 5 4 0 ≡ Valued.Refused Cause.InputWidth
   -- alpha 13 passes, and so do w 16, q 16, q+g 20 and a+b 12: 8192 and 4096 entries of 24 bits
@@ -127,6 +130,8 @@ pub record Worked : Type 0 where
   pub width-before-room : writeAnswer G (2 ^ 24 ∷ initialEntries G) (offsetEntries G) 1 0 ≡ Written.Refused Cause.EntryWidth
   -- 14 before 12, and its place is 0: two words, the second too great, for an output of length 1
   pub room-before-words : batchAnswer G (initialEntries G) (offsetEntries G) (0 ∷ 256 ∷ []) 1 ≡ Batched.Refused Cause.OutputShort 0
+  -- the same with room for both: 12, at place 1
+  pub second-word : batchAnswer G (initialEntries G) (offsetEntries G) (0 ∷ 256 ∷ []) 2 ≡ Batched.Refused Cause.WordRange 1
   -- "initial 0 changed to 4046: faithful": at x 0 Y is 4096, the word 256
   pub just-faithful : check-with 4046 ≡ Checked.Faithful
   -- "to 4045: word 0 is named": Y is 4095, the word 255, exactly one unit from 256
@@ -149,6 +154,7 @@ unfolding
 worked =
     record {
       numbers = refl;
+      other-kinds = (refl, refl);
       w-before-q = refl;
       widest-size = refl;
       two-tables-budget = refl;
@@ -168,6 +174,7 @@ worked =
       zeros-behind-m = refl;
       width-before-room = refl;
       room-before-words = refl;
+      second-word = refl;
       just-faithful = refl;
       one-unit-off = refl;
       decimal-words = refl;

@@ -23,7 +23,7 @@ use Rattle.design.specs.Cut.{
 use Rattle.design.specs.Same.{Same}
 use Rattle.design.specs.Legal.{tableBreaks, cutChecks, designChecks, designVerdict}
 use Rattle.design.specs.Budget.{reach, tableBudget, budget, limit, withinLimit, size}
-use Rattle.design.specs.Answers.{budgetAnswer, sizeAnswer}
+use Rattle.design.specs.Answers.{budgetAnswer, sizeAnswer, budgetTold, sizeTold}
 use Rattle.tables.specs.Entries.{valueAt, endValues, initialAt, hiAt, loAt, offsetAt}
 use Rattle.tables.specs.Sum.{offsetFor, sumAt, sumOutside, wordOf, wordAt}
 use Rattle.tables.specs.Fill.{
@@ -38,14 +38,14 @@ use Rattle.tables.specs.Fill.{
   initialAfter,
   offsetsAfter,
 }
-use Rattle.tables.specs.Evaluate.{wordChecks, evaluateVerdict, evaluateAnswer}
-use Rattle.tables.specs.Batch.{roomVerdict, placeVerdict, batchAnswer, outputAfter}
-use Rattle.tables.specs.Check.{faithfulAt, checkVerdict, checkAnswer}
+use Rattle.tables.specs.Evaluate.{wordChecks, evaluateVerdict, evaluateAnswer, evaluateTold}
+use Rattle.tables.specs.Batch.{roomVerdict, placeVerdict, batchAnswer, batchVerdict, batchTold, outputAfter}
+use Rattle.tables.specs.Check.{faithfulAt, checkVerdict, checkAnswer, checkTold}
 use Rattle.encoding.specs.DesignBytes.{designBytes}
 use Rattle.lines.specs.declared.Slot.{Slot}
 use Rattle.lines.specs.Slots.{lineCount, tableOf, offsetSlot, slotOf}
 use Rattle.lines.specs.Lines.{frameHead, frameOf, lineAt, setLines}
-use Rattle.writing.specs.Write.{numberCheck, writeVerdict, writeAnswer, bufferAfter}
+use Rattle.writing.specs.Write.{numberCheck, writeVerdict, writeAnswer, bufferAfter, writeTold}
 use Rattle.storage.specs.Unread.{SameAnswers}
 
 -- What lies between the answers and what they read of a design
@@ -57,6 +57,7 @@ unfolding
     tablesCheck setChecks admittedCheck fillVerdict initialEntries tableEntries offsetEntries initialAfter offsetsAfter
     wordChecks evaluateVerdict evaluateAnswer roomVerdict placeVerdict batchAnswer outputAfter faithfulAt checkVerdict checkAnswer
     lineCount tableOf offsetSlot slotOf setLines numberCheck writeVerdict writeAnswer bufferAfter
+    budgetTold sizeTold evaluateTold batchVerdict batchTold checkTold writeTold
 opened = tt
 
 -- Those of them that a rewrite has to be told to look into
@@ -132,6 +133,12 @@ answers-same d e s =
       check = λ initial offsets. rw (t, insides);
       write = λ initial offsets n buffer. rw (line initial offsets n, t, insides);
       line-buffer = λ initial offsets n buffer. rw (line initial offsets n, t, insides);
+      budget-told = rw (t, insides);
+      size-told = rw (t, insides);
+      evaluate-told = λ initial offsets x. rw (t, insides);
+      batch-told = λ initial offsets words output. rw (t, insides);
+      check-told = λ initial offsets. rw (t, insides);
+      write-told = λ initial offsets n buffer. rw (line initial offsets n, t, insides);
       line = line;
       lines = λ initial offsets. rw (fun-ext (line initial offsets), t, insides);
     })

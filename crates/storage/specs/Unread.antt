@@ -10,14 +10,14 @@ use Rattle.refusal.specs.Checks.{verdict}
 use Rattle.design.specs.declared.Design.{Design}
 use Rattle.design.specs.Same.{Same}
 use Rattle.design.specs.Legal.{designVerdict}
-use Rattle.design.specs.Answers.{budgetAnswer, sizeAnswer}
+use Rattle.design.specs.Answers.{budgetAnswer, sizeAnswer, budgetTold, sizeTold}
 use Rattle.tables.specs.Sum.{sumAt}
 use Rattle.tables.specs.Fill.{setChecks, fillVerdict, initialAfter, offsetsAfter}
-use Rattle.tables.specs.Evaluate.{evaluateAnswer}
-use Rattle.tables.specs.Batch.{batchAnswer, outputAfter}
-use Rattle.tables.specs.Check.{checkAnswer}
+use Rattle.tables.specs.Evaluate.{evaluateAnswer, evaluateTold}
+use Rattle.tables.specs.Batch.{batchAnswer, batchTold, outputAfter}
+use Rattle.tables.specs.Check.{checkAnswer, checkTold}
 use Rattle.lines.specs.Lines.{lineAt, setLines}
-use Rattle.writing.specs.Write.{writeAnswer, bufferAfter}
+use Rattle.writing.specs.Write.{writeAnswer, bufferAfter, writeTold}
 use Rattle.reading.specs.ReadLine.{finished, Session, verdictOn, after}
 
 -- Two designs get the same answers, and leave the same behind: over the same tables, which for a set's verdict and the fill's are given
@@ -40,11 +40,21 @@ pub record SameAnswers (d e : Design) : Type 0 where
   pub output : (initial : List ℕ) (offsets : List ℤ) (words output : List ℕ)
       → outputAfter d initial offsets words output ≡ outputAfter e initial offsets words output
   pub check : (initial : List ℕ) (offsets : List ℤ) → checkAnswer d initial offsets ≡ checkAnswer e initial offsets
-  -- the writer, and what it leaves in the line buffer; each line, and all lines of a set
+  -- the writer, and what it leaves in the line buffer
   pub write : (initial : List ℕ) (offsets : List ℤ) (n buffer : ℕ)
       → writeAnswer d initial offsets n buffer ≡ writeAnswer e initial offsets n buffer
   pub line-buffer : (initial : List ℕ) (offsets : List ℤ) (n : ℕ) (buffer : List ℕ)
       → bufferAfter d initial offsets n buffer ≡ bufferAfter e initial offsets n buffer
+  -- what these answers are to tell
+  pub budget-told : budgetTold d ≡ budgetTold e
+  pub size-told : sizeTold d ≡ sizeTold e
+  pub evaluate-told : (initial : List ℕ) (offsets : List ℤ) (x : ℕ) → evaluateTold d initial offsets x ≡ evaluateTold e initial offsets x
+  pub batch-told : (initial : List ℕ) (offsets : List ℤ) (words : List ℕ) (output : ℕ)
+      → batchTold d initial offsets words output ≡ batchTold e initial offsets words output
+  pub check-told : (initial : List ℕ) (offsets : List ℤ) → checkTold d initial offsets ≡ checkTold e initial offsets
+  pub write-told : (initial : List ℕ) (offsets : List ℤ) (n buffer : ℕ)
+      → writeTold d initial offsets n buffer ≡ writeTold e initial offsets n buffer
+  -- each line, and all lines of a set
   pub line : (initial : List ℕ) (offsets : List ℤ) (n : ℕ) → lineAt d initial offsets n ≡ lineAt e initial offsets n
   pub lines : (initial : List ℕ) (offsets : List ℤ) → setLines d initial offsets ≡ setLines e initial offsets
 

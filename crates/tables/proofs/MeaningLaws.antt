@@ -2,13 +2,14 @@
 use mathlib.Core.Path.{_≡_, refl, ap, _∙_}
 use mathlib.Core.Bool.{Bool, true, false, cond, not}
 use Prim.Native.Nat.{ℕ, zero, suc, _+_, _-_, _*_, _/_, _%_, _^_, _≤_, _<_}
-use native.Mathlib.Nat.{mul-div-le, lt-mul-div-succ, zero-mul}
+use native.Mathlib.Nat.{mul-div-le, lt-mul-div-succ, mul-pos, zero-mul}
 use native.Mathlib.Omega.{arith}
 use borrow.Author.Tests.{ltb-true, ltb-false, lt-ltb, le-ltb}
 use lib.Dec.{ltb, le→leb, lt→ltb}
 use lib.IntN.{ℤ, pos, negsuc, subℕ, natAbs, negℤ, negℤ-negℤ, _+ℤ_, _*ℤ_}
 use lib.Pow.{pow-add, pow-pos}
 use lib.Signed.{nonNeg, _≤ℤ_, _<ℤ_}
+use Rattle.values.specs.Slopes.{hi}
 use Rattle.design.specs.declared.Design.{Design}
 use Rattle.design.specs.Cut.{bOf, row, position}
 use Rattle.tables.specs.Entries.{hiAt, loAt, oddNumber, magnitude, sameSign, signed, offsetOf, offsetAt}
@@ -95,7 +96,14 @@ turn-sign : (rising t : Bool) → cond rising (not t) (not (not t)) ≡ not (con
 turn-sign true t = refl
 turn-sign false t = refl
 
-module _ (slopes b p : ℕ) (rising : Bool) (B : ℕ) (b-pos : 1 ≤ b) (B-lt : B < 2 ^ b) where
+-- A number that is not 0 is not 0 with either sign.
+signed-zero : (t : Bool) (size : ℕ) → 1 ≤ size → cond t (pos size) (negℤ (pos size)) ≡ pos 0 → ⊥
+signed-zero true zero h e = absurd (omega arith)
+signed-zero true (suc n) h e = let z : suc n ≡ 0 = cc in absurd (omega arith)
+signed-zero false zero h e = absurd (omega arith)
+signed-zero false (suc n) h e = let z : _≡_ {A = ℕ} 0 1 = cc in absurd (omega arith)
+
+module _ (slopes b p : ℕ) (rising : Bool) (B : ℕ) (slopes-pos : 1 ≤ slopes) (b-pos : 1 ≤ b) (B-lt : B < 2 ^ b) where
   mirror : offsetOf slopes b p rising B +ℤ offsetOf slopes b p rising (2 ^ b - 1 - B) ≡ negsuc 0
   unfolding offsetOf signed magnitude sameSign oddNumber
   mirror =
@@ -107,11 +115,20 @@ module _ (slopes b p : ℕ) (rising : Bool) (B : ℕ) (b-pos : 1 ≤ b) (B-lt : 
   unfolding oddNumber
   odd-number = odd-difference B (2 ^ (b - 1)) (2 ^ b) (even b b-pos)
 
+  product-positive : 1 ≤ slopes * natAbs (oddNumber b B) * 2 ^ p
+  product-positive = mul-pos (mul-pos slopes-pos (omega (arith, odd-number))) (pow-pos p)
+
   pub offset-means : Meaning slopes b p rising B (offsetOf slopes b p rising B)
-  offset-means = record { odd = odd-number; stands = offset-stands slopes b p rising B; mirrored = mirror }
+  offset-means =
+      record {
+        odd = odd-number;
+        not-zero = rw (product-is slopes p rising (oddNumber b B)) (signed-zero (sameSign rising (oddNumber b B)) _ product-positive);
+        stands = offset-stands slopes b p rising B;
+        mirrored = mirror;
+      }
 
 -- The entries of a design's tables
 pub entry-means : (d : Design) (i A B : ℕ) → 1 ≤ bOf d i → B < 2 ^ bOf d i
     → Meaning (hiAt d i A + loAt d i A) (bOf d i) (position d i) (row d .rising) B (offsetAt d i A B)
-unfolding offsetAt
-entry-means d i A B = offset-means _ _ _ _ B
+unfolding offsetAt hiAt hi
+entry-means d i A B = offset-means _ _ _ _ B (omega arith)

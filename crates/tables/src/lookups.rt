@@ -81,7 +81,7 @@ pub fn lookups_of(d: Design) -> Lookups
     }
 }
 
-// inner: where x's offset lies among all offsets. The top a + b bits of x are A·2^b and b bits more, which make room for B. A is told by
+// Where x's offset lies among all offsets. The top a + b bits of x are A·2^b and b bits more, which make room for B. A is told by
 // `near`, any word of x's interval, so that it is found once where many words of one interval are looked up.
 pub(crate) fn place_of(lookup: Lookup, near: u32, x: u32) -> u32
     requires { ⌜ Small lookup ⌝ }

@@ -51,4 +51,5 @@ floor-said kind w P X range =
     floor h = floor-greatest (rowOf kind) (row-lawful kind h) w P X range
 
 pub document : Document
-document = record { sides = sides-said; floor = floor-said }
+unfolding rows rowOf
+document = record { c = refl; sides = sides-said; floor = floor-said }

@@ -1,6 +1,7 @@
 -- Document 01, "Functions and their exact values", in its own words for each kind with its c.
 use mathlib.Core.Path.{_≡_}
 use mathlib.Core.Logic.{_⊎_}
+use mathlib.Core.List.{[], _∷_, map}
 use Prim.Native.Nat.{ℕ, _+_, _*_, _^_, _≤_}
 use Rattle.values.specs.Rows.{rowOf}
 use Rattle.values.specs.Exact.{numberSide, valueSide, Greatest}
@@ -29,7 +30,8 @@ pub record FloorSaid (kind w P X : ℕ) : Type 0 where
   pub reciprocal-root : (kind ≡ 3) ⊎ (kind ≡ 4)
       → Greatest (λ n. n ^ 2 * (rowOf kind .c * X) ≤ 4 ^ P * 2 ^ w) (floorValue (rowOf kind) w P X)
 
--- Both, for every width, every number of fraction bits, and X of an input word
+-- Both, for every width, every number of fraction bits, and X of an input word; c by kind as in the document's table
 pub record Document : Type 0 where
+  pub c : map (λ kind. rowOf kind .c) (0 ∷ 1 ∷ 2 ∷ 3 ∷ 4 ∷ []) ≡ 1 ∷ 1 ∷ 2 ∷ 1 ∷ 2 ∷ []
   pub sides : (kind w s X n : ℕ) → SidesSaid kind w s X n
   pub floor : (kind w P X : ℕ) → InRange w X → FloorSaid kind w P X

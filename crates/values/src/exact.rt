@@ -15,7 +15,7 @@ fn num(row: Row, w: u32, x: u64) -> u64
     if row.rising { row.c * x } else { pow2(w) }
 }
 
-// inner: what it is divided by.
+// What it is divided by.
 pub(crate) fn den(row: Row, w: u32, x: u64) -> u64
     requires { ⌜ ExactInput row w x ⌝ }
     ensures { λ r. ⌜ r ≡ Exact.den row w x ⌝ }

@@ -66,7 +66,7 @@ offset-is c =
 returns : tie.Need-returns
 returns c =
     let s = c .before .before .before .before in
-    (offset-is c, rw (offset-is c) (offset-means _ _ _ _ _ (s .pre .0 .b-low) (s .pre .1)))
+    (offset-is c, rw (offset-is c) (offset-means _ _ _ _ _ (s .pre .0 .slopes-low) (s .pre .0 .b-low) (s .pre .1)))
 
 pub offset-of-spec : {M : Type 1} → statement M
 offset-of-spec =
