@@ -93,8 +93,8 @@ fn summed_verdict(
     Batched::Count(words.len())
 }
 
-// The first pass: how many words there are, or the lowest that is refused. It writes nothing. Where there are more words than entries, it is
-// cheaper to ask first whether any sum can be out of range.
+// The first pass: how many words there are, or the lowest that is refused. It writes nothing. Where there are more words than entries, it
+// is cheaper to ask first whether any sum can be out of range.
 fn words_verdict(
     d: Design,
     lookups: Lookups,

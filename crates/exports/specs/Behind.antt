@@ -1,5 +1,5 @@
--- What stands behind the pointer of a call afterwards, by what the call tells: the answer, or where it was refused what stood there before; a
--- batch's place is stored in either case.
+-- What stands behind the pointer of a call afterwards, by what the call tells: the answer, or where it was refused what stood there
+-- before; a batch's place is stored in either case.
 use mathlib.Core.List.{List, [], _∷_, _++_}
 use Prim.Native.Nat.{ℕ, _^_}
 use lib.ListN.{length}

@@ -1,5 +1,6 @@
 // The calls for C and Rust to link, on numbers and slices. Each returns the number of the refusal, 0 where there is none, and puts
-// the answer behind a pointer; where it is refused, what is behind the pointer stands, but for a batch's place. Here are those on designs and tables.
+// the answer behind a pointer; where it is refused, what is behind the pointer stands, but for a batch's place. Here are those on designs
+// and tables.
 ghost use mathlib.Core.Path.{_≡_};
 ghost use mathlib.Core.Bool.{cond};
 ghost use Prim.Native.Nat.{_^_};
