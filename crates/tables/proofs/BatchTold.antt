@@ -45,10 +45,6 @@ more-refusal (Batched.Count count) Verdict.Passed n = refl
 more-refusal (Batched.Count count) (Verdict.Refused cause) n = refl
 more-refusal (Batched.Refused cause place) word n = refl
 
-room-refusal : (room : Verdict) (answer : Batched) → refusal (afterRoom room answer) ≡ after room (refusal answer)
-room-refusal Verdict.Passed answer = refl
-room-refusal (Verdict.Refused cause) answer = refl
-
 -- It is that of all checks in their order.
 words-refusal : (n : ℕ) (word : ℕ → List Check) → refusal (wordsBelow n (λ i. verdict (word i))) ≡ verdict (checksBelow n word)
 unfolding wordsBelow checksBelow

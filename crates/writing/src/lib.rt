@@ -98,12 +98,12 @@ pub fn write_line(
     let slot = slot_of(d, number);
     let head = head_of(d, slot);
     let width = entry_width(slot);
-    let length = 2 * (head.count + width + 1);
+    let digits = 2 * (head.count + width + 1);
     let fits = entry_fits(slot, initial, offsets);
-    if let Verdict::Refused(cause) = line_verdict(fits, length, line.len()) {
+    if let Verdict::Refused(cause) = line_verdict(fits, digits, line.len()) {
         return Written::Refused(cause);
     }
     let frame = head.with(width, entry_number(slot, initial, offsets));
     put_line(frame, line);
-    Written::Length(length)
+    Written::Length(digits)
 }

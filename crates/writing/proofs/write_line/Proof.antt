@@ -85,14 +85,14 @@ asked c =
       width-is = c .entry-width .ensures;
     }
 
-add-length : tie.Need-add-length
-add-length c = omega (arith, asked-short (asked (c .before)))
+add-digits : tie.Need-add-digits
+add-digits c = omega (arith, asked-short (asked (c .before)))
 
-add-length-2 : tie.Need-add-length-2
-add-length-2 c = omega (arith, asked-short (asked (c .before)))
+add-digits-2 : tie.Need-add-digits-2
+add-digits-2 c = omega (arith, asked-short (asked (c .before)))
 
-mul-length : tie.Need-mul-length
-mul-length c = omega (arith, asked-short (asked (c .before)))
+mul-digits : tie.Need-mul-digits
+mul-digits c = omega (arith, asked-short (asked (c .before)))
 
 entry-fits-requires : tie.Need-entry-fits-requires
 entry-fits-requires c κs = asked-in (asked (c .before))
@@ -170,9 +170,9 @@ write-line-spec =
     slot-of-requires
     head-of-requires
     entry-width-requires
-    add-length
-    add-length-2
-    mul-length
+    add-digits
+    add-digits-2
+    mul-digits
     entry-fits-requires
     line-verdict-requires
     enum-known-cause-2
