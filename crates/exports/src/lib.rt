@@ -18,7 +18,7 @@ ghost use Rattle.exports.specs.Numbers.{designOf};
 ghost use Rattle.exports.specs.Behind.{behind, placeAfter, firstAfter, sumTold};
 
 mod design_numbers;
-pub mod line_calls;
+mod line_calls;
 
 use checking::check;
 use design::Design;
