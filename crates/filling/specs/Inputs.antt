@@ -5,8 +5,8 @@ use Rattle.design.specs.declared.Design.{Design}
 use Rattle.design.specs.Cut.{position, offsetTotal}
 use Rattle.design.specs.Legal.{Legal}
 
--- Offsets of a segment are asked for: b is not 0, so that j is odd, and the largest product that its slopes and its table's b and p
--- can lead to is small.
+-- Offsets of a segment are asked for: Hi + Lo and b are not 0, so that j is odd and no product is 0, and the largest product that its slopes
+-- and its table's b and p can lead to is small.
 pub record OffsetInput (slopes b p : ℕ) : Type 0 where
   pub b-low : 1 ≤ b
   pub slopes-low : 1 ≤ slopes

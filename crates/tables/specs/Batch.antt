@@ -1,5 +1,5 @@
 -- What the call `evaluate_batch` answers, "for a batch 14, then 12 and 13 word by word", and what it leaves in the output.
-use mathlib.Core.Bool.{Bool, true, false, cond, _&&_}
+use mathlib.Core.Bool.{cond, _&&_}
 use mathlib.Core.List.{List, [], _∷_, _++_, map}
 use Prim.Native.Nat.{ℕ, zero, suc}
 use lib.Dec.{eqb, ltb}

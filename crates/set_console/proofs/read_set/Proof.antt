@@ -1,6 +1,4 @@
 -- `set_console::read_set` meets its contract: each step feeds what it took, and the loop ends since no set has more lines than are left.
-use mathlib.Core.Path.{_≡_, refl}
-use Prim.Native.Nat.{ℕ}
 use borrow.Author.Needs.{needs}
 use Rattle.reading.specs.ReadLine.{session}
 use Rattle.reading.proofs.ReadLaws.{first-possible}

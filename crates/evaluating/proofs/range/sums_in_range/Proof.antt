@@ -1,16 +1,15 @@
 -- `evaluating::range::sums_in_range` meets its contract: what it tests is what `sums-stay` asks.
-use mathlib.Core.Path.{_≡_, sym, ap, _∙_}
+use mathlib.Core.Path.{sym, ap, _∙_}
 use mathlib.Core.Bool.{true, true≢false}
-use Prim.Native.Nat.{ℕ, _+_, _*_, _^_, _≤_, _<_}
+use Prim.Native.Nat.{ℕ, _+_, _*_, _^_, _≤_}
 use native.Mathlib.Nat.{mul-le-mul-right}
 use native.Mathlib.Omega.{arith}
 use borrow.Author.Needs.{needs}
 use borrow.Author.Tests.{not-true}
 use lib.Pow.{pow-mono}
 use Rattle.design.specs.declared.Design.{Design}
-use Rattle.design.specs.Cut.{initialCount, fractionBits}
+use Rattle.design.specs.Cut.{initialCount}
 use Rattle.design.proofs.LegalLaws.{Limits, limits}
-use Rattle.tables.specs.Inputs.{Usable}
 use Rattle.evaluating.proofs.RangeLaws.{sums-stay}
 use Rattle.evaluating.proofs.range.sums_in_range.Statement.{statement}
 use Rattle.evaluating.proofs.range.sums_in_range.Tie as tie
