@@ -10,7 +10,7 @@ use Rattle.refusal.specs.declared.Verdict.{Verdict}
 use Rattle.design.specs.declared.Design.{Design}
 use Rattle.design.specs.Cut.{initialWord, initialCount}
 use Rattle.design.proofs.LegalLaws.{Limits}
-use Rattle.design.proofs.Sums.{below-suc}
+use Rattle.general.proofs.Sums.{below-suc}
 use Rattle.tables.specs.declared.Checked.{Checked}
 use Rattle.tables.specs.Inputs.{SameInterval}
 use Rattle.tables.specs.Check.{wordsBelow, checked}

@@ -12,6 +12,7 @@ ghost use Rattle.tables.specs.Lookup.{lookupsOf};
 ghost use Rattle.tables.specs.Faithful.{isFaithful};
 ghost use Rattle.tables.specs.Check.{faithfulAt, wordsBelow, checked, checkAnswer, toldBy, checkTold};
 use design::Design;
+use general::pow2;
 use refusal::Verdict;
 use tables::Checked;
 use tables::lookups::Lookups;
@@ -23,7 +24,6 @@ use tables::sums::word_of;
 use values::OutputUnits;
 use values::exact::number_sides;
 use values::exact::value_side;
-use values::floor::pow2;
 use values::rows::Row;
 use values::rows::row_of;
 

@@ -8,7 +8,7 @@ use native.Mathlib.Omega.{arith}
 use lib.ListN.{length, getD, take, set, length-append}
 use lib.Seq.{getD-set-same, getD-set-other, length-take-le}
 use borrow.Author.Tests.{lt-ltb}
-use Rattle.design.proofs.Sums.{below-suc}
+use Rattle.general.proofs.Sums.{below-suc}
 use Rattle.io.proofs.Counting.{counts}
 use Rattle.frames.specs.Line.{lineFails}
 use Rattle.console.specs.declared.LineEnd.{LineEnd}

@@ -4,7 +4,7 @@ use mathlib.Core.Bool.{Bool, true, false}
 use Prim.Native.Nat.{ℕ, zero, suc, _+_, _*_, _≤_, _<_}
 use native.Mathlib.Nat.{add-zero, add-assoc, le-refl, le-step}
 use native.Mathlib.Omega.{arith}
-use Rattle.design.specs.Cut.{sumBelow}
+use Rattle.general.specs.Below.{sumBelow}
 use Rattle.demand3.proofs.Steps.{Rises}
 
 -- X lies between s and e

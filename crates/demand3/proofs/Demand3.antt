@@ -16,7 +16,8 @@ use Rattle.values.specs.Inputs.{InRange}
 use Rattle.values.specs.Value.{wordCheck}
 use Rattle.values.proofs.ExactLaws.{value-low}
 use Rattle.design.specs.declared.Design.{Design}
-use Rattle.design.specs.Cut.{row, fractionBits, sumBelow, initialWord, segmentWord, offsetWord}
+use Rattle.design.specs.Cut.{row, fractionBits, initialWord, segmentWord, offsetWord}
+use Rattle.general.specs.Below.{sumBelow, signedSum}
 use Rattle.design.specs.Budget.{budget, limit, Admitted}
 use Rattle.design.proofs.LegalLaws.{Limits, limits, lawful}
 use Rattle.design.proofs.CutLaws.{initial-word-lt, segment-word-lt, offset-word-lt}
@@ -25,7 +26,7 @@ use Rattle.tables.specs.declared.Batched.{Batched}
 use Rattle.tables.specs.declared.Checked.{Checked}
 use Rattle.tables.specs.Inputs.{Usable}
 use Rattle.tables.specs.Entries.{initialAt}
-use Rattle.tables.specs.Sum.{signedSum, offsetFor, sumAt, sumOutside, wordOf, wordAt}
+use Rattle.tables.specs.Sum.{offsetFor, sumAt, sumOutside, wordOf, wordAt}
 use Rattle.tables.specs.Fill.{setChecks, Filled}
 use Rattle.tables.specs.Evaluate.{wordChecks, evaluateVerdict, evaluateAnswer}
 use Rattle.tables.specs.Batch.{outputCheck, roomVerdict, placeVerdict, batchAnswer, outputAfter}

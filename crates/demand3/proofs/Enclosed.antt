@@ -11,7 +11,7 @@ use Rattle.values.specs.Floor.{floorValue}
 use Rattle.values.proofs.ExactLaws.{below, number-cancel, at-most-finer, more-than-finer}
 use Rattle.values.proofs.FloorLaws.{floor-greatest, floor-next}
 use Rattle.values.proofs.SlopeLaws.{Steeper, Flatter, range-pos}
-use Rattle.design.specs.Cut.{sumBelow}
+use Rattle.general.specs.Below.{sumBelow}
 use Rattle.demand3.proofs.Steps.{Rises, gain-at-most, gain-at-least}
 use Rattle.demand3.proofs.Climb.{Inside, climb}
 

@@ -10,7 +10,8 @@ use Rattle.values.specs.Slopes.{spread}
 use Rattle.values.specs.Exact.{AtMost, MoreThan}
 use Rattle.values.proofs.Bounds.{ordered}
 use Rattle.design.specs.declared.Design.{Design}
-use Rattle.design.specs.Cut.{aOf, row, fractionBits, sumBelow, segmentWord, offsetWord, initialWord}
+use Rattle.design.specs.Cut.{aOf, row, fractionBits, segmentWord, offsetWord, initialWord}
+use Rattle.general.specs.Below.{sumBelow}
 use Rattle.design.specs.Budget.{reach, tableBudget, budget}
 use Rattle.design.proofs.LegalLaws.{Limits, slopewise}
 use Rattle.design.proofs.CutLaws.{segment-word-lt}

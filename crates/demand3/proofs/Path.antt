@@ -8,7 +8,8 @@ use lib.Pow.{pow-add, pow-pos}
 use Rattle.values.specs.Slopes.{segmentStart, segmentEnd}
 use Rattle.values.proofs.SlopeLaws.{OnSegment, on-range, hi-steeper, lo-flatter}
 use Rattle.design.specs.declared.Design.{Design}
-use Rattle.design.specs.Cut.{aOf, bOf, row, fractionBits, sumBelow, position, initialWord, segmentWord, offsetWord, initialCount}
+use Rattle.design.specs.Cut.{aOf, bOf, row, fractionBits, position, initialWord, segmentWord, offsetWord, initialCount}
+use Rattle.general.specs.Below.{sumBelow}
 use Rattle.design.specs.Budget.{reach}
 use Rattle.design.proofs.LegalLaws.{Limits, lawful}
 use Rattle.design.proofs.CutLaws.{offset-word-lt, cut-word, initial-word-lt, segment-word-lt, segment-within}

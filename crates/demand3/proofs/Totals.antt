@@ -6,8 +6,7 @@ use native.Mathlib.Omega.{arith}
 use lib.Dec.{ltb}
 use lib.IntN.{ℤ, pos, negsuc, subℕ, _+ℤ_}
 use borrow.Author.Tests.{ltb-true, ltb-false}
-use Rattle.design.specs.Cut.{sumBelow}
-use Rattle.tables.specs.Sum.{signedSum}
+use Rattle.general.specs.Below.{sumBelow, signedSum}
 
 abbrev pub added : ℤ → ℕ
 added (pos n) = n

@@ -1,30 +1,17 @@
 -- How large spreads and budgets get.
-use Prim.Native.Nat.{ℕ, zero, suc, _^_, _≤_, _<_}
-use native.Mathlib.Nat.{le-max-left, le-max-right, le-of-lt, le-refl, le-step, le-trans, lt-of-lt-of-le, max-le, mul-le-mul, not-suc-le-zero}
+use Prim.Native.Nat.{ℕ, _^_, _≤_, _<_}
+use native.Mathlib.Nat.{le-of-lt, lt-of-lt-of-le, mul-le-mul}
 use native.Mathlib.Omega.{arith}
 use lib.Pow.{ones-lt, pow-mono, shl-lt}
 use Rattle.values.specs.declared.rows.Row.{Row}
 use Rattle.values.specs.Inputs.{SlopeInput}
-use Rattle.values.specs.Slopes.{spread, largest, largestSpread}
+use Rattle.values.specs.Slopes.{spread, largestSpread}
 use Rattle.values.proofs.Bounds.{spread-small}
 use Rattle.design.specs.declared.Design.{Design}
 use Rattle.design.specs.Cut.{aOf, bOf, row, fractionBits, position}
 use Rattle.design.specs.Budget.{reach, tableBudget}
-use Rattle.design.proofs.Sums.{below-suc}
+use Rattle.general.proofs.Sums.{largest-above, largest-bounded}
 use Rattle.design.proofs.LegalLaws.{Limits, slopewise, bits-end}
-
--- The largest of f over the numbers below n is at least each,
-pub largest-above : (n : ℕ) (f : ℕ → ℕ) (i : ℕ) → i < n → f i ≤ largest n f
-unfolding largest
-largest-above zero f i h = absurd (not-suc-le-zero h)
-largest-above (suc n) f i h =
-    below-suc h (λ at. rw at (le-max-right _ _)) (λ below. le-trans (largest-above n f i below) (le-max-left _ _))
-
--- and no more than a bound for each.
-pub largest-bounded : (n B : ℕ) (f : ℕ → ℕ) → ((i : ℕ) → i < n → f i ≤ B) → largest n f ≤ B
-unfolding largest
-largest-bounded zero B f h = omega arith
-largest-bounded (suc n) B f h = max-le (largest-bounded n B f (λ i g. h i (le-step g))) (h n (le-refl _))
 
 -- So the largest spread is at least the spread over each segment,
 pub spread-le-largest : (row : Row) (w P a A : ℕ) → A < 2 ^ a → spread row w P a A ≤ largestSpread row w P a

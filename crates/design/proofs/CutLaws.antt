@@ -12,7 +12,6 @@ use Rattle.design.specs.declared.Design.{Design}
 use Rattle.design.specs.Cut.{
   aOf,
   bOf,
-  sumBelow,
   position,
   initialWord,
   segmentWord,
@@ -23,7 +22,8 @@ use Rattle.design.specs.Cut.{
   offsetTotal,
   offsetPlace,
 }
-use Rattle.design.proofs.Sums.{sum-mono, sum-bounded}
+use Rattle.general.specs.Below.{sumBelow}
+use Rattle.general.proofs.Sums.{sum-mono, sum-bounded}
 use Rattle.design.proofs.LegalLaws.{Limits}
 
 -- The top a of w bits are a number of a bits.

@@ -13,7 +13,7 @@ use Rattle.design.specs.declared.Design.{Design}
 use Rattle.design.specs.declared.legal.TableRule.{TableRule}
 use Rattle.design.specs.Cut.{aOf, bOf, row, fractionBits, position}
 use Rattle.design.specs.Legal.{breaks, tableBreaks, cutChecks, designChecks, designVerdict, Legal}
-use Rattle.design.proofs.Sums.{none-below, sum-step}
+use Rattle.general.proofs.Sums.{none-below, sum-step}
 
 -- A table that lies within document 01's limits
 pub record Within (d : Design) (i : ℕ) : Type 0 where

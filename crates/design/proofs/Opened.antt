@@ -3,7 +3,6 @@ use Rattle.values.proofs.Opened.{values-opened}
 use Rattle.design.specs.Cut.{
   tables,
   pairAt,
-  sumBelow,
   position,
   initialWord,
   segmentWord,
@@ -14,7 +13,8 @@ use Rattle.design.specs.Cut.{
   offsetTotal,
   offsetPlace,
 }
-use Rattle.design.specs.Legal.{someBelow, breaks, tableBreaks, cutChecks, designChecks, designVerdict}
+use Rattle.general.specs.Below.{sumBelow, someBelow}
+use Rattle.design.specs.Legal.{breaks, tableBreaks, cutChecks, designChecks, designVerdict}
 use Rattle.design.specs.Budget.{reach, tableBudget, budget, limit, withinLimit, size}
 use Rattle.design.specs.Answers.{budgetAnswer, sizeAnswer}
 

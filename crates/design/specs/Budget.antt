@@ -5,7 +5,8 @@ use lib.Dec.{ltb}
 use Rattle.values.specs.Slopes.{largestSpread}
 use Rattle.design.specs.declared.Design.{Design}
 use Rattle.design.specs.Legal.{Legal}
-use Rattle.design.specs.Cut.{aOf, bOf, row, fractionBits, sumBelow, position, initialCount, offsetTotal}
+use Rattle.design.specs.Cut.{aOf, bOf, row, fractionBits, position, initialCount, offsetTotal}
+use Rattle.general.specs.Below.{sumBelow}
 
 -- "D_i = (2^(b_i) - 1)·2^(p_i)"
 unfoldable pub reach : Design → ℕ → ℕ

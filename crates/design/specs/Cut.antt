@@ -1,7 +1,8 @@
 -- Document 01, "A design": where words and tables lie.
 use mathlib.Core.List.{List}
-use Prim.Native.Nat.{ℕ, zero, suc, _+_, _-_, _*_, _/_, _%_, _^_}
+use Prim.Native.Nat.{ℕ, _+_, _-_, _*_, _/_, _%_, _^_}
 use lib.ListN.{getD, take}
+use Rattle.general.specs.Below.{sumBelow}
 use Rattle.values.specs.declared.rows.Row.{Row}
 use Rattle.values.specs.Rows.{rowOf}
 use Rattle.design.specs.declared.Pair.{Pair}
@@ -26,11 +27,6 @@ row d = rowOf (d .kind)
 -- "a table entry P = q + g"
 abbrev pub fractionBits : Design → ℕ
 fractionBits d = d .q + d .g
-
--- The sum of f over the numbers below n.
-unfoldable pub sumBelow : ℕ → (ℕ → ℕ) → ℕ
-sumBelow zero f = 0
-sumBelow (suc n) f = sumBelow n f + f n
 
 -- "p_0 = 0 and p_(i+1) = p_i + b_i"
 unfoldable pub position : Design → ℕ → ℕ

@@ -1,22 +1,18 @@
 -- Document 01, "What is turned down, by place", 1 to 9, in the order in which they are tried.
-use mathlib.Core.Bool.{Bool, false, not, _||_}
+use mathlib.Core.Bool.{Bool, not, _||_}
 use mathlib.Core.List.{List, [], _∷_, _++_}
 use mathlib.Core.Path.{_≡_}
-use Prim.Native.Nat.{ℕ, zero, suc, _+_, _-_}
+use Prim.Native.Nat.{ℕ, _+_, _-_}
 use lib.Dec.{leb, ltb, eqb}
 use Rattle.refusal.specs.declared.Cause.{Cause}
 use Rattle.refusal.specs.declared.Verdict.{Verdict}
 use Rattle.refusal.specs.Checks.{Check, _↝_, outside, verdict}
+use Rattle.general.specs.Below.{someBelow}
 use Rattle.values.specs.Widths.{widthChecks}
 use Rattle.design.specs.declared.Pair.{Pair}
 use Rattle.design.specs.declared.Design.{Design}
 use Rattle.design.specs.declared.legal.TableRule.{TableRule}
 use Rattle.design.specs.Cut.{pairAt, position}
-
--- Whether the test holds for some number below n.
-unfoldable pub someBelow : ℕ → (ℕ → Bool) → Bool
-someBelow zero test = false
-someBelow (suc n) test = someBelow n test || test n
 
 -- 7, "a_i not 1..alpha"; 8, "b_i not 1..8, or a_i+b_i over 12"
 unfoldable pub breaks : TableRule → ℕ → Pair → Bool

@@ -7,7 +7,7 @@ ghost use Rattle.design.specs.Legal.{Legal};
 ghost use Rattle.design.specs.Budget.{tableBudget, budget, limit, size};
 use crate::Design;
 use crate::legal::pair_at;
-use values::floor::pow2;
+use general::pow2;
 use values::rows::row_of;
 use values::slopes::largest_spread;
 

@@ -13,8 +13,17 @@ use Rattle.frames.specs.Hex.{allDigits, bytesOf}
 use Rattle.frames.specs.Line.{sumFails, lengthFails, lineFails}
 use Rattle.frames.proofs.LineLaws.{sound-length}
 use Rattle.encoding.specs.Encode.{hexOf, sumByte, withSum, lineOf}
-use Rattle.encoding.proofs.HexBack.{Bytes, hex-length, hex-digits, hex-back, bytes-small, bytes-length, hex-again}
-use Rattle.encoding.proofs.HexBack.{bytes-append, bytes-parts}
+use Rattle.encoding.proofs.HexBack.{
+  Bytes,
+  hex-length,
+  hex-digits,
+  hex-back,
+  bytes-small,
+  bytes-length,
+  hex-again,
+  bytes-append,
+  bytes-parts,
+}
 use Rattle.encoding.proofs.SumBack.{sum-byte-lt, sum-back, sum-again}
 
 -- A frame with its sum byte is one byte longer, and still bytes.

@@ -7,13 +7,12 @@ use native.Mathlib.Numerals.{add-one}
 use native.Mathlib.Omega.{arith}
 use lib.ListN.{length, getD, take, set}
 use lib.Seq.{length-take-le, take-suc}
-use Rattle.frames.specs.Line.{total}
-use Rattle.tables.specs.Writing.{over}
-use Rattle.tables.proofs.WritingLaws.{over-none, over-length, over-more, over-one}
+use Rattle.general.specs.Lists.{total, over}
+use Rattle.general.proofs.WritingLaws.{over-none, over-length, over-more, over-one}
 use Rattle.encoding.specs.Encode.{digitOf, hexOf, sumByte, withSum, lineOf}
 use Rattle.encoding.specs.Inputs.{LineInput}
 use Rattle.encoding.proofs.HexBack.{hex-length}
-use Rattle.encoding.proofs.SumBack.{total-append}
+use Rattle.general.proofs.ListLaws.{total-append}
 
 -- The digits of two lists of bytes, one behind the other, are those of the first and then those of the second.
 hex-append : (xs ys : List ℕ) → hexOf (xs ++ ys) ≡ hexOf xs ++ hexOf ys

@@ -5,14 +5,10 @@ use mathlib.Core.List.{List, [], _∷_, _++_}
 use Prim.Native.Nat.{ℕ, _+_, _%_, _<_}
 use native.Mathlib.Omega.{arith}
 use borrow.Author.Tests.{eqb-true, eq-eqb, not-false}
-use Rattle.frames.specs.Line.{total, sumFails}
+use Rattle.general.specs.Lists.{total}
+use Rattle.frames.specs.Line.{sumFails}
+use Rattle.general.proofs.ListLaws.{total-append}
 use Rattle.encoding.specs.Encode.{sumByte, withSum}
-
--- The sum of two lists, one behind the other
-pub total-append : (xs ys : List ℕ) → total (xs ++ ys) ≡ total xs + total ys
-unfolding total
-total-append [] ys = omega arith
-total-append (x ∷ xs) ys = omega (arith, total-append xs ys)
 
 -- The sum of a frame with one byte more
 total-last : (bs : List ℕ) (b : ℕ) → total (bs ++ (b ∷ [])) ≡ total bs + b

@@ -3,7 +3,7 @@ use mathlib.Core.Bool.{cond}
 use mathlib.Core.List.{List, [], _∷_, _++_}
 use Prim.Native.Nat.{ℕ, _+_, _-_, _/_, _%_}
 use lib.Dec.{ltb}
-use Rattle.frames.specs.Line.{total}
+use Rattle.general.specs.Lists.{total}
 
 -- The digit for a number below 16. 48 is '0', 65 is 'A'.
 unfoldable pub digitOf : ℕ → ℕ

@@ -4,7 +4,7 @@ ghost use mathlib.Core.List.{[], _∷_, _++_};
 ghost use Prim.Native.Nat.{_+_, _≤_, _<_};
 ghost use lib.ListN.{length};
 ghost use Rattle.design.specs.Legal.{Legal};
-ghost use Rattle.tables.specs.Writing.{over};
+ghost use Rattle.general.specs.Lists.{over};
 ghost use Rattle.encoding.specs.Bytes.{bigEndian};
 ghost use Rattle.encoding.specs.Encode.{digitOf, hexOf, lineOf};
 ghost use Rattle.encoding.specs.DesignBytes.{designBytes};

@@ -13,15 +13,13 @@ use lib.Signed.{mag}
 use Rattle.refusal.specs.Checks.{outside, verdict}
 use Rattle.refusal.proofs.Checks.{inside}
 use Rattle.values.specs.Value.{wordCheck}
-use Rattle.values.specs.Slopes.{largest}
+use Rattle.general.specs.Below.{largest, someBelow, signedSum}
 use Rattle.design.specs.declared.Design.{Design}
 use Rattle.design.specs.Cut.{fractionBits, initialCount, offsetTotal, initialWord}
-use Rattle.design.specs.Legal.{someBelow}
-use Rattle.design.proofs.Sums.{none-below}
-use Rattle.design.proofs.BudgetLaws.{largest-above}
+use Rattle.general.proofs.Sums.{none-below, largest-above}
 use Rattle.design.proofs.LegalLaws.{Limits}
 use Rattle.design.proofs.CutLaws.{place-in-total, segment-word-lt, offset-word-lt, initial-word-lt}
-use Rattle.tables.specs.Sum.{signedSum, offsetFor, sumAt, sumOutside}
+use Rattle.tables.specs.Sum.{offsetFor, sumAt, sumOutside}
 use Rattle.tables.specs.Evaluate.{wordChecks}
 use Rattle.tables.specs.Batch.{wordsBelow, placeVerdict}
 use Rattle.evaluating.specs.Range.{SumsInRange, widthAnswer}

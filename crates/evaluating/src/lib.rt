@@ -16,6 +16,7 @@ mod range;
 
 use design::Design;
 use design::measure::offset_total;
+use general::pow2;
 use range::sums_in_range;
 use range::width_answer;
 use refusal::Cause;
@@ -29,7 +30,6 @@ use tables::sums::sum_of;
 use tables::sums::sum_outside;
 use tables::sums::word_of;
 use values::OutputUnits;
-use values::floor::pow2;
 
 // Refusals 12 and 13 of a word, or the word itself: one sum, m + 1 lookups.
 fn word_answer(d: Design, lookups: Lookups, initial: &[u32], offsets: &[i32], x: u32) -> Evaluated

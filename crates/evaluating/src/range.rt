@@ -7,16 +7,15 @@ ghost use lib.ListN.{length, getD};
 ghost use lib.IntN.{pos};
 ghost use lib.Signed.{mag};
 ghost use Rattle.refusal.specs.Checks as Checks;
-ghost use Rattle.values.specs.Slopes.{largest};
-ghost use Rattle.design.specs.Legal.{someBelow};
+ghost use Rattle.general.specs.Below.{largest, someBelow};
 ghost use Rattle.tables.specs.Inputs.{Usable};
 ghost use Rattle.evaluating.specs.Range.{SumsInRange, widthAnswer};
 use design::Design;
 use design::measure::offset_total;
+use general::pow2;
 use refusal::Cause;
 use refusal::outside;
 use tables::Batched;
-use values::floor::pow2;
 
 // v, or -1 - v where v is negative.
 fn magnitude(v: i32) -> u32

@@ -28,6 +28,7 @@ use design_numbers::verdict_number;
 use evaluating::evaluate;
 use evaluating::evaluate_batch;
 use filling::fill;
+use general::pow2;
 use refusal::Cause;
 use refusal::Verdict;
 use refusal::number;
@@ -38,7 +39,6 @@ use tables::lookups::lookups_of;
 use tables::set_verdict;
 use tables::sums::sum_of;
 use values::Valued;
-use values::floor::pow2;
 use values::value;
 
 // The value, in table units.

@@ -21,8 +21,8 @@ use Rattle.tables.specs.Fill.{
   initialAfter,
   offsetsAfter,
 }
-use Rattle.tables.specs.Writing.{over}
-use Rattle.tables.proofs.WritingLaws.{over-start}
+use Rattle.general.specs.Lists.{over}
+use Rattle.general.proofs.WritingLaws.{over-start}
 
 -- "fill 1 to 11"
 module _ (d : Design) (initial offsets : ℕ) where

@@ -10,18 +10,20 @@ use lib.IntN.{ℤ}
 use lib.ListN.{length}
 use lib.Pow.{high, low, pow-add}
 use Rattle.design.specs.declared.Design.{Design}
-use Rattle.design.specs.Cut.{aOf, bOf, row, sumBelow, position, offsetCount, tableStart, offsetTotal}
-use Rattle.design.proofs.Sums.{sum-mono, sum-step, sum-next}
+use Rattle.design.specs.Cut.{aOf, bOf, row, position, offsetCount, tableStart, offsetTotal}
+use Rattle.general.specs.Below.{sumBelow, listBelow}
+use Rattle.general.proofs.Sums.{sum-mono, sum-step, sum-next}
 use Rattle.design.proofs.LegalLaws.{Limits, bits-end}
 use Rattle.values.specs.Slopes.{hi}
 use Rattle.tables.specs.Entries.{offsetAt, hiAt, loAt, offsetOf}
-use Rattle.tables.specs.Fill.{listBelow, tableEntries, offsetsBelow}
-use Rattle.tables.proofs.EntryLaws.{list-length, offsets-length}
+use Rattle.tables.specs.Fill.{tableEntries, offsetsBelow}
+use Rattle.general.proofs.ListLaws.{list-length, list-add, list-congruence}
+use Rattle.tables.proofs.EntryLaws.{offsets-length}
 use Rattle.tables.proofs.EntryBounds.{slopes-reach}
 use Rattle.filling.specs.Segment.{segmentOffsets}
 use Rattle.filling.specs.Inputs.{OffsetInput}
-use Rattle.tables.specs.Writing.{over}
-use Rattle.tables.proofs.WritingLaws.{over-none, over-more, list-add, list-congruence}
+use Rattle.general.specs.Lists.{over}
+use Rattle.general.proofs.WritingLaws.{over-none, over-more}
 
 module _ (d : Design) (i : ℕ) where
   -- An offset by the numbers that it is made of

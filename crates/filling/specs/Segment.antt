@@ -4,7 +4,7 @@ use mathlib.Core.List.{List}
 use Prim.Native.Nat.{ℕ, _^_}
 use lib.IntN.{ℤ}
 use Rattle.tables.specs.Entries.{offsetOf}
-use Rattle.tables.specs.Fill.{listBelow}
+use Rattle.general.specs.Below.{listBelow}
 
 unfoldable pub segmentOffsets : ℕ → ℕ → ℕ → Bool → List ℤ
 segmentOffsets slopes b p rising = listBelow (2 ^ b) (offsetOf slopes b p rising)

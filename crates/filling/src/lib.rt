@@ -6,7 +6,7 @@ ghost use Rattle.refusal.specs.Numbers.{verdictNumber};
 ghost use Rattle.design.specs.Cut.{initialCount, tableStart, offsetTotal};
 ghost use Rattle.design.specs.Legal.{Legal};
 ghost use Rattle.tables.specs.Fill.{fillVerdict, initialEntries, tableEntries, offsetEntries, initialAfter, offsetsAfter};
-ghost use Rattle.tables.specs.Writing.{over};
+ghost use Rattle.general.specs.Lists.{over};
 ghost use Rattle.filling.specs.Inputs.{OffsetInput, TableInput};
 ghost use Rattle.filling.specs.Segment.{segmentOffsets};
 
@@ -19,10 +19,10 @@ use design::measure::limit_of;
 use entries::initial_at;
 use entries::offset_of;
 use entries::slope_sum;
+use general::pow2;
 use refusal::Cause;
 use refusal::Verdict;
 use tables::set_verdict;
-use values::floor::pow2;
 use values::rows::row_of;
 
 // The initial entries, which begin the table.

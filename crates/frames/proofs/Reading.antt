@@ -11,7 +11,8 @@ use lib.Seq.{take-suc-set, drop-set-lt, drop-drop, append-snoc, length-take-le}
 use borrow.Author.Tests.{eq-eqb, ne-eqb}
 use Rattle.refusal.specs.declared.Verdict.{Verdict}
 use Rattle.frames.specs.Hex.{allDigits, bytesOf}
-use Rattle.frames.specs.Line.{total, sumFails, lengthFails, padded, decoded}
+use Rattle.general.specs.Lists.{total}
+use Rattle.frames.specs.Line.{sumFails, lengthFails, padded, decoded}
 use Rattle.frames.proofs.HexLaws.{Digits, next-byte, next-sound, high-unsound, low-unsound}
 use Rattle.frames.proofs.LineLaws.{SoundLength, accepted}
 

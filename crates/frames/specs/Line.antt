@@ -7,12 +7,9 @@ use lib.ListN.{length, replicate}
 use Rattle.refusal.specs.declared.Cause.{Cause}
 use Rattle.refusal.specs.declared.Verdict.{Verdict}
 use Rattle.refusal.specs.Checks.{Check, _↝_}
+use Rattle.general.specs.Lists.{total}
 use Rattle.frames.specs.declared.Decoded.{Decoded}
 use Rattle.frames.specs.Hex.{allDigits, bytesOf}
-
-unfoldable pub total : List ℕ → ℕ
-total [] = 0
-total (n ∷ ns) = n + total ns
 
 -- "all bytes sum to 0 mod 256"
 unfoldable pub sumFails : List ℕ → Bool

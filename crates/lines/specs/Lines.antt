@@ -5,7 +5,7 @@ use Prim.Native.Nat.{ℕ}
 use lib.ListN.{getD}
 use lib.IntN.{ℤ, pos}
 use Rattle.design.specs.declared.Design.{Design}
-use Rattle.tables.specs.Fill.{listBelow}
+use Rattle.general.specs.Below.{listBelow}
 use Rattle.encoding.specs.Bytes.{bigEndian, complement, fits, fitsSigned}
 use Rattle.encoding.specs.Encode.{lineOf}
 use Rattle.encoding.specs.DesignBytes.{designBytes}

@@ -13,7 +13,7 @@ use design::legal::pair_at;
 use design::measure::offset_total;
 use encoding::Frame;
 use encoding::design_frame;
-use values::floor::pow2;
+use general::pow2;
 
 // What a line of a set holds: the design, an initial entry, an offset of a table, which lies at a place among all offsets, or the
 // number of lines before the last.

@@ -24,10 +24,14 @@ abbrev pub verdict : List Check → Verdict
 verdict [] = Verdict.Passed
 verdict (check ∷ checks) = refuses (check .fails) (check .cause) (verdict checks)
 
+-- What a verdict leads to: the answer where nothing was turned down, else what the cause of the refusal gives
+abbrev pub ifPassed : {A : Type 0} → Verdict → A → (Cause → A) → A
+ifPassed Verdict.Passed answer refusal = answer
+ifPassed (Verdict.Refused cause) answer refusal = refusal cause
+
 -- Whether nothing was turned down
 abbrev pub passes : Verdict → Bool
-passes Verdict.Passed = true
-passes (Verdict.Refused cause) = false
+passes v = ifPassed v true (λ cause. false)
 
 -- n is not within low..high
 abbrev pub outside : ℕ → ℕ → ℕ → Bool

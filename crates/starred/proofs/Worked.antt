@@ -23,6 +23,7 @@ use Rattle.tables.specs.Batch.{batchAnswer}
 use Rattle.tables.specs.Check.{checkAnswer}
 use Rattle.tables.proofs.Opened.{tables-opened}
 use Rattle.frames.specs.Hex as Hex
+use Rattle.general.specs.Lists as Lists
 use Rattle.frames.specs.Line as Line
 use Rattle.frames.specs.DesignFrame as DesignFrame
 use Rattle.encoding.specs.Bytes as Bytes
@@ -143,7 +144,7 @@ pub record Worked : Type 0 where
 
 pub worked : Worked
 unfolding
-    tables-opened Hex.digitValue Hex.allDigits Hex.bytesOf Line.total Line.sumFails Line.lineFails Line.lineChecks DesignFrame.frameFails
+    tables-opened Hex.digitValue Hex.allDigits Hex.bytesOf Lists.total Line.sumFails Line.lineFails Line.lineChecks DesignFrame.frameFails
     DesignFrame.frameChecks DesignFrame.framePair DesignFrame.frameDesign Bytes.bigEndian Bytes.complement Bytes.fits
     Encode.digitOf Encode.hexOf Encode.sumByte Encode.withSum Encode.lineOf DesignBytes.pairBytes DesignBytes.designBytes
     Slots.lineCount Slots.tableOf Slots.offsetSlot Slots.slotOf Lines.frameHead Lines.entryWidth Lines.entryNumber Lines.entryFits

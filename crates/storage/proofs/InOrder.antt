@@ -5,9 +5,9 @@ use Prim.Native.Nat.{ℕ, zero, suc, _+_, _-_, _≤_, _<_}
 use native.Mathlib.Nat.{add-zero, le-refl, le-trans}
 use native.Mathlib.Omega.{arith}
 use Rattle.design.specs.declared.Design.{Design}
-use Rattle.design.specs.Cut.{sumBelow, initialCount, offsetCount, tableStart, offsetTotal}
-use Rattle.tables.specs.Fill.{listBelow}
-use Rattle.tables.proofs.WritingLaws.{list-add, list-congruence}
+use Rattle.general.specs.Below.{sumBelow, listBelow}
+use Rattle.design.specs.Cut.{initialCount, offsetCount, tableStart, offsetTotal}
+use Rattle.general.proofs.ListLaws.{list-add, list-congruence}
 use Rattle.encoding.specs.Bytes.{bigEndian}
 use Rattle.encoding.specs.Encode.{lineOf}
 use Rattle.encoding.specs.DesignBytes.{designBytes}

@@ -14,9 +14,9 @@ use Rattle.design.specs.declared.Design.{Design}
 use Rattle.design.specs.Cut.{initialCount, offsetTotal}
 use Rattle.design.specs.Same.{Same}
 use Rattle.tables.specs.Inputs.{Usable}
-use Rattle.tables.specs.Fill.{listBelow}
-use Rattle.tables.specs.Writing.{over}
-use Rattle.tables.proofs.WritingLaws.{over-none, over-start, over-length, over-next}
+use Rattle.general.specs.Below.{listBelow}
+use Rattle.general.specs.Lists.{over}
+use Rattle.general.proofs.WritingLaws.{over-none, over-start, over-length, over-next}
 use Rattle.frames.specs.DesignFrame.{frameDesign}
 use Rattle.encoding.specs.Encode.{withSum}
 use Rattle.encoding.specs.DesignBytes.{designBytes}

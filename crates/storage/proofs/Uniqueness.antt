@@ -12,8 +12,8 @@ use lib.IntN.{ℤ}
 use Rattle.refusal.specs.declared.Cause.{Cause}
 use Rattle.refusal.specs.declared.Verdict.{Verdict}
 use Rattle.tables.specs.Inputs.{Usable}
-use Rattle.tables.specs.Fill.{listBelow}
-use Rattle.tables.proofs.WritingLaws.{list-congruence}
+use Rattle.general.specs.Below.{listBelow}
+use Rattle.general.proofs.ListLaws.{list-congruence}
 use Rattle.encoding.specs.Bytes.{fromComplement}
 use Rattle.lines.specs.declared.Slot.{Slot}
 use Rattle.lines.specs.Slots.{lineCount, slotOf}

@@ -4,7 +4,7 @@ use Prim.Native.Nat.{ℕ, zero, suc, _+_}
 use lib.ListN.{getD}
 use lib.IntN.{pos}
 use Rattle.design.specs.Cut.{initialCount, offsetCount, tableStart, offsetTotal}
-use Rattle.tables.specs.Fill.{listBelow}
+use Rattle.general.specs.Below.{listBelow}
 use Rattle.encoding.specs.Bytes.{bigEndian, complement}
 use Rattle.encoding.specs.Encode.{lineOf}
 use Rattle.encoding.specs.DesignBytes.{designBytes}

@@ -12,14 +12,14 @@ use Rattle.refusal.specs.declared.Cause.{Cause}
 use Rattle.refusal.specs.declared.Verdict.{Verdict}
 use Rattle.refusal.proofs.Checks.{passed-append, none-fails}
 use Rattle.design.specs.declared.Design.{Design}
-use Rattle.design.proofs.Sums.{below-suc}
+use Rattle.general.proofs.Sums.{below-suc}
 use Rattle.tables.specs.declared.Batched.{Batched}
 use Rattle.tables.specs.Inputs.{Usable}
 use Rattle.tables.specs.Fill.{setChecks}
 use Rattle.tables.specs.Batch.{outputCheck, roomVerdict, oneMore, wordsBelow}
-use Rattle.tables.specs.Writing.{over}
+use Rattle.general.specs.Lists.{over}
 use Rattle.tables.proofs.SetLaws.{usable}
-use Rattle.tables.proofs.WritingLaws.{over-start, over-length, over-next}
+use Rattle.general.proofs.WritingLaws.{over-start, over-length, over-next}
 
 -- Words that all pass are counted,
 pub batch-all : (n : ℕ) (word : ℕ → Verdict) → ((i : ℕ) → i < n → word i ≡ Verdict.Passed) → wordsBelow n word ≡ Batched.Count n

@@ -13,7 +13,7 @@ use Rattle.refusal.specs.Told.{told}
 use Rattle.values.specs.declared.rows.Row.{Row}
 use Rattle.design.specs.declared.Design.{Design}
 use Rattle.design.specs.Cut.{row}
-use Rattle.design.proofs.Sums.{below-suc}
+use Rattle.general.proofs.Sums.{below-suc}
 use Rattle.tables.specs.declared.Checked.{Checked}
 use Rattle.tables.specs.Faithful.{Faithful, isFaithful}
 use Rattle.tables.specs.Check.{

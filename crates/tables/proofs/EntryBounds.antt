@@ -13,7 +13,7 @@ use Rattle.design.specs.declared.Design.{Design}
 use Rattle.design.specs.Cut.{aOf, bOf, row, fractionBits, position, initialCount}
 use Rattle.design.proofs.LegalLaws.{Limits, lawful, slopewise, bits-end}
 use Rattle.tables.specs.Entries.{valueAt, endValues, initialAt, hiAt, loAt, oddNumber, magnitude}
-use Rattle.tables.proofs.SignedLaws.{difference-small}
+use Rattle.general.proofs.SignedLaws.{difference-small}
 
 -- What the calls of the values ask, at a legal design
 module _ (d : Design) (l : Limits d) where

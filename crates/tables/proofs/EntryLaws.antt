@@ -1,20 +1,22 @@
 -- The entries that the fill writes: how many there are, which stands where, and that an accepted fill leaves filled tables.
 use mathlib.Core.Path.{_≡_, refl, sym, _∙_}
-use mathlib.Core.List.{List, [], _∷_, _++_}
+use mathlib.Core.List.{List, [], _∷_}
 use Prim.Native.Nat.{ℕ, zero, suc, _+_, _*_, _^_, _≤_, _<_}
 use native.Mathlib.Nat.{not-suc-le-zero}
-use native.Mathlib.Numerals.{add-one}
 use native.Mathlib.Omega.{arith}
 use lib.Arith.{digits-lt}
-use lib.ListN.{length, getD, take, drop, length-append, length-drop, List·getD-append}
+use lib.ListN.{length, getD, take, length-append, List·getD-append}
 use lib.Pow.{high, low, pow-add}
-use lib.Seq.{getD-at, getD-append-add, getD-take, length-take-le, ext-getD}
+use lib.Seq.{getD-append-add, getD-take, length-take-le, ext-getD}
 use lib.IntN.{ℤ, pos}
 use Rattle.refusal.specs.declared.Verdict.{Verdict}
 use Rattle.refusal.proofs.Checks.{passed-append}
+use Rattle.general.proofs.WritingLaws.{kept-length}
+use Rattle.general.proofs.ListLaws.{list-length, list-at}
 use Rattle.design.specs.declared.Design.{Design}
-use Rattle.design.specs.Cut.{bOf, sumBelow, initialCount, offsetCount, tableStart, offsetTotal, offsetPlace}
-use Rattle.design.proofs.Sums.{below-suc}
+use Rattle.design.specs.Cut.{bOf, initialCount, offsetCount, tableStart, offsetTotal, offsetPlace}
+use Rattle.general.specs.Below.{sumBelow}
+use Rattle.general.proofs.Sums.{below-suc}
 use Rattle.design.proofs.CutLaws.{Entry, place-below, entry-at}
 use Rattle.tables.specs.Inputs.{Usable}
 use Rattle.tables.specs.Entries.{initialAt, offsetAt}
@@ -22,7 +24,6 @@ use Rattle.tables.specs.Fill.{
   setChecks,
   admittedCheck,
   fillVerdict,
-  listBelow,
   initialEntries,
   tableEntries,
   offsetsBelow,
@@ -32,20 +33,6 @@ use Rattle.tables.specs.Fill.{
   Filled,
 }
 use Rattle.tables.proofs.SetLaws.{usable}
-
--- The list of f over the numbers below n has n elements, and f k at place k.
-module _ {A : Type 0} (f : ℕ → A) where
-  pub list-length : (n : ℕ) → length (listBelow n f) ≡ n
-  unfolding listBelow
-  list-length zero = refl
-  list-length (suc n) = rw (length-append, list-length n) (add-one n)
-
-  pub list-at : (n k : ℕ) (z : A) → k < n → getD (listBelow n f) k z ≡ f k
-  unfolding listBelow
-  list-at zero k z h = absurd (not-suc-le-zero h)
-  list-at (suc n) k z h =
-      below-suc h (λ last. rw last (getD-at (listBelow n f) (f n) [] z n (list-length n)))
-      (λ below. List·getD-append (listBelow n f) (f n ∷ []) z k (rw (list-length n) below) ∙ list-at n k z below)
 
 module _ (d : Design) where
   pub initial-length : length (initialEntries d) ≡ initialCount d
@@ -82,11 +69,6 @@ module _ (d : Design) where
       (rw (← offsets-length n) (getD-append-add (offsetsBelow d n) (tableEntries d n) _ z) ∙ table-at n A B z (rw last at entry)))
       (λ below. List·getD-append (offsetsBelow d n) (tableEntries d n) z _ (rw (offsets-length n) (place-below d n i A B below entry))
       ∙ offset-at n i A B z below entry)
-
--- Entries before what the table held: the table keeps its length, and begins with the entries.
-module _ {A : Type 0} (entries before : List A) (room : length entries ≤ length before) where
-  kept-length : length (entries ++ drop (length entries) before) ≡ length before
-  kept-length = simp (length-append, length-drop) (omega arith)
 
 -- "an accepted fill leaves such tables"
 module _ (d : Design) (initial : List ℕ) (offsets : List ℤ) where

@@ -1,7 +1,6 @@
 -- Laws of table sets, one file a subject.
 pub mod SetLaws
 pub mod EntryLaws
-pub mod SignedLaws
 pub mod EntryBounds
 pub mod MeaningLaws
 pub mod LookupLaws
@@ -11,4 +10,3 @@ pub mod WordLaws
 pub mod BatchLaws
 pub mod Opened
 pub mod BatchTold
-pub mod WritingLaws

@@ -23,7 +23,7 @@ use Rattle.design.specs.Cut.{
   offsetTotal,
   offsetPlace,
 }
-use Rattle.design.proofs.Sums.{sum-bounded, sum-next}
+use Rattle.general.proofs.Sums.{sum-bounded, sum-next}
 use Rattle.design.proofs.LegalLaws.{Limits, bits-end}
 use Rattle.design.proofs.CutLaws.{place-in-total, segment-word-lt, offset-word-lt}
 use Rattle.tables.specs.declared.lookups.Lookup.{Lookup}

@@ -3,14 +3,14 @@ use Rattle.design.proofs.Opened.{design-opened}
 use Rattle.tables.specs.Entries.{valueAt, endValues, initialAt, hiAt, loAt, oddNumber, magnitude, sameSign, signed, offsetOf, offsetAt}
 use Rattle.tables.specs.Meaning.{signedProduct, StandsFor}
 use Rattle.tables.specs.Lookup.{lookupOf, lookupsOf, placeAt}
-use Rattle.tables.specs.Sum.{signedSum, offsetFor, sumAt, sumOutside, wordOf, wordAt}
+use Rattle.general.specs.Below.{signedSum, listBelow}
+use Rattle.tables.specs.Sum.{offsetFor, sumAt, sumOutside, wordOf, wordAt}
 use Rattle.tables.specs.Faithful.{isFaithful}
 use Rattle.tables.specs.Fill.{
   tablesCheck,
   setChecks,
   admittedCheck,
   fillVerdict,
-  listBelow,
   initialEntries,
   tableEntries,
   offsetsBelow,

@@ -1,22 +1,19 @@
 -- The sum Y: what is known once the offsets of the first i tables are added (how it starts, goes on and ends), and of a Y in range.
-use mathlib.Core.Path.{_≡_, refl, sym, ap, _∙_}
+use mathlib.Core.Path.{_≡_, sym, ap, _∙_}
 use mathlib.Core.Bool.{false, true≢false}
 use mathlib.Core.List.{List}
 use Prim.Native.Nat.{ℕ, _+_, _*_, _^_, _≤_, _<_}
 use native.Mathlib.Omega.{arith}
-use native.Mathlib.Numerals.{add-one}
 use borrow.Author.Tests.{leb-false}
 use lib.Dec.{T, leb, ltb}
 use lib.IntN.{ℤ, pos, negsuc, natAbs, _+ℤ_, +ℤ-assoc, +ℤ-idr}
 use lib.Signed.{mag, nonNeg}
 use Rattle.refusal.proofs.Checks.{neither}
+use Rattle.general.proofs.Sums.{signed-next}
 use Rattle.design.specs.declared.Design.{Design}
 use Rattle.design.specs.Cut.{fractionBits}
-use Rattle.tables.specs.Sum.{signedSum, offsetFor, sumOutside}
-
-pub signed-next : (n : ℕ) (f : ℕ → ℤ) → signedSum (n + 1) f ≡ signedSum n f +ℤ f n
-unfolding signedSum
-signed-next n f = rw add-one refl
+use Rattle.general.specs.Below.{signedSum}
+use Rattle.tables.specs.Sum.{offsetFor, sumOutside}
 
 -- `sum` has the initial entry and the first i offsets.
 pub record Summing (d : Design) (entry : ℕ) (offsets : List ℤ) (x : ℕ) (sum : ℤ) (i : ℕ) : Type 0 where

@@ -4,11 +4,13 @@ use mathlib.Core.Bool.{not, _||_}
 use mathlib.Core.List.{List, [], _∷_, _++_}
 use Prim.Native.Nat.{ℕ, zero, suc, _/_, _%_, _^_, _≤_, _<_}
 use lib.Dec.{ltb}
-use lib.ListN.{length, getD, drop}
+use lib.ListN.{length, getD}
 use lib.IntN.{ℤ, pos}
 use Rattle.refusal.specs.declared.Cause.{Cause}
 use Rattle.refusal.specs.declared.Verdict.{Verdict}
 use Rattle.refusal.specs.Checks.{Check, _↝_, verdict}
+use Rattle.general.specs.Lists.{leaves}
+use Rattle.general.specs.Below.{listBelow}
 use Rattle.design.specs.declared.Design.{Design}
 use Rattle.design.specs.Cut.{aOf, bOf, initialCount, offsetCount, offsetTotal, offsetPlace}
 use Rattle.design.specs.Legal.{designChecks}
@@ -30,11 +32,6 @@ admittedCheck d = not (withinLimit d) ↝ Cause.NotAdmitted
 unfoldable pub fillVerdict : Design → ℕ → ℕ → Verdict
 fillVerdict d initial offsets = verdict (setChecks d initial offsets ++ admittedCheck d ∷ [])
 
--- The list of f over the numbers below n.
-unfoldable pub listBelow : {A : Type 0} → ℕ → (ℕ → A) → List A
-listBelow zero f = []
-listBelow (suc n) f = listBelow n f ++ (f n ∷ [])
-
 -- The initial entries
 unfoldable pub initialEntries : Design → List ℕ
 initialEntries d = listBelow (initialCount d) (initialAt d)
@@ -50,11 +47,6 @@ offsetsBelow d (suc n) = offsetsBelow d n ++ tableEntries d n
 
 unfoldable pub offsetEntries : Design → List ℤ
 offsetEntries d = offsetsBelow d (d .m)
-
--- "Elements beyond the set are untouched", and a refusal "leaves every buffer untouched".
-abbrev pub leaves : {A : Type 0} → Verdict → List A → List A → List A
-leaves Verdict.Passed entries before = entries ++ drop (length entries) before
-leaves (Verdict.Refused cause) entries before = before
 
 unfoldable pub initialAfter : Design → List ℕ → List ℤ → List ℕ
 initialAfter d initial offsets = leaves (fillVerdict d (length initial) (length offsets)) (initialEntries d) initial

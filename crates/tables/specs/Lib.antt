@@ -9,4 +9,3 @@ pub mod Fill
 pub mod Evaluate
 pub mod Batch
 pub mod Check
-pub mod Writing

@@ -1,17 +1,13 @@
 -- Document 01, "Evaluating and checking": the sum Y over any tables, whoever filled them, and the word.
 use mathlib.Core.Bool.{Bool, _||_}
 use mathlib.Core.List.{List}
-use Prim.Native.Nat.{ℕ, zero, suc, _+_, _/_, _^_}
+use Prim.Native.Nat.{ℕ, _+_, _/_, _^_}
 use lib.ListN.{getD}
 use lib.IntN.{ℤ, pos, _+ℤ_, natAbs}
 use lib.Signed.{ltZ, leZ}
+use Rattle.general.specs.Below.{signedSum}
 use Rattle.design.specs.declared.Design.{Design}
 use Rattle.design.specs.Cut.{fractionBits, initialWord, segmentWord, offsetWord, offsetPlace}
-
--- The sum of f over the numbers below n, of either sign.
-unfoldable pub signedSum : ℕ → (ℕ → ℤ) → ℤ
-signedSum zero f = pos 0
-signedSum (suc n) f = signedSum n f +ℤ f n
 
 -- The offset of table i that x looks up, "entry A_i·2^(b_i) + B_i"
 unfoldable pub offsetFor : Design → List ℤ → ℕ → ℕ → ℤ

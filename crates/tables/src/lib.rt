@@ -10,10 +10,10 @@ pub mod sums;
 use design::Design;
 use design::legal::design_verdict;
 use design::measure::offset_total;
+use general::pow2;
 use refusal::Cause;
 use refusal::Verdict;
 use values::OutputUnits;
-use values::floor::pow2;
 
 // What `evaluate` answers.
 pub enum Evaluated {

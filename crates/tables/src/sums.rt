@@ -9,14 +9,15 @@ ghost use Rattle.design.specs.Cut.{offsetTotal};
 ghost use Rattle.design.specs.Legal.{Legal};
 ghost use Rattle.tables.specs.Inputs.{Usable, SameInterval, Small};
 ghost use Rattle.tables.specs.Lookup.{lookupsOf, placeAt};
-ghost use Rattle.tables.specs.Sum.{signedSum, offsetFor, sumAt, sumOutside, wordOf};
+ghost use Rattle.general.specs.Below.{signedSum};
+ghost use Rattle.tables.specs.Sum.{offsetFor, sumAt, sumOutside, wordOf};
 use crate::lookups::Lookup;
 use crate::lookups::Lookups;
 use crate::lookups::place_of;
 use design::Design;
+use general::pow2;
 use values::OutputUnits;
 use values::TableUnits;
-use values::floor::pow2;
 
 // One offset more.
 fn add_offset(lookup: Lookup, sum: TableUnits, offsets: &[i32], near: u32, x: u32) -> TableUnits

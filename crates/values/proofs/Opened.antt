@@ -2,7 +2,8 @@
 use Rattle.values.specs.Rows.{rows, rowOf}
 use Rattle.values.specs.Exact.{num, den, numberSide, valueSide}
 use Rattle.values.specs.Floor.{rootFrom, scaled, floorValue}
-use Rattle.values.specs.Slopes.{segmentStart, segmentEnd, hi, lo, spread, largest, largestSpread}
+use Rattle.values.specs.Slopes.{segmentStart, segmentEnd, hi, lo, spread, largestSpread}
+use Rattle.general.specs.Below.{largest}
 use Rattle.values.specs.Widths.{widthChecks}
 use Rattle.values.specs.Value.{wordCheck, valueVerdict, valueOf}
 

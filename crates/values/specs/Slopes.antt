@@ -1,5 +1,6 @@
 -- Document 01, "Slopes and budget": the segment of a value A of the top a bits of x, and the bounds Hi and Lo of the slope on it.
-use Prim.Native.Nat.{ℕ, zero, suc, _+_, _-_, _*_, _/_, _^_, max}
+use Prim.Native.Nat.{ℕ, _+_, _-_, _*_, _/_, _^_}
+use Rattle.general.specs.Below.{largest}
 use Rattle.values.specs.declared.rows.Row.{Row}
 use Rattle.values.specs.Floor.{floorValue}
 
@@ -22,10 +23,6 @@ lo row w P e = floorValue row w P e * 65536 / (row .k * e)
 -- Hi - Lo of the segment of A
 unfoldable pub spread : Row → ℕ → ℕ → ℕ → ℕ → ℕ
 spread row w P a A = hi row w P (segmentStart w a A) - lo row w P (segmentEnd w a A)
-
-unfoldable pub largest : ℕ → (ℕ → ℕ) → ℕ
-largest zero f = 0
-largest (suc n) f = max (largest n f) (f n)
 
 -- "the largest Hi - Lo over all A_i"
 unfoldable pub largestSpread : Row → ℕ → ℕ → ℕ → ℕ

@@ -4,8 +4,8 @@ ghost use Prim.Native.Nat.{_^_, _≤_};
 ghost use Rattle.values.specs.Exact.{numberSide, valueSide};
 ghost use Rattle.values.specs.Exact as Exact;
 ghost use Rattle.values.specs.Inputs.{ExactInput, FloorInput};
-use crate::floor::pow2;
 use crate::rows::Row;
+use general::pow2;
 
 // The argument is c·X / 2^w: the exact value's k-th power is it where the function rises, and one over it where it falls.
 fn num(row: Row, w: u32, x: u64) -> u64

@@ -1,6 +1,6 @@
 // The floor value L(X).
 ghost use mathlib.Core.Path.{_≡_};
-ghost use Prim.Native.Nat.{_+_, _^_, _<_, _≤_};
+ghost use Prim.Native.Nat.{_+_};
 ghost use lib.IntN.{pos};
 ghost use Rattle.values.specs.Floor.{rootFrom, floorValue};
 ghost use Rattle.values.specs.Floor as Floor;
@@ -9,14 +9,7 @@ use crate::TableUnits;
 use crate::exact::den;
 use crate::exact::value_side;
 use crate::rows::Row;
-
-// inner: 2^n.
-pub fn pow2(n: u32) -> u64
-    requires { ⌜ n < 64 ⌝ }
-    ensures { λ r. ⌜ r ≡ 2 ^ n ⌝ }
-{
-    1 << n
-}
+use general::pow2;
 
 // The square root of the limit, rounded down, by Newton's method: a step from anywhere comes to the root or above it, and a step from
 // above comes closer. The first is taken from 2^p, so that its division is a shift.

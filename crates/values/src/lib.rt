@@ -13,7 +13,7 @@ pub mod slopes;
 pub mod widths;
 
 use floor::floor_value;
-use floor::pow2;
+use general::pow2;
 use refusal::Cause;
 use refusal::Verdict;
 use rows::row_of;

@@ -6,8 +6,8 @@ ghost use Rattle.values.specs.Slopes.{segmentStart, segmentEnd, spread, 
 ghost use Rattle.values.specs.Slopes as Slopes;
 ghost use Rattle.values.specs.Inputs.{FloorInput, SegmentInput, SlopeInput};
 use crate::floor::floor_value;
-use crate::floor::pow2;
 use crate::rows::Row;
+use general::pow2;
 
 // inner: the first X of the segment that a value of the top a bits of x names.
 pub fn segment_start(w: u32, a: u32, segment: u64) -> u64

@@ -13,9 +13,9 @@ use Rattle.refusal.proofs.Checks.{verdict-append, none-fails}
 use Rattle.design.specs.declared.Design.{Design}
 use Rattle.tables.specs.Inputs.{Usable}
 use Rattle.tables.specs.Fill.{setChecks}
-use Rattle.tables.specs.Writing.{over}
+use Rattle.general.specs.Lists.{over}
 use Rattle.tables.proofs.SetLaws.{set-passed}
-use Rattle.tables.proofs.WritingLaws.{over-start}
+use Rattle.general.proofs.WritingLaws.{over-start}
 use Rattle.encoding.specs.declared.Frame.{Frame}
 use Rattle.encoding.specs.Bytes.{bigEndian}
 use Rattle.encoding.specs.Encode.{lineOf}

@@ -17,7 +17,8 @@ use Rattle.values.specs.Inputs.{FloorInput}
 use Rattle.design.specs.declared.Design.{Design}
 use Rattle.design.specs.Cut.{row, fractionBits, initialWord}
 use Rattle.design.proofs.LegalLaws.{Limits, limits, lawful}
-use Rattle.tables.specs.Sum.{signedSum, offsetFor, sumAt, sumOutside, wordOf, wordAt}
+use Rattle.general.specs.Below.{signedSum}
+use Rattle.tables.specs.Sum.{offsetFor, sumAt, sumOutside, wordOf, wordAt}
 use Rattle.tables.specs.Faithful.{isFaithful}
 use Rattle.tables.specs.Check.{faithfulAt}
 use Rattle.tables.proofs.SumLaws.{in-range}

@@ -8,7 +8,7 @@ use Rattle.values.specs.declared.OutputUnits.{OutputUnits}
 use Rattle.tables.specs.Sum.{wordAt}
 use Rattle.tables.specs.Batch.{placeVerdict}
 use Rattle.tables.proofs.BatchLaws.{written, written-length, written-more, written-all}
-use Rattle.tables.proofs.WritingLaws.{over-none}
+use Rattle.general.proofs.WritingLaws.{over-none}
 use Rattle.evaluating.proofs.write_words.Statement.{statement}
 use Rattle.evaluating.proofs.write_words.Tie as tie
 

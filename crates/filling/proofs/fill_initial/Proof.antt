@@ -10,9 +10,10 @@ use Rattle.design.specs.Cut.{initialCount}
 use Rattle.design.proofs.LegalLaws.{limits}
 use Rattle.design.proofs.CutLaws.{initial-count-small}
 use Rattle.tables.specs.Entries.{initialAt}
-use Rattle.tables.specs.Fill.{listBelow, initialEntries}
-use Rattle.tables.specs.Writing.{over}
-use Rattle.tables.proofs.WritingLaws.{run-none, run-one}
+use Rattle.general.specs.Below.{listBelow}
+use Rattle.tables.specs.Fill.{initialEntries}
+use Rattle.general.specs.Lists.{over}
+use Rattle.general.proofs.WritingLaws.{run-none, run-one}
 use Rattle.filling.proofs.fill_initial.Statement.{statement}
 use Rattle.filling.proofs.fill_initial.Tie as tie
 

@@ -7,11 +7,11 @@ use lib.IntN.{ℤ}
 use lib.ListN.{length, length-set}
 use mir.Syntax.{w32}
 use mir.ValLaws.{toZ-ofZ}
-use Rattle.tables.specs.Fill.{listBelow}
+use Rattle.general.specs.Below.{listBelow}
 use Rattle.filling.specs.Segment.{segmentOffsets}
 use Rattle.tables.specs.Entries.{offsetOf}
-use Rattle.tables.specs.Writing.{over}
-use Rattle.tables.proofs.WritingLaws.{run-none, run-one}
+use Rattle.general.specs.Lists.{over}
+use Rattle.general.proofs.WritingLaws.{run-none, run-one}
 use Rattle.filling.proofs.fill_segment.Statement.{statement}
 use Rattle.filling.proofs.fill_segment.Tie as tie
 

@@ -6,7 +6,7 @@ use native.Mathlib.Omega.{arith}
 use borrow.Author.Needs.{needs}
 use lib.ListN.{length}
 use Rattle.tables.specs.Inputs.{Usable}
-use Rattle.tables.specs.Writing.{over}
+use Rattle.general.specs.Lists.{over}
 use Rattle.tables.proofs.SetLaws.{usable}
 use Rattle.lines.specs.Slots.{lineCount}
 use Rattle.writing.specs.Write.{writeVerdict}

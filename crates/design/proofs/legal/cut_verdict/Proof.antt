@@ -11,7 +11,8 @@ use Rattle.refusal.specs.Checks.{outside, refuses, verdict}
 use Rattle.refusal.proofs.Checks.{inside, tested}
 use Rattle.design.specs.declared.legal.TableRule.{TableRule}
 use Rattle.design.specs.Cut.{position}
-use Rattle.design.specs.Legal.{someBelow, tableBreaks, cutChecks}
+use Rattle.general.specs.Below.{someBelow}
+use Rattle.design.specs.Legal.{tableBreaks, cutChecks}
 use Rattle.design.proofs.legal.cut_verdict.Statement.{statement}
 use Rattle.design.proofs.legal.cut_verdict.Tie as tie
 

@@ -4,8 +4,9 @@ use Prim.Native.Nat.{ℕ, _+_, _*_, _-_, _^_, _≤_}
 use native.Mathlib.Omega.{arith}
 use lib.Pow.{pow-mono}
 use Rattle.design.specs.declared.Design.{Design}
-use Rattle.design.specs.Cut.{sumBelow, offsetCount, tableStart, offsetTotal}
-use Rattle.design.proofs.Sums.{sum-next}
+use Rattle.general.specs.Below.{sumBelow}
+use Rattle.design.specs.Cut.{offsetCount, tableStart, offsetTotal}
+use Rattle.general.proofs.Sums.{sum-next}
 use Rattle.design.proofs.LegalLaws.{limits}
 use Rattle.design.proofs.measure.offset_total.Statement.{statement}
 use Rattle.design.proofs.measure.offset_total.Tie as tie

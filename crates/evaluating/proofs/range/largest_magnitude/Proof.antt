@@ -9,7 +9,7 @@ use lib.IntN.{pos}
 use lib.Signed.{mag}
 use mir.Syntax.{w32}
 use mir.ValLaws.{toZ-ofZ}
-use Rattle.values.specs.Slopes.{largest}
+use Rattle.general.specs.Below.{largest}
 use Rattle.evaluating.proofs.range.largest_magnitude.Statement.{statement}
 use Rattle.evaluating.proofs.range.largest_magnitude.Tie as tie
 

@@ -5,8 +5,8 @@ use Prim.Native.Nat.{ℕ, _-_, _≤_}
 use native.Mathlib.Omega.{arith}
 use lib.ListN.{getD}
 use Rattle.refusal.specs.Checks.{outside}
-use Rattle.design.specs.Legal.{someBelow}
-use Rattle.design.proofs.Sums.{some-here, some-not-here}
+use Rattle.general.specs.Below.{someBelow}
+use Rattle.general.proofs.Sums.{some-here, some-not-here}
 use Rattle.evaluating.proofs.range.some_outside.Statement.{statement}
 use Rattle.evaluating.proofs.range.some_outside.Tie as tie
 

@@ -1,7 +1,8 @@
 -- `tables::lookups::lookups_of` meets its contract: nothing lies before the first table, and each of the others follows from the one before.
 use mathlib.Core.Path.{refl}
 use borrow.Author.Needs.{needs}
-use Rattle.design.specs.Cut.{sumBelow, position, tableStart}
+use Rattle.general.specs.Below.{sumBelow}
+use Rattle.design.specs.Cut.{position, tableStart}
 use Rattle.tables.specs.Lookup.{lookupsOf}
 use Rattle.tables.proofs.lookups.lookups_of.Statement.{statement}
 use Rattle.tables.proofs.lookups.lookups_of.Tie as tie

@@ -1,11 +1,11 @@
--- `values::floor::pow2` meets its contract: below 64 the shift loses nothing.
+-- `general::pow2` meets its contract: below 64 the shift loses nothing.
 use mathlib.Core.Path.{_∙_, ap}
 use Prim.Native.Nat.{ℕ, _%_, _^_}
 use native.Mathlib.Nat.{one-mul, mod-eq-of-lt}
 use borrow.Author.Needs.{needs}
 use lib.Pow.{pow-lt}
-use Rattle.values.proofs.floor.pow2.Statement.{statement}
-use Rattle.values.proofs.floor.pow2.Tie as tie
+use Rattle.general.proofs.pow2.Statement.{statement}
+use Rattle.general.proofs.pow2.Tie as tie
 
 shl-result : tie.Need-shl-result
 shl-result c = search needs

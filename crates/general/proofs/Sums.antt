@@ -4,12 +4,12 @@ use mathlib.Core.Bool as Bool
 use mathlib.Core.Bool.{Bool, true, false, or-true}
 use mathlib.Core.Logic.{⊎-elim}
 use Prim.Native.Nat.{ℕ, zero, suc, _+_, _*_, _≤_, _<_}
-use native.Mathlib.Nat.{eq-or-lt-of-le, le-of-suc-le-suc, not-suc-le-zero, le-trans, le-step, le-refl, le-add-right}
+use lib.IntN.{ℤ, _+ℤ_}
+use native.Mathlib.Nat.{eq-or-lt-of-le, le-of-suc-le-suc, not-suc-le-zero, le-trans, le-step, le-refl, le-add-right, le-max-left, le-max-right, max-le}
 use native.Mathlib.Numerals.{add-one}
 use native.Mathlib.Omega.{arith}
 use Rattle.refusal.proofs.Checks.{neither}
-use Rattle.design.specs.Cut.{sumBelow}
-use Rattle.design.specs.Legal.{someBelow}
+use Rattle.general.specs.Below.{sumBelow, someBelow, largest, signedSum}
 
 -- a number below suc n is n or below n
 pub below-suc {ℓ} : {n i : ℕ} {A : Type ℓ} → i < suc n → (i ≡ n → A) → (i < n → A) → A
@@ -51,3 +51,20 @@ some-not-here n test e = rw (add-one, e) (Bool.or-false (someBelow n test))
 pub sum-next : (n : ℕ) (f : ℕ → ℕ) → sumBelow (n + 1) f ≡ sumBelow n f + f n
 unfolding sumBelow
 sum-next n f = rw add-one refl
+
+pub signed-next : (n : ℕ) (f : ℕ → ℤ) → signedSum (n + 1) f ≡ signedSum n f +ℤ f n
+unfolding signedSum
+signed-next n f = rw add-one refl
+
+-- The largest of f over the numbers below n is at least each,
+pub largest-above : (n : ℕ) (f : ℕ → ℕ) (i : ℕ) → i < n → f i ≤ largest n f
+unfolding largest
+largest-above zero f i h = absurd (not-suc-le-zero h)
+largest-above (suc n) f i h =
+    below-suc h (λ at. rw at (le-max-right _ _)) (λ below. le-trans (largest-above n f i below) (le-max-left _ _))
+
+-- and no more than a bound for each.
+pub largest-bounded : (n B : ℕ) (f : ℕ → ℕ) → ((i : ℕ) → i < n → f i ≤ B) → largest n f ≤ B
+unfolding largest
+largest-bounded zero B f h = omega arith
+largest-bounded (suc n) B f h = max-le (largest-bounded n B f (λ i g. h i (le-step g))) (h n (le-refl _))

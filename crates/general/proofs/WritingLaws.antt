@@ -1,15 +1,15 @@
 -- A table while it is written: nothing yet, one entry more, a list of entries more, all that begin the table.
-use mathlib.Core.Path.{_≡_, refl, sym, ap₂, _∙_}
+use mathlib.Core.Path.{_≡_, sym, _∙_}
 use mathlib.Core.List.{List, [], _∷_, _++_, append-assoc, append-nil}
-use Prim.Native.Nat.{ℕ, zero, suc, _+_, _≤_, _<_}
-use native.Mathlib.Nat.{add-assoc, add-suc, add-zero, zero-add, le-refl, le-step}
+use Prim.Native.Nat.{ℕ, suc, _+_, _≤_, _<_}
+use native.Mathlib.Nat.{add-assoc, add-zero, zero-add}
 use native.Mathlib.Numerals.{add-one}
 use native.Mathlib.Omega.{arith}
 use lib.ListN.{length, getD, take, drop, set, length-append, length-drop, take-append-drop}
 use lib.Seq.{drop-drop, append-snoc, set-split, take-at, drop-at, take-suc, length-take-le}
-use Rattle.tables.specs.Fill.{listBelow}
-use Rattle.tables.proofs.EntryLaws.{list-length}
-use Rattle.tables.specs.Writing.{over}
+use Rattle.general.specs.Below.{listBelow}
+use Rattle.general.proofs.ListLaws.{list-length}
+use Rattle.general.specs.Lists.{over}
 
 module _ {A : Type 0} where
   pub over-none : (table : List A) (n : ℕ) → table ≡ over table n []
@@ -62,19 +62,6 @@ module _ {A : Type 0} where
       let one = over-one table 0 (take n entries) (omega arith) (getD entries n z) (omega arith) in
       rw (add-one, take-suc entries n z h) (rw (zero-add, e) at one)
 
--- The list of f over the numbers below n + k is that below n, then k more; and it goes by what f is there.
-module _ {A : Type 0} (f : ℕ → A) where
-  pub list-add : (n k : ℕ) → listBelow (n + k) f ≡ listBelow n f ++ listBelow k (λ j. f (n + j))
-  unfolding listBelow
-  list-add n zero = rw (add-zero, append-nil)
-  list-add n (suc k) = rw (add-suc, list-add n k) (append-assoc (listBelow n f) (listBelow k (λ j. f (n + j))) (f (n + k) ∷ []))
-
-  pub list-congruence : (g : ℕ → A) (n : ℕ) → ((j : ℕ) → j < n → f j ≡ g j) → listBelow n f ≡ listBelow n g
-  unfolding listBelow
-  list-congruence g zero same = refl
-  list-congruence g (suc n) same =
-      ap₂ (λ (l : List A) (v : A). l ++ (v ∷ [])) (list-congruence g n (λ j h. same j (le-step h))) (same n (le-refl _))
-
 -- The list of f over the numbers below n, written from a place on: not yet, and one entry more
 module _ {A : Type 0} (f : ℕ → A) (table : List A) (start : ℕ) where
   pub run-none : table ≡ over table start (listBelow 0 f)
@@ -92,3 +79,8 @@ module _ {A : Type 0} (f : ℕ → A) (table : List A) (start : ℕ) where
         let last : start + length (listBelow n f) < length table = rw (list-length f n) (omega arith) in
         rw (now-is, at-is, v-is, add-one)
         (rw (list-length f n) at (over-one table start (listBelow n f) (run-room (omega arith)) (f n) last))
+
+-- Entries before what the table held: the table keeps its length.
+pub kept-length : {A : Type 0} (entries before : List A) → length entries ≤ length before
+    → length (entries ++ drop (length entries) before) ≡ length before
+kept-length entries before room = simp (length-append, length-drop) (omega arith)

@@ -1,0 +1,5 @@
+-- Laws of sums, tests and lists, one file a subject.
+pub mod Sums
+pub mod ListLaws
+pub mod WritingLaws
+pub mod SignedLaws

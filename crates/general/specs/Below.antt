@@ -1,0 +1,27 @@
+-- Over the numbers below n, from 0 upwards: a sum, a sum of signed numbers, the largest, whether some pass a test, the list.
+use mathlib.Core.Bool.{Bool, false, _||_}
+use mathlib.Core.List.{List, [], _∷_, _++_}
+use Prim.Native.Nat.{ℕ, zero, suc, _+_, max}
+use lib.IntN.{ℤ, pos, _+ℤ_}
+
+unfoldable pub sumBelow : ℕ → (ℕ → ℕ) → ℕ
+sumBelow zero f = 0
+sumBelow (suc n) f = sumBelow n f + f n
+
+unfoldable pub signedSum : ℕ → (ℕ → ℤ) → ℤ
+signedSum zero f = pos 0
+signedSum (suc n) f = signedSum n f +ℤ f n
+
+-- 0 where there are none
+unfoldable pub largest : ℕ → (ℕ → ℕ) → ℕ
+largest zero f = 0
+largest (suc n) f = max (largest n f) (f n)
+
+-- Whether the test holds for some of them
+unfoldable pub someBelow : ℕ → (ℕ → Bool) → Bool
+someBelow zero test = false
+someBelow (suc n) test = someBelow n test || test n
+
+unfoldable pub listBelow : {A : Type 0} → ℕ → (ℕ → A) → List A
+listBelow zero f = []
+listBelow (suc n) f = listBelow n f ++ (f n ∷ [])

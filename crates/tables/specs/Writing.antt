@@ -1,8 +1,0 @@
--- A table while it is written.
-use mathlib.Core.List.{List, _++_}
-use Prim.Native.Nat.{ℕ, _+_}
-use lib.ListN.{length, take, drop}
-
--- The table with the entries written over it from place n on
-unfoldable pub over : {A : Type 0} → List A → ℕ → List A → List A
-over table n entries = take n table ++ entries ++ drop (n + length entries) table
