@@ -1,2 +1,3 @@
--- Laws of the check.
+-- Laws of the check, one file a subject.
+pub mod CheckLaws
 pub mod SearchLaws

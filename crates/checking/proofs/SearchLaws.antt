@@ -11,10 +11,10 @@ use Rattle.design.specs.declared.Design.{Design}
 use Rattle.design.specs.Cut.{initialWord, initialCount}
 use Rattle.design.proofs.LegalLaws.{Limits}
 use Rattle.general.proofs.Sums.{below-suc}
-use Rattle.tables.specs.declared.Checked.{Checked}
+use Rattle.checking.specs.declared.Checked.{Checked}
 use Rattle.tables.specs.Inputs.{SameInterval}
-use Rattle.tables.specs.Check.{wordsBelow, checked}
-use Rattle.tables.proofs.CheckLaws.{check-all, check-bad}
+use Rattle.checking.specs.Check.{wordsBelow, checked}
+use Rattle.checking.proofs.CheckLaws.{check-all, check-bad}
 
 -- Every word below x is faithful, and the answer says so.
 pub record Searched (test : ℕ → Bool) (answer : Checked) (x : ℕ) : Type 0 where

@@ -10,11 +10,11 @@ ghost use Rattle.design.specs.Legal.{Legal};
 ghost use Rattle.tables.specs.Inputs.{Usable, SameInterval};
 ghost use Rattle.tables.specs.Lookup.{lookupsOf};
 ghost use Rattle.tables.specs.Faithful.{isFaithful};
-ghost use Rattle.tables.specs.Check.{faithfulAt, wordsBelow, checked, checkAnswer, toldBy, checkTold};
+ghost use Rattle.checking.specs.Check.{faithfulAt, wordsBelow, checked, checkAnswer, toldBy, checkTold};
 use design::Design;
 use general::pow2;
+use refusal::Cause;
 use refusal::Verdict;
-use tables::Checked;
 use tables::lookups::Lookups;
 use tables::lookups::lookups_of;
 use tables::set_verdict;
@@ -26,6 +26,13 @@ use values::exact::number_sides;
 use values::exact::value_side;
 use values::rows::Row;
 use values::rows::row_of;
+
+// What `check` answers: faithful, or the lowest word that is not.
+pub enum Checked {
+    Faithful,
+    Unfaithful(u32),
+    Refused(Cause),
+}
 
 // Whether y ≥ 1 is strictly less than one output unit from the exact value.
 fn is_faithful(row: Row, w: u32, q: u32, x: u64, y: OutputUnits) -> bool

@@ -4,12 +4,12 @@ ghost use Rattle.set_console.specs.Reading.{HoldsEverySet};
 use console::Input;
 use console::read_byte;
 use design::Design;
+use evaluating::Evaluated;
 use evaluating::evaluate;
 use libc::STDOUT_FILENO;
 use set_console::INITIAL;
 use set_console::OFFSETS;
 use set_console::read_set;
-use tables::Evaluated;
 use word_text::ReadWord;
 use word_text::WordText;
 

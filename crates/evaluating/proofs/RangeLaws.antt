@@ -20,8 +20,8 @@ use Rattle.general.proofs.Sums.{none-below, largest-above}
 use Rattle.design.proofs.LegalLaws.{Limits}
 use Rattle.design.proofs.CutLaws.{place-in-total, segment-word-lt, offset-word-lt, initial-word-lt}
 use Rattle.tables.specs.Sum.{offsetFor, sumAt, sumOutside}
-use Rattle.tables.specs.Evaluate.{wordChecks}
-use Rattle.tables.specs.Batch.{wordsBelow, placeVerdict}
+use Rattle.evaluating.specs.Evaluate.{wordChecks}
+use Rattle.evaluating.specs.Batch.{wordsBelow, placeVerdict}
 use Rattle.evaluating.specs.Range.{SumsInRange, widthAnswer}
 
 -- n + z for an n that z cannot take below 0

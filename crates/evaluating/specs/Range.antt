@@ -8,9 +8,9 @@ use lib.IntN.{ℤ}
 use Rattle.refusal.specs.Checks.{verdict}
 use Rattle.values.specs.Value.{wordCheck}
 use Rattle.design.specs.declared.Design.{Design}
-use Rattle.tables.specs.declared.Batched.{Batched}
+use Rattle.evaluating.specs.declared.Batched.{Batched}
 use Rattle.tables.specs.Sum.{sumAt, sumOutside}
-use Rattle.tables.specs.Batch.{wordsBelow}
+use Rattle.evaluating.specs.Batch.{wordsBelow}
 
 -- Every word's sum is in range, "0 ≤ Y < 2^(P+2)".
 abbrev pub SumsInRange : Design → List ℕ → List ℤ → Type 0

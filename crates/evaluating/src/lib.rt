@@ -7,10 +7,10 @@ ghost use Rattle.refusal.specs.Checks.{verdict};
 ghost use Rattle.tables.specs.Inputs.{Usable};
 ghost use Rattle.tables.specs.Lookup.{lookupsOf};
 ghost use Rattle.tables.specs.Sum.{wordAt};
-ghost use Rattle.tables.specs.Evaluate.{wordChecks, evaluated, evaluateAnswer, evaluateTold};
-ghost use Rattle.tables.specs.Evaluate as Evaluate;
-ghost use Rattle.tables.specs.Batch.{roomVerdict, placeVerdict, wordsBelow, batchAnswer, batchTold, outputAfter};
-ghost use Rattle.tables.specs.Batch as Batch;
+ghost use Rattle.evaluating.specs.Evaluate.{wordChecks, evaluated, evaluateAnswer, evaluateTold};
+ghost use Rattle.evaluating.specs.Evaluate as Evaluate;
+ghost use Rattle.evaluating.specs.Batch.{roomVerdict, placeVerdict, wordsBelow, batchAnswer, batchTold, outputAfter};
+ghost use Rattle.evaluating.specs.Batch as Batch;
 
 mod range;
 
@@ -21,8 +21,6 @@ use range::sums_in_range;
 use range::width_answer;
 use refusal::Cause;
 use refusal::Verdict;
-use tables::Batched;
-use tables::Evaluated;
 use tables::lookups::Lookups;
 use tables::lookups::lookups_of;
 use tables::set_verdict;
@@ -30,6 +28,18 @@ use tables::sums::sum_of;
 use tables::sums::sum_outside;
 use tables::sums::word_of;
 use values::OutputUnits;
+
+// What `evaluate` answers.
+pub enum Evaluated {
+    Word(OutputUnits),
+    Refused(Cause),
+}
+
+// What `evaluate_batch` answers: how many words, or the cause and the place of the lowest bad one (0 if no word is the cause).
+pub enum Batched {
+    Count(usize),
+    Refused(Cause, usize),
+}
 
 // Refusals 12 and 13 of a word, or the word itself: one sum, m + 1 lookups.
 fn word_answer(d: Design, lookups: Lookups, initial: &[u32], offsets: &[i32], x: u32) -> Evaluated

@@ -10,12 +10,12 @@ ghost use Rattle.refusal.specs.Checks as Checks;
 ghost use Rattle.general.specs.Below.{largest, someBelow};
 ghost use Rattle.tables.specs.Inputs.{Usable};
 ghost use Rattle.evaluating.specs.Range.{SumsInRange, widthAnswer};
+use crate::Batched;
 use design::Design;
 use design::measure::offset_total;
 use general::pow2;
 use refusal::Cause;
 use refusal::outside;
-use tables::Batched;
 
 // v, or -1 - v where v is negative.
 fn magnitude(v: i32) -> u32

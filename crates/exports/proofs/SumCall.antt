@@ -12,7 +12,7 @@ use Rattle.refusal.specs.Told.{told, numberIn}
 use Rattle.refusal.proofs.Checks.{verdict-append}
 use Rattle.values.specs.Value.{wordCheck}
 use Rattle.design.specs.declared.Design.{Design}
-use Rattle.tables.specs.Fill.{setChecks}
+use Rattle.tables.specs.Set.{setChecks}
 use Rattle.tables.specs.Sum.{sumAt}
 use Rattle.exports.specs.Behind.{behind, sumVerdict, sumTold}
 

@@ -12,8 +12,8 @@ use Rattle.refusal.specs.declared.Verdict.{Verdict}
 use Rattle.design.specs.declared.Design.{Design}
 use Rattle.design.specs.Legal.{Legal}
 use Rattle.design.proofs.LegalLaws.{limits}
-use Rattle.tables.specs.declared.Checked.{Checked}
-use Rattle.tables.specs.Check.{Finding, checked, checkVerdict, checkAnswer}
+use Rattle.checking.specs.declared.Checked.{Checked}
+use Rattle.checking.specs.Check.{Finding, checked, checkVerdict, checkAnswer}
 use Rattle.tables.proofs.SetLaws.{usable}
 
 pub words-counted : (d : Design) → Legal d → cond (leb (d .w) 16) (2 ^ d .w) 0 ≡ 2 ^ d .w

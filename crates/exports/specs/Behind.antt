@@ -9,9 +9,9 @@ use Rattle.refusal.specs.Checks.{verdict}
 use Rattle.refusal.specs.Told.{Told, accepted, refused, told}
 use Rattle.values.specs.Value.{wordCheck}
 use Rattle.design.specs.declared.Design.{Design}
-use Rattle.tables.specs.Fill.{setChecks}
+use Rattle.tables.specs.Set.{setChecks}
 use Rattle.tables.specs.Sum.{sumAt}
-use Rattle.tables.specs.Check.{Finding, all-faithful, lowest-unfaithful}
+use Rattle.checking.specs.Check.{Finding, all-faithful, lowest-unfaithful}
 
 -- A value, a budget or a size, a word, a sum, the length of a line
 abbrev pub behind : {Value : Type 0} → Told Value → Value → Value

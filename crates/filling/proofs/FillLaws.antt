@@ -12,15 +12,8 @@ use Rattle.refusal.specs.Checks.{verdict}
 use Rattle.refusal.proofs.Checks.{verdict-append}
 use Rattle.design.specs.declared.Design.{Design}
 use Rattle.design.specs.Budget.{budget, limit, withinLimit}
-use Rattle.tables.specs.Fill.{
-  setChecks,
-  admittedCheck,
-  fillVerdict,
-  initialEntries,
-  offsetEntries,
-  initialAfter,
-  offsetsAfter,
-}
+use Rattle.tables.specs.Set.{setChecks}
+use Rattle.filling.specs.Fill.{admittedCheck, fillVerdict, initialEntries, offsetEntries, initialAfter, offsetsAfter}
 use Rattle.general.specs.Lists.{over}
 use Rattle.general.proofs.WritingLaws.{over-start}
 

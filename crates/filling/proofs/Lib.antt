@@ -1,4 +1,4 @@
 -- Laws of the fill, one file a subject.
-pub mod SignLaws
+pub mod EntryLaws
 pub mod TableLaws
 pub mod FillLaws

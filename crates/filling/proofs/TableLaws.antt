@@ -15,13 +15,13 @@ use Rattle.general.specs.Below.{sumBelow, listBelow}
 use Rattle.general.proofs.Sums.{sum-mono, sum-step, sum-next}
 use Rattle.design.proofs.LegalLaws.{Limits, bits-end}
 use Rattle.values.specs.Slopes.{hi}
-use Rattle.tables.specs.Entries.{offsetAt, hiAt, loAt, offsetOf}
-use Rattle.tables.specs.Fill.{tableEntries, offsetsBelow}
+use Rattle.entries.specs.Entries.{offsetAt, hiAt, loAt, offsetOf}
+use Rattle.filling.specs.Fill.{tableEntries, offsetsBelow}
 use Rattle.general.proofs.ListLaws.{list-length, list-add, list-congruence}
-use Rattle.tables.proofs.EntryLaws.{offsets-length}
-use Rattle.tables.proofs.EntryBounds.{slopes-reach}
+use Rattle.filling.proofs.EntryLaws.{offsets-length}
+use Rattle.entries.proofs.EntryBounds.{slopes-reach}
 use Rattle.filling.specs.Segment.{segmentOffsets}
-use Rattle.filling.specs.Inputs.{OffsetInput}
+use Rattle.entries.specs.Inputs.{OffsetInput}
 use Rattle.general.specs.Lists.{over}
 use Rattle.general.proofs.WritingLaws.{over-none, over-more}
 

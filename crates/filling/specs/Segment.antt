@@ -3,7 +3,7 @@ use mathlib.Core.Bool.{Bool}
 use mathlib.Core.List.{List}
 use Prim.Native.Nat.{ℕ, _^_}
 use lib.IntN.{ℤ}
-use Rattle.tables.specs.Entries.{offsetOf}
+use Rattle.entries.specs.Entries.{offsetOf}
 use Rattle.general.specs.Below.{listBelow}
 
 unfoldable pub segmentOffsets : ℕ → ℕ → ℕ → Bool → List ℤ

@@ -5,13 +5,11 @@ ghost use lib.ListN.{length};
 ghost use Rattle.refusal.specs.Numbers.{verdictNumber};
 ghost use Rattle.design.specs.Cut.{initialCount, tableStart, offsetTotal};
 ghost use Rattle.design.specs.Legal.{Legal};
-ghost use Rattle.tables.specs.Fill.{fillVerdict, initialEntries, tableEntries, offsetEntries, initialAfter, offsetsAfter};
+ghost use Rattle.filling.specs.Fill.{fillVerdict, initialEntries, tableEntries, offsetEntries, initialAfter, offsetsAfter};
 ghost use Rattle.general.specs.Lists.{over};
-ghost use Rattle.filling.specs.Inputs.{OffsetInput, TableInput};
+ghost use Rattle.entries.specs.Inputs.{OffsetInput};
+ghost use Rattle.filling.specs.Inputs.{TableInput};
 ghost use Rattle.filling.specs.Segment.{segmentOffsets};
-
-mod entries;
-
 use design::Design;
 use design::legal::pair_at;
 use design::measure::budget_of;

@@ -15,7 +15,7 @@ use Rattle.refusal.specs.declared.Verdict.{Verdict}
 use Rattle.refusal.specs.Checks.{_↝_, verdict}
 use Rattle.refusal.proofs.Checks.{after, verdict-append, neither}
 use Rattle.design.specs.declared.Design.{Design}
-use Rattle.tables.specs.Fill.{tablesCheck, setChecks}
+use Rattle.tables.specs.Set.{tablesCheck, setChecks}
 use Rattle.frames.specs.DesignFrame.{frameFails, frameChecks, frameDesign}
 use Rattle.frames.proofs.FrameLaws.{frameFails-padded, frameDesign-padded}
 use Rattle.encoding.specs.Bytes.{numberIn}

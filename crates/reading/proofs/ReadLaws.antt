@@ -10,12 +10,11 @@ use borrow.Author.Tests.{leb-true, leb-false, le-leb, lt-leb, eqb-true, eq-eqb, 
 use Rattle.refusal.specs.declared.Cause.{Cause}
 use Rattle.refusal.specs.declared.Verdict.{Verdict}
 use Rattle.refusal.specs.Checks.{Check, _↝_, verdict, passes}
-use Rattle.refusal.proofs.Checks.{neither, none-fails, passed-append}
+use Rattle.refusal.proofs.Checks.{neither, none-fails, passed-append, both}
 use Rattle.design.specs.Legal.{designVerdict}
 use Rattle.tables.specs.Inputs.{Usable}
-use Rattle.tables.specs.Fill.{tablesCheck, setChecks}
+use Rattle.tables.specs.Set.{tablesCheck, setChecks}
 use Rattle.tables.proofs.SetLaws.{usable, set-passed}
-use Rattle.tables.proofs.CheckLaws.{both}
 use Rattle.frames.specs.Hex.{bytesOf}
 use Rattle.frames.specs.Line.{lineFails, lineChecks}
 use Rattle.frames.specs.DesignFrame.{frameFails, frameDesign}

@@ -10,7 +10,7 @@ use Rattle.refusal.specs.declared.Verdict.{Verdict}
 use Rattle.refusal.specs.Checks.{Check, _↝_, verdict, passes}
 use Rattle.design.specs.declared.Design.{Design}
 use Rattle.design.specs.Legal.{designChecks, designVerdict}
-use Rattle.tables.specs.Fill.{tablesCheck}
+use Rattle.tables.specs.Set.{tablesCheck}
 use Rattle.frames.specs.Hex.{bytesOf}
 use Rattle.frames.specs.Line.{lineChecks}
 use Rattle.frames.specs.DesignFrame.{frameFails, frameDesign}

@@ -1,6 +1,6 @@
 -- A list of checks after another: a refusal of the first list stands, and a list that passes leaves the verdict to the second.
 use mathlib.Core.Path.{_≡_, refl, sym, ap, _∙_}
-use mathlib.Core.Bool.{Bool, true, false, _||_, true≢false}
+use mathlib.Core.Bool.{Bool, true, false, _||_, _&&_, true≢false}
 use mathlib.Core.List.{List, [], _∷_, _++_}
 use Prim.Native.Nat.{ℕ, _≤_}
 use native.Mathlib.Omega.{arith}
@@ -29,6 +29,13 @@ verdict-append (check ∷ checks) second =
 pub neither : (a b : Bool) → a || b ≡ false → (a ≡ false) × (b ≡ false)
 neither true b e = absurd (true≢false e)
 neither false b e = (refl, e)
+
+pub both : (a b : Bool) → a && b ≡ true → (a ≡ true) × (b ≡ true)
+both true b e = (refl, e)
+both false b e = absurd (true≢false (sym e))
+
+pub both-so : (a b : Bool) → a ≡ true → b ≡ true → a && b ≡ true
+both-so a b e f = rw (e, f) refl
 
 passed : (fails : Bool) (cause : Cause) (later : Verdict) → refuses fails cause later ≡ Verdict.Passed
     → (fails ≡ false) × (later ≡ Verdict.Passed)

@@ -11,7 +11,7 @@ use Rattle.refusal.proofs.Checks.{passed-append, none-fails}
 use Rattle.design.specs.declared.Design.{Design}
 use Rattle.design.proofs.CutLaws.{initial-count-small, offset-total-small}
 use Rattle.design.proofs.LegalLaws.{limits}
-use Rattle.tables.specs.Fill.{setChecks}
+use Rattle.tables.specs.Set.{setChecks}
 use Rattle.tables.proofs.SetLaws.{usable}
 use Rattle.lines.specs.Slots.{lineCount, slotOf}
 use Rattle.lines.specs.Lines.{entryFits, lineAt}

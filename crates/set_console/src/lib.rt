@@ -7,6 +7,7 @@ ghost use Rattle.refusal.specs.declared.Verdict.{Verdict};
 ghost use Rattle.writing.specs.Write.{writeVerdict};
 ghost use Rattle.reading.specs.ReadLine.{finished, session};
 ghost use Rattle.set_console.specs.Reading.{HoldsEverySet, Stepped, Came};
+use checking::Checked;
 use console::LineEnd;
 use design::Design;
 use design::Pair;
@@ -14,7 +15,6 @@ use libc::STDOUT_FILENO;
 use reading::Reading;
 use refusal::Cause;
 use refusal::Verdict;
-use tables::Checked;
 use writing::Written;
 use writing::write_line;
 

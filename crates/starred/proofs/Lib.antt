@@ -1,4 +1,5 @@
--- Document 01's starred examples.
+-- What is computed, then document 01's starred examples.
+pub mod Opened
 pub mod Starred
 -- Other examples.
 pub mod Worked

@@ -11,14 +11,14 @@ use Rattle.values.specs.Value.{valueOf}
 use Rattle.design.specs.declared.Pair.{Pair}
 use Rattle.design.specs.declared.Design.{Design}
 use Rattle.design.specs.Budget.{budget, limit, Admitted}
-use Rattle.tables.specs.declared.Evaluated.{Evaluated}
-use Rattle.tables.specs.Entries.{initialAt}
+use Rattle.evaluating.specs.declared.Evaluated.{Evaluated}
+use Rattle.entries.specs.Entries.{initialAt}
 use Rattle.tables.specs.Sum.{sumAt}
-use Rattle.tables.specs.Fill.{fillVerdict, initialEntries, offsetEntries}
-use Rattle.tables.specs.Evaluate.{evaluateAnswer}
-use Rattle.tables.proofs.Opened.{tables-opened}
-use Rattle.demand3.specs.Demand.{Holds}
-use Rattle.demand3.proofs.Demand3.{demand3}
+use Rattle.filling.specs.Fill.{fillVerdict, initialEntries, offsetEntries}
+use Rattle.evaluating.specs.Evaluate.{evaluateAnswer}
+use Rattle.starred.proofs.Opened.{calls-opened}
+use Rattle.error_bound.specs.ErrorBound.{Holds}
+use Rattle.error_bound.proofs.Holds.{error-bound}
 
 -- "G is kind 0, w 8, q 8, g 4, alpha 5, m 1, (3,3)", here with the guard bits and the first pair given
 abbrev G-with : ℕ → ℕ → ℕ → Design
@@ -69,7 +69,7 @@ pub record Starred : Type 0 where
   pub word-255 : evaluateAnswer G (initialEntries G) (offsetEntries G) 255 ≡ Evaluated.Word (record { 0 = 128 })
 
 pub starred : Starred
-unfolding tables-opened
+unfolding calls-opened
 starred =
     record {
       value-1 = refl;
@@ -93,4 +93,4 @@ starred =
 
 -- So demand 3 holds for G: whoever fills G's tables, every word is right.
 pub G-right : Holds G
-G-right = demand3 G (starred .G-admitted)
+G-right = error-bound G (starred .G-admitted)

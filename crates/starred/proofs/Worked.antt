@@ -16,12 +16,12 @@ use Rattle.design.specs.declared.Pair.{Pair}
 use Rattle.design.specs.declared.Design.{Design}
 use Rattle.design.specs.declared.Measured.{Measured}
 use Rattle.design.specs.Answers.{budgetAnswer, sizeAnswer}
-use Rattle.tables.specs.declared.Batched.{Batched}
-use Rattle.tables.specs.declared.Checked.{Checked}
-use Rattle.tables.specs.Fill.{initialEntries, offsetEntries}
-use Rattle.tables.specs.Batch.{batchAnswer}
-use Rattle.tables.specs.Check.{checkAnswer}
-use Rattle.tables.proofs.Opened.{tables-opened}
+use Rattle.evaluating.specs.declared.Batched.{Batched}
+use Rattle.checking.specs.declared.Checked.{Checked}
+use Rattle.filling.specs.Fill.{initialEntries, offsetEntries}
+use Rattle.evaluating.specs.Batch.{batchAnswer}
+use Rattle.checking.specs.Check.{checkAnswer}
+use Rattle.starred.proofs.Opened.{calls-opened}
 use Rattle.frames.specs.Hex as Hex
 use Rattle.general.specs.Lists as Lists
 use Rattle.frames.specs.Line as Line
@@ -144,7 +144,7 @@ pub record Worked : Type 0 where
 
 pub worked : Worked
 unfolding
-    tables-opened Hex.digitValue Hex.allDigits Hex.bytesOf Lists.total Line.sumFails Line.lineFails Line.lineChecks DesignFrame.frameFails
+    calls-opened Hex.digitValue Hex.allDigits Hex.bytesOf Lists.total Line.sumFails Line.lineFails Line.lineChecks DesignFrame.frameFails
     DesignFrame.frameChecks DesignFrame.framePair DesignFrame.frameDesign Bytes.bigEndian Bytes.complement Bytes.fits
     Encode.digitOf Encode.hexOf Encode.sumByte Encode.withSum Encode.lineOf DesignBytes.pairBytes DesignBytes.designBytes
     Slots.lineCount Slots.tableOf Slots.offsetSlot Slots.slotOf Lines.frameHead Lines.entryWidth Lines.entryNumber Lines.entryFits

@@ -13,10 +13,10 @@ use Rattle.design.specs.Cut.{aOf, bOf, row, initialCount, offsetTotal}
 use Rattle.design.specs.Legal.{Legal}
 use Rattle.design.proofs.LegalLaws.{Limits, limits}
 use Rattle.design.proofs.CutLaws.{entry-at}
-use Rattle.tables.specs.Entries.{initialAt, oddNumber, sameSign, signed, offsetOf, offsetAt}
-use Rattle.tables.specs.Fill.{fillVerdict, initialAfter, offsetsAfter, Filled}
-use Rattle.tables.proofs.EntryBounds.{initial-small, magnitude-small, slopes-reach}
-use Rattle.tables.proofs.EntryLaws as EntryLaws
+use Rattle.entries.specs.Entries.{initialAt, oddNumber, sameSign, signed, offsetOf, offsetAt}
+use Rattle.filling.specs.Fill.{fillVerdict, initialAfter, offsetsAfter, Filled}
+use Rattle.entries.proofs.EntryBounds.{initial-small, magnitude-small, slopes-reach}
+use Rattle.filling.proofs.EntryLaws as EntryLaws
 use Rattle.encoding.specs.Bytes.{fits, fitsSigned}
 use Rattle.storage.specs.Sets.{TableSet, Storable}
 

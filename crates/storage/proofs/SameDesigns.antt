@@ -24,11 +24,10 @@ use Rattle.design.specs.Same.{Same}
 use Rattle.design.specs.Legal.{tableBreaks, cutChecks, designChecks, designVerdict}
 use Rattle.design.specs.Budget.{reach, tableBudget, budget, limit, withinLimit, size}
 use Rattle.design.specs.Answers.{budgetAnswer, sizeAnswer, budgetTold, sizeTold}
-use Rattle.tables.specs.Entries.{valueAt, endValues, initialAt, hiAt, loAt, offsetAt}
+use Rattle.entries.specs.Entries.{valueAt, endValues, initialAt, hiAt, loAt, offsetAt}
 use Rattle.tables.specs.Sum.{offsetFor, sumAt, sumOutside, wordOf, wordAt}
-use Rattle.tables.specs.Fill.{
-  tablesCheck,
-  setChecks,
+use Rattle.tables.specs.Set.{tablesCheck, setChecks}
+use Rattle.filling.specs.Fill.{
   admittedCheck,
   fillVerdict,
   initialEntries,
@@ -38,9 +37,9 @@ use Rattle.tables.specs.Fill.{
   initialAfter,
   offsetsAfter,
 }
-use Rattle.tables.specs.Evaluate.{wordChecks, evaluateVerdict, evaluateAnswer, evaluateTold}
-use Rattle.tables.specs.Batch.{roomVerdict, placeVerdict, batchAnswer, batchVerdict, batchTold, outputAfter}
-use Rattle.tables.specs.Check.{faithfulAt, checkVerdict, checkAnswer, checkTold}
+use Rattle.evaluating.specs.Evaluate.{wordChecks, evaluateVerdict, evaluateAnswer, evaluateTold}
+use Rattle.evaluating.specs.Batch.{roomVerdict, placeVerdict, batchAnswer, batchVerdict, batchTold, outputAfter}
+use Rattle.checking.specs.Check.{faithfulAt, checkVerdict, checkAnswer, checkTold}
 use Rattle.encoding.specs.DesignBytes.{designBytes}
 use Rattle.lines.specs.declared.Slot.{Slot}
 use Rattle.lines.specs.Slots.{lineCount, tableOf, offsetSlot, slotOf}

@@ -10,7 +10,7 @@ use Rattle.refusal.specs.declared.Verdict.{Verdict}
 use Rattle.refusal.specs.Checks.{Check, verdict}
 use Rattle.refusal.proofs.Checks.{verdict-append, passed-append, none-fails}
 use Rattle.tables.specs.Inputs.{Usable}
-use Rattle.tables.specs.Fill.{setChecks}
+use Rattle.tables.specs.Set.{setChecks}
 use Rattle.tables.proofs.SetLaws.{set-passed, usable}
 use Rattle.lines.specs.Slots.{lineCount, slotOf}
 use Rattle.lines.specs.Lines.{entryFits, lineAt}

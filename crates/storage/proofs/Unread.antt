@@ -9,7 +9,7 @@ use borrow.Author.Tests.{le-ltb}
 use Rattle.refusal.specs.declared.Verdict.{Verdict}
 use Rattle.design.specs.declared.Design.{Design}
 use Rattle.design.specs.Same.{Same}
-use Rattle.tables.specs.Fill.{tablesCheck}
+use Rattle.tables.specs.Set.{tablesCheck}
 use Rattle.frames.specs.Hex.{bytesOf}
 use Rattle.frames.specs.DesignFrame.{framePair, frameDesign}
 use Rattle.lines.specs.Slots.{slotOf}

@@ -8,7 +8,7 @@ use Rattle.refusal.specs.declared.Verdict.{Verdict}
 use Rattle.design.specs.declared.Design.{Design}
 use Rattle.design.specs.Cut.{initialCount, offsetTotal}
 use Rattle.design.specs.Budget.{Admitted}
-use Rattle.tables.specs.Fill.{fillVerdict, initialAfter, offsetsAfter, Filled}
+use Rattle.filling.specs.Fill.{fillVerdict, initialAfter, offsetsAfter, Filled}
 use Rattle.lines.specs.Slots.{lineCount}
 use Rattle.writing.specs.declared.Written.{Written}
 use Rattle.writing.specs.Write.{writeAnswer, bufferAfter}

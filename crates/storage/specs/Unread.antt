@@ -12,10 +12,11 @@ use Rattle.design.specs.Same.{Same}
 use Rattle.design.specs.Legal.{designVerdict}
 use Rattle.design.specs.Answers.{budgetAnswer, sizeAnswer, budgetTold, sizeTold}
 use Rattle.tables.specs.Sum.{sumAt}
-use Rattle.tables.specs.Fill.{setChecks, fillVerdict, initialAfter, offsetsAfter}
-use Rattle.tables.specs.Evaluate.{evaluateAnswer, evaluateTold}
-use Rattle.tables.specs.Batch.{batchAnswer, batchTold, outputAfter}
-use Rattle.tables.specs.Check.{checkAnswer, checkTold}
+use Rattle.tables.specs.Set.{setChecks}
+use Rattle.filling.specs.Fill.{fillVerdict, initialAfter, offsetsAfter}
+use Rattle.evaluating.specs.Evaluate.{evaluateAnswer, evaluateTold}
+use Rattle.evaluating.specs.Batch.{batchAnswer, batchTold, outputAfter}
+use Rattle.checking.specs.Check.{checkAnswer, checkTold}
 use Rattle.lines.specs.Lines.{lineAt, setLines}
 use Rattle.writing.specs.Write.{writeAnswer, bufferAfter, writeTold}
 use Rattle.reading.specs.ReadLine.{finished, Session, verdictOn, after}

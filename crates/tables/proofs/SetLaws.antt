@@ -13,7 +13,7 @@ use Rattle.design.specs.declared.Design.{Design}
 use Rattle.design.specs.Cut.{initialCount, offsetTotal}
 use Rattle.design.specs.Legal.{designChecks, designVerdict, Legal}
 use Rattle.tables.specs.Inputs.{Usable}
-use Rattle.tables.specs.Fill.{tablesCheck, setChecks}
+use Rattle.tables.specs.Set.{tablesCheck, setChecks}
 
 module _ (d : Design) (initial offsets : ℕ) where
   pub set-refused : (cause : Cause) → designVerdict d ≡ Verdict.Refused cause → verdict (setChecks d initial offsets) ≡ Verdict.Refused cause

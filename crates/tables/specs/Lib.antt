@@ -1,11 +1,6 @@
--- What a reader has to believe of filled tables, sums and words, batches and the check.
-pub mod Lookup
+-- What a reader has to believe of table sets: the refusals that every call over them shares, and the sums and words that they give.
+pub mod Set
 pub mod Inputs
-pub mod Entries
-pub mod Meaning
+pub mod Lookup
 pub mod Sum
 pub mod Faithful
-pub mod Fill
-pub mod Evaluate
-pub mod Batch
-pub mod Check

@@ -1,8 +1,8 @@
-// Table sets: what the calls over them answer, and the refusals 1 to 10 that they share.
+// Table sets: the refusals 1 to 10 that the calls over them share, and the sums and words that they give.
 ghost use mathlib.Core.Path.{_≡_};
 ghost use Rattle.refusal.specs.Checks.{verdict};
 ghost use Rattle.design.specs.Legal.{Legal};
-ghost use Rattle.tables.specs.Fill.{tablesCheck, setChecks};
+ghost use Rattle.tables.specs.Set.{tablesCheck, setChecks};
 
 pub mod lookups;
 pub mod sums;
@@ -13,26 +13,6 @@ use design::measure::offset_total;
 use general::pow2;
 use refusal::Cause;
 use refusal::Verdict;
-use values::OutputUnits;
-
-// What `evaluate` answers.
-pub enum Evaluated {
-    Word(OutputUnits),
-    Refused(Cause),
-}
-
-// What `evaluate_batch` answers: how many words, or the cause and the place of the lowest bad one (0 if no word is the cause).
-pub enum Batched {
-    Count(usize),
-    Refused(Cause, usize),
-}
-
-// What `check` answers: faithful, or the lowest word that is not.
-pub enum Checked {
-    Faithful,
-    Unfaithful(u32),
-    Refused(Cause),
-}
 
 // inner: whether either table is shorter than the set, by their lengths.
 pub fn tables_short(d: Design, initial: usize, offsets: usize) -> bool

@@ -12,7 +12,7 @@ use Rattle.refusal.specs.Checks.{verdict}
 use Rattle.refusal.proofs.Checks.{verdict-append, none-fails}
 use Rattle.design.specs.declared.Design.{Design}
 use Rattle.tables.specs.Inputs.{Usable}
-use Rattle.tables.specs.Fill.{setChecks}
+use Rattle.tables.specs.Set.{setChecks}
 use Rattle.general.specs.Lists.{over}
 use Rattle.tables.proofs.SetLaws.{set-passed}
 use Rattle.general.proofs.WritingLaws.{over-start}

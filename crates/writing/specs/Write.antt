@@ -11,7 +11,7 @@ use Rattle.refusal.specs.Numbers.{numberOf}
 use Rattle.refusal.specs.Checks.{Check, _↝_, verdict}
 use Rattle.refusal.specs.Told.{Told, accepted, refused, told}
 use Rattle.design.specs.declared.Design.{Design}
-use Rattle.tables.specs.Fill.{setChecks}
+use Rattle.tables.specs.Set.{setChecks}
 use Rattle.general.specs.Lists.{leaves}
 use Rattle.lines.specs.Slots.{lineCount, slotOf}
 use Rattle.lines.specs.Lines.{entryFits, lineAt}

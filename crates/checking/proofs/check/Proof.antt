@@ -10,11 +10,11 @@ use Rattle.refusal.specs.declared.Cause.{Cause}
 use Rattle.refusal.specs.declared.Verdict.{Verdict}
 use Rattle.design.specs.declared.Design.{Design}
 use Rattle.design.proofs.LegalLaws.{limits}
-use Rattle.tables.specs.declared.Checked.{Checked}
+use Rattle.checking.specs.declared.Checked.{Checked}
 use Rattle.tables.specs.Inputs.{Usable}
-use Rattle.tables.specs.Check.{faithfulAt, wordsBelow, checked, checkVerdict, checkAnswer, toldBy, checkTold}
+use Rattle.checking.specs.Check.{faithfulAt, wordsBelow, checked, checkVerdict, checkAnswer, toldBy, checkTold}
 use Rattle.tables.proofs.SetLaws.{usable}
-use Rattle.tables.proofs.CheckLaws.{check-searches, checked-told}
+use Rattle.checking.proofs.CheckLaws.{check-searches, checked-told}
 use Rattle.checking.proofs.check.Statement.{statement}
 use Rattle.checking.proofs.check.Tie as tie
 

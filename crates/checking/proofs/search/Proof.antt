@@ -8,9 +8,9 @@ use lib.ListN.{length}
 use borrow.Author.Tests.{not-true, not-false}
 use Rattle.refusal.proofs.Checks.{tested}
 use Rattle.design.proofs.LegalLaws.{limits}
-use Rattle.tables.specs.declared.Checked.{Checked}
+use Rattle.checking.specs.declared.Checked.{Checked}
 use Rattle.tables.specs.Inputs.{SameInterval}
-use Rattle.tables.specs.Check.{faithfulAt}
+use Rattle.checking.specs.Check.{faithfulAt}
 use Rattle.checking.proofs.SearchLaws.{
   Searched,
   searched-none,

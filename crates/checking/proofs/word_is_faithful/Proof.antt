@@ -20,7 +20,7 @@ use Rattle.design.proofs.LegalLaws.{Limits, limits, lawful}
 use Rattle.general.specs.Below.{signedSum}
 use Rattle.tables.specs.Sum.{offsetFor, sumAt, sumOutside, wordOf, wordAt}
 use Rattle.tables.specs.Faithful.{isFaithful}
-use Rattle.tables.specs.Check.{faithfulAt}
+use Rattle.checking.specs.Check.{faithfulAt}
 use Rattle.tables.proofs.SumLaws.{in-range}
 use Rattle.checking.proofs.word_is_faithful.Statement.{statement}
 use Rattle.checking.proofs.word_is_faithful.Tie as tie

@@ -10,12 +10,12 @@ use Rattle.refusal.specs.declared.Verdict.{Verdict}
 use Rattle.refusal.specs.Checks.{verdict}
 use Rattle.refusal.proofs.Checks.{verdict-append}
 use Rattle.design.specs.declared.Design.{Design}
-use Rattle.tables.specs.declared.Evaluated.{Evaluated}
+use Rattle.evaluating.specs.declared.Evaluated.{Evaluated}
 use Rattle.tables.specs.Sum.{wordAt}
-use Rattle.tables.specs.Fill.{setChecks}
-use Rattle.tables.specs.Evaluate.{wordChecks, evaluated, evaluateVerdict, evaluateAnswer, toldBy, evaluateTold}
+use Rattle.tables.specs.Set.{setChecks}
+use Rattle.evaluating.specs.Evaluate.{wordChecks, evaluated, evaluateVerdict, evaluateAnswer, toldBy, evaluateTold}
 use Rattle.tables.proofs.SetLaws.{usable}
-use Rattle.tables.proofs.WordLaws.{evaluated-told}
+use Rattle.evaluating.proofs.WordLaws.{evaluated-told}
 use Rattle.evaluating.proofs.evaluate.Statement.{statement}
 use Rattle.evaluating.proofs.evaluate.Tie as tie
 

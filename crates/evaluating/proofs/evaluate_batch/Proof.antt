@@ -8,11 +8,11 @@ use lib.ListN.{length, drop, length-map}
 use Rattle.refusal.specs.declared.Cause.{Cause}
 use Rattle.refusal.specs.declared.Verdict.{Verdict}
 use Rattle.design.specs.declared.Design.{Design}
-use Rattle.tables.specs.declared.Batched.{Batched}
+use Rattle.evaluating.specs.declared.Batched.{Batched}
 use Rattle.tables.specs.Sum.{wordAt}
-use Rattle.tables.specs.Batch.{roomVerdict, wordsBelow, placeVerdict, batchAnswer, outputLeft, outputAfter, toldBy, batchTold}
-use Rattle.tables.proofs.BatchLaws.{batch-all, batch-passed, room-tells}
-use Rattle.tables.proofs.BatchTold.{batch-told}
+use Rattle.evaluating.specs.Batch.{roomVerdict, wordsBelow, placeVerdict, batchAnswer, outputLeft, outputAfter, toldBy, batchTold}
+use Rattle.evaluating.proofs.BatchLaws.{batch-all, batch-passed, room-tells}
+use Rattle.evaluating.proofs.BatchTold.{batch-told}
 use Rattle.evaluating.proofs.evaluate_batch.Statement.{statement}
 use Rattle.evaluating.proofs.evaluate_batch.Tie as tie
 

@@ -12,8 +12,8 @@ use Rattle.refusal.specs.declared.Verdict.{Verdict}
 use Rattle.refusal.specs.Checks.{verdict}
 use Rattle.refusal.proofs.Checks.{verdict-append}
 use Rattle.design.specs.declared.Design.{Design}
-use Rattle.tables.specs.Fill.{setChecks}
-use Rattle.tables.specs.Batch.{outputCheck, roomVerdict}
+use Rattle.tables.specs.Set.{setChecks}
+use Rattle.evaluating.specs.Batch.{outputCheck, roomVerdict}
 use Rattle.evaluating.proofs.room_verdict.Statement.{statement}
 use Rattle.evaluating.proofs.room_verdict.Tie as tie
 

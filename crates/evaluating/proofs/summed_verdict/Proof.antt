@@ -6,9 +6,9 @@ use borrow.Author.Count.{below-none, below-more}
 use borrow.Author.Needs.{needs}
 use lib.ListN.{length}
 use Rattle.refusal.specs.declared.Verdict.{Verdict}
-use Rattle.tables.specs.Batch.{placeVerdict}
-use Rattle.tables.proofs.BatchLaws.{batch-all, batch-bad}
-use Rattle.tables.proofs.WordLaws.{evaluated-refused, evaluated-word}
+use Rattle.evaluating.specs.Batch.{placeVerdict}
+use Rattle.evaluating.proofs.BatchLaws.{batch-all, batch-bad}
+use Rattle.evaluating.proofs.WordLaws.{evaluated-refused, evaluated-word}
 use Rattle.evaluating.proofs.summed_verdict.Statement.{statement}
 use Rattle.evaluating.proofs.summed_verdict.Tie as tie
 

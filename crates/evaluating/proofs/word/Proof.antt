@@ -1,6 +1,6 @@
 -- `evaluating::word` meets its contract: a word that passed has a sum in range.
 use Rattle.tables.specs.Sum.{wordAt}
-use Rattle.tables.proofs.WordLaws.{passed-word}
+use Rattle.evaluating.proofs.WordLaws.{passed-word}
 use Rattle.evaluating.proofs.word.Statement.{statement}
 use Rattle.evaluating.proofs.word.Tie as tie
 

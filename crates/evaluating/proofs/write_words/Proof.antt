@@ -6,8 +6,8 @@ use native.Mathlib.Omega.{arith}
 use lib.ListN.{length, set}
 use Rattle.values.specs.declared.OutputUnits.{OutputUnits}
 use Rattle.tables.specs.Sum.{wordAt}
-use Rattle.tables.specs.Batch.{placeVerdict}
-use Rattle.tables.proofs.BatchLaws.{written, written-length, written-more, written-all}
+use Rattle.evaluating.specs.Batch.{placeVerdict}
+use Rattle.evaluating.proofs.BatchLaws.{written, written-length, written-more, written-all}
 use Rattle.general.proofs.WritingLaws.{over-none}
 use Rattle.evaluating.proofs.write_words.Statement.{statement}
 use Rattle.evaluating.proofs.write_words.Tie as tie

@@ -8,7 +8,7 @@ use lib.ListN.{length}
 use Rattle.refusal.specs.declared.Verdict.{Verdict}
 use Rattle.refusal.specs.Checks.{verdict}
 use Rattle.values.specs.declared.TableUnits.{TableUnits}
-use Rattle.tables.specs.Fill.{setChecks}
+use Rattle.tables.specs.Set.{setChecks}
 use Rattle.tables.proofs.SetLaws.{usable}
 use Rattle.exports.proofs.WordCount.{words-counted}
 use Rattle.exports.proofs.SumCall.{set-refuses, word-refuses, none-refuses, by-verdict}

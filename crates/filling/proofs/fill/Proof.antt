@@ -6,7 +6,7 @@ use lib.ListN.{length}
 use Rattle.refusal.specs.declared.Verdict.{Verdict}
 use Rattle.refusal.specs.Checks.{verdict}
 use Rattle.tables.specs.Inputs.{Usable}
-use Rattle.tables.specs.Fill.{setChecks}
+use Rattle.tables.specs.Set.{setChecks}
 use Rattle.tables.proofs.SetLaws.{usable}
 use Rattle.filling.proofs.FillLaws.{refused-before, not-admitted, admitted, refuses, fills}
 use Rattle.filling.proofs.fill.Statement.{statement}

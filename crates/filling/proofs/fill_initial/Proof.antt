@@ -9,9 +9,9 @@ use Rattle.design.specs.declared.Design.{Design}
 use Rattle.design.specs.Cut.{initialCount}
 use Rattle.design.proofs.LegalLaws.{limits}
 use Rattle.design.proofs.CutLaws.{initial-count-small}
-use Rattle.tables.specs.Entries.{initialAt}
+use Rattle.entries.specs.Entries.{initialAt}
 use Rattle.general.specs.Below.{listBelow}
-use Rattle.tables.specs.Fill.{initialEntries}
+use Rattle.filling.specs.Fill.{initialEntries}
 use Rattle.general.specs.Lists.{over}
 use Rattle.general.proofs.WritingLaws.{run-none, run-one}
 use Rattle.filling.proofs.fill_initial.Statement.{statement}

@@ -4,7 +4,7 @@ use Prim.Native.Nat.{_-_, _≤_, _<_}
 use native.Mathlib.Omega.{arith}
 use Rattle.design.specs.declared.Pair.{Pair}
 use Rattle.design.proofs.LegalLaws.{limits, bits-end}
-use Rattle.tables.specs.Fill.{offsetEntries}
+use Rattle.filling.specs.Fill.{offsetEntries}
 use Rattle.filling.proofs.TableLaws.{Tables, tables-start, tables-next, table-room}
 use Rattle.filling.proofs.fill_offsets.Statement.{statement}
 use Rattle.filling.proofs.fill_offsets.Tie as tie

@@ -9,7 +9,7 @@ use mir.Syntax.{w32}
 use mir.ValLaws.{toZ-ofZ}
 use Rattle.general.specs.Below.{listBelow}
 use Rattle.filling.specs.Segment.{segmentOffsets}
-use Rattle.tables.specs.Entries.{offsetOf}
+use Rattle.entries.specs.Entries.{offsetOf}
 use Rattle.general.specs.Lists.{over}
 use Rattle.general.proofs.WritingLaws.{run-none, run-one}
 use Rattle.filling.proofs.fill_segment.Statement.{statement}

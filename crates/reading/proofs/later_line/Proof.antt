@@ -10,7 +10,7 @@ use lib.ListN.{length}
 use Rattle.refusal.proofs.Checks.{tested}
 use Rattle.design.specs.declared.Design.{Design}
 use Rattle.design.specs.Legal.{Legal}
-use Rattle.tables.specs.Fill.{tablesCheck}
+use Rattle.tables.specs.Set.{tablesCheck}
 use Rattle.tables.proofs.SetLaws.{usable, set-lengths}
 use Rattle.encoding.specs.declared.Frame.{Frame}
 use Rattle.encoding.specs.Inputs.{held}

@@ -1,7 +1,7 @@
 -- `evaluating::range::width_answer` meets its contract: every word before the present one has w bits, so the first that has more is the
 -- lowest.
 use mathlib.Core.Path.{_≡_, sym}
-use mathlib.Core.List.{List, [], _∷_}
+use mathlib.Core.List.{[], _∷_}
 use Prim.Native.Nat.{ℕ, _-_, _^_, _≤_, _<_}
 use native.Mathlib.Omega.{arith}
 use borrow.Author.Count.{below-none, below-more}
@@ -11,7 +11,7 @@ use Rattle.refusal.specs.declared.Cause.{Cause}
 use Rattle.refusal.specs.declared.Verdict.{Verdict}
 use Rattle.refusal.specs.Checks.{verdict}
 use Rattle.values.specs.Value.{wordCheck}
-use Rattle.tables.proofs.BatchLaws.{batch-all, batch-bad}
+use Rattle.evaluating.proofs.BatchLaws.{batch-all, batch-bad}
 use Rattle.evaluating.specs.Range.{widthAnswer}
 use Rattle.evaluating.proofs.range.width_answer.Statement.{statement}
 use Rattle.evaluating.proofs.range.width_answer.Tie as tie

@@ -1,0 +1,5 @@
+-- Laws of the entries, one file a subject.
+pub mod SignLaws
+pub mod MeaningLaws
+pub mod EntryBounds
+pub mod Opened

@@ -1,0 +1,4 @@
+-- What a reader has to believe of the entries that the fill writes.
+pub mod Entries
+pub mod Meaning
+pub mod Inputs

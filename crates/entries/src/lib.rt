@@ -1,0 +1,97 @@
+// What the fill writes, entry by entry: document 01, "Filling".
+ghost use mathlib.Core.Path.{_≡_};
+ghost use Prim.Native.Nat.{_+_, _^_, _<_};
+ghost use lib.IntN.{natAbs};
+ghost use Rattle.values.specs.Inputs.{InRange};
+ghost use Rattle.design.specs.Cut.{aOf, initialCount};
+ghost use Rattle.design.specs.Cut as Cut;
+ghost use Rattle.design.specs.Legal.{Legal};
+ghost use Rattle.entries.specs.Entries.{valueAt, initialAt, hiAt, loAt, oddNumber, signed, offsetOf};
+ghost use Rattle.entries.specs.Meaning.{Meaning};
+ghost use Rattle.entries.specs.Inputs.{OffsetInput};
+use design::Design;
+use design::legal::pair_at;
+use general::pow2;
+use values::floor::floor_value;
+use values::rows::Row;
+use values::rows::row_of;
+use values::slopes::hi;
+use values::slopes::lo;
+use values::slopes::segment_end;
+use values::slopes::segment_start;
+
+// L(X), for the kind and widths of a legal design.
+fn value_at(d: Design, row: Row, x: u64) -> u64
+    requires { ⌜ Legal d ⌝ }
+    requires { ⌜ (row ≡ Cut.row d) × InRange (d .w) x ⌝ }
+    ensures { λ r. ⌜ (r ≡ valueAt d x) × (r < 2 ^ 21) ⌝ }
+{
+    floor_value(row, d.w, d.q + d.g, x).count()
+}
+
+// The initial entry of A = word.
+pub fn initial_at(d: Design, row: Row, word: u64) -> u32
+    requires { ⌜ Legal d ⌝ }
+    requires { ⌜ (row ≡ Cut.row d) × (word < initialCount d) ⌝ }
+    ensures { λ r. ⌜ r ≡ initialAt d word ⌝ }
+{
+    let start = segment_start(d.w, d.alpha, word);
+    let end = segment_end(d.w, d.alpha, word);
+    let values = value_at(d, row, start) + value_at(d, row, end);
+    ((values + 1 + d.m as u64) / 2 + pow2(d.g - 1)) as u32
+}
+
+// Hi + Lo of a segment of table i.
+pub fn slope_sum(d: Design, i: u32, segment: u64) -> u64
+    requires { ⌜ Legal d ⌝ }
+    requires { ⌜ (i < d .m) × (segment < 2 ^ aOf d i) ⌝ }
+    ensures { λ r. ⌜ r ≡ hiAt d i segment + loAt d i segment ⌝ }
+{
+    let a = pair_at(d, i).a;
+    let row = row_of(d.kind);
+    let p = d.q + d.g;
+    let start = segment_start(d.w, a, segment);
+    let end = segment_end(d.w, a, segment);
+    hi(row, d.w, p, start) + lo(row, d.w, p, end)
+}
+
+// j, an odd number of either sign.
+fn odd_number(b: u32, word: u64) -> i64
+    requires { ⌜ (b < 32) × (word < 2 ^ b) ⌝ }
+    ensures { λ r. ⌜ r ≡ oddNumber b word ⌝ }
+{
+    (2 * word + 1) as i64 - pow2(b) as i64
+}
+
+// |j|.
+fn absolute(j: i64) -> u64
+    requires { ⌜ natAbs j < 2 ^ 32 ⌝ }
+    ensures { λ r. ⌜ r ≡ natAbs j ⌝ }
+{
+    if 0 <= j { j as u64 } else { -j as u64 }
+}
+
+// T where j has the function's sign, and -1 - T where it has the other.
+fn with_sign(rising: bool, j: i64, t: u64) -> i32
+    requires { ⌜ t < 2 ^ 31 ⌝ }
+    ensures { λ r. ⌜ r ≡ signed rising j t ⌝ }
+{
+    let count = t as i32;
+    if (0 <= j) == rising {
+        count
+    } else {
+        -1 - count
+    }
+}
+
+// The offset of B = word, by Hi + Lo of its segment, b and p of its table, and the function's sign, and what it means.
+pub fn offset_of(slopes: u64, b: u32, p: u32, rising: bool, word: u64) -> i32
+    requires { ⌜ OffsetInput slopes b p ⌝ }
+    requires { ⌜ word < 2 ^ b ⌝ }
+    ensures { λ r. ⌜ r ≡ offsetOf slopes b p rising word ⌝ }
+    ensures { λ r. ⌜ Meaning slopes b p rising word r ⌝ }
+{
+    let j = odd_number(b, word);
+    let t = slopes * absolute(j) * pow2(p) / (1 << 18);
+    with_sign(rising, j, t)
+}

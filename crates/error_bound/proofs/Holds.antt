@@ -1,0 +1,205 @@
+-- Demand 3, whole: every admitted design, all filled tables, every input word.
+use mathlib.Core.Path.{_≡_, refl, sym, ap₂, _∙_}
+use mathlib.Core.Bool.{false}
+use mathlib.Core.List.{List, [], _∷_, _++_, map}
+use Prim.Native.Nat.{ℕ, zero, suc, _+_, _-_, _*_, _/_, _^_, _≤_, _<_}
+use native.Mathlib.Nat.{le-refl, le-step, le-of-suc-le-suc, not-suc-le-zero}
+use native.Mathlib.Omega.{arith}
+use lib.ListN.{length, getD, drop, length-map, List·getD-append}
+use lib.IntN.{ℤ, pos, _+ℤ_}
+use lib.Pow.{pow-add}
+use borrow.Author.Tests.{le-ltb, lt-leb}
+use Rattle.refusal.specs.declared.Verdict.{Verdict}
+use Rattle.refusal.specs.Checks.{verdict}
+use Rattle.refusal.proofs.Checks.{verdict-append}
+use Rattle.values.specs.Inputs.{InRange}
+use Rattle.values.specs.Value.{wordCheck}
+use Rattle.values.proofs.ExactLaws.{value-low}
+use Rattle.design.specs.declared.Design.{Design}
+use Rattle.design.specs.Cut.{row, fractionBits, initialWord, segmentWord, offsetWord}
+use Rattle.general.specs.Below.{sumBelow, signedSum}
+use Rattle.design.specs.Budget.{budget, limit, Admitted}
+use Rattle.design.proofs.LegalLaws.{Limits, limits, lawful}
+use Rattle.design.proofs.CutLaws.{initial-word-lt, segment-word-lt, offset-word-lt}
+use Rattle.evaluating.specs.declared.Evaluated.{Evaluated}
+use Rattle.evaluating.specs.declared.Batched.{Batched}
+use Rattle.checking.specs.declared.Checked.{Checked}
+use Rattle.tables.specs.Inputs.{Usable}
+use Rattle.entries.specs.Entries.{initialAt}
+use Rattle.tables.specs.Sum.{offsetFor, sumAt, sumOutside, wordOf, wordAt}
+use Rattle.tables.specs.Set.{setChecks}
+use Rattle.filling.specs.Fill.{Filled}
+use Rattle.evaluating.specs.Evaluate.{wordChecks, evaluateVerdict, evaluateAnswer}
+use Rattle.evaluating.specs.Batch.{outputCheck, roomVerdict, placeVerdict, batchAnswer, outputAfter}
+use Rattle.checking.specs.Check.{checkVerdict, checkAnswer}
+use Rattle.error_bound.specs.ErrorBound.{margin, scaledWord, WordHolds, BatchHolds, ErrorBound}
+use Rattle.tables.proofs.SetLaws.{set-passed}
+use Rattle.error_bound.proofs.Totals.{added, taken, total-balance, not-negative}
+use Rattle.error_bound.proofs.SumBound.{offsetFrom, sum-low, sum-high}
+use Rattle.error_bound.proofs.WordBound.{Near, GoodWord, sum-in-range, good-word}
+use Rattle.error_bound.proofs.Said.{said}
+use Rattle.filling.proofs.EntryLaws as EntryLaws
+use Rattle.evaluating.proofs.BatchLaws.{batch-all}
+use Rattle.checking.proofs.CheckLaws.{check-means}
+
+signed-congruence : (n : ℕ) (f g : ℕ → ℤ) → ((i : ℕ) → i < n → f i ≡ g i) → signedSum n f ≡ signedSum n g
+unfolding signedSum
+signed-congruence zero f g same = refl
+signed-congruence (suc n) f g same = ap₂ _+ℤ_ (signed-congruence n f g (λ i h. same i (le-step h))) (same n (le-refl _))
+
+map-at : (f : ℕ → ℕ) (l : List ℕ) (n : ℕ) → n < length l → getD (map f l) n 0 ≡ f (getD l n 0)
+map-at f [] n h = absurd (not-suc-le-zero h)
+map-at f (a ∷ l) zero h = refl
+map-at f (a ∷ l) (suc n) h = map-at f l n (le-of-suc-le-suc h)
+
+usable-set : (d : Design) → Admitted d → (initial : List ℕ) (offsets : List ℤ) → Filled d initial offsets
+    → Usable d (length initial) (length offsets)
+usable-set d admitted initial offsets filled =
+    record { legal = admitted .legal; initial-long = filled .initial-long; offsets-long = filled .offsets-long }
+
+module _ (d : Design) (admitted : Admitted d) (x : ℕ) (x-lt : x < 2 ^ d .w) where
+  l : Limits d
+  l = limits d (admitted .legal)
+
+  range : InRange (d .w) (2 ^ d .w + x)
+  range = record { low = omega arith; high = omega arith }
+
+  -- what is added and what is taken, all together
+  abbrev plus : ℕ
+  plus = initialAt d (initialWord d x) + sumBelow (d .m) (λ i. added (offsetFrom d x i))
+
+  abbrev minus : ℕ
+  minus = sumBelow (d .m) (λ i. taken (offsetFrom d x i))
+
+  half-is : 2 ^ 18 * 2 ^ (d .g - 1) ≡ 2 ^ (d .g + 17)
+  half-is = let e : 18 + (d .g - 1) ≡ d .g + 17 = omega (arith, l .widths .g-low) in sym (pow-add 2 18 (d .g - 1)) ∙ rw e refl
+
+  within : budget d < 2 ^ (d .g + 17)
+  unfolding limit
+  within = admitted .within
+
+  -- more is added than taken, so the sum is a natural number
+  less-taken : minus ≤ plus
+  less-taken =
+      let e : fractionBits d + 17 + 1 ≡ fractionBits d + 18 = omega arith in
+      omega (
+        arith,
+        within,
+        half-is,
+        sum-high d l x x-lt (2 ^ (fractionBits d + 17))
+            (rw e at (value-low (row d) (lawful d l) (d .w) (2 ^ d .w + x) range (fractionBits d + 17))),
+      )
+
+  pub near : Near (row d) (d .w) (fractionBits d) (2 ^ d .w + x) (plus - minus) (2 ^ (d .g + 17)) (budget d)
+  near =
+      record {
+        low = λ n h. omega (arith, less-taken, half-is, sum-low d l x x-lt n h);
+        high = λ n h. omega (arith, less-taken, half-is, sum-high d l x x-lt n h);
+      }
+
+  module _ (initial : List ℕ) (offsets : List ℤ) (filled : Filled d initial offsets) where
+    offset-read : (i : ℕ) → i < d .m → offsetFor d offsets x i ≡ offsetFrom d x i
+    unfolding offsetFor offsetFrom
+    offset-read i h =
+        filled .offset-entry i (segmentWord d i x) (offsetWord d i x) h (segment-word-lt d l i x h x-lt) (offset-word-lt d i x)
+
+    pub sum-is : sumAt d initial offsets x ≡ pos (plus - minus)
+    unfolding sumAt
+    sum-is =
+        rw (
+          filled .initial-entry (initialWord d x) (initial-word-lt d l x x-lt),
+          signed-congruence (d .m) (offsetFor d offsets x) (offsetFrom d x) offset-read,
+        )
+        (not-negative _ plus minus (total-balance (initialAt d (initialWord d x)) (d .m) (offsetFrom d x)) less-taken)
+
+    pub word-is : wordAt d initial offsets x ≡ (plus - minus) / 2 ^ d .g
+    unfolding wordAt wordOf
+    word-is = rw sum-is refl
+
+    in-range : plus - minus < 2 ^ (fractionBits d + 2)
+    in-range =
+        sum-in-range (row d) (lawful d l) (d .w) (d .q) (d .g) (2 ^ d .w + x) (plus - minus) (budget d) range near within
+
+    pub not-outside : sumOutside d (sumAt d initial offsets x) ≡ false
+    unfolding sumOutside
+    not-outside = rw (sum-is, le-ltb (plus - minus) 0 (omega arith), lt-leb _ _ in-range)
+
+    pub passes : verdict (wordChecks d initial offsets x) ≡ Verdict.Passed
+    unfolding wordChecks wordCheck
+    passes = rw (lt-leb _ _ x-lt, not-outside)
+
+    alone : evaluateAnswer d initial offsets x ≡ Evaluated.Word (record { 0 = wordAt d initial offsets x })
+    unfolding evaluateAnswer evaluateVerdict
+    alone = rw (verdict-append, set-passed d _ _ (usable-set d admitted initial offsets filled), passes)
+
+    good : GoodWord (row d) (d .w) (d .q) (d .g) (2 ^ d .w + x) (wordAt d initial offsets x) (budget d)
+    good =
+        rw word-is
+        (good-word (row d) (lawful d l) (d .w) (d .q) (d .g) (2 ^ d .w + x) (plus - minus) (budget d) range near within
+        (omega (arith, l .widths .q-low)))
+
+    pub word3 : WordHolds d initial offsets x
+    unfolding margin scaledWord
+    word3 =
+        record {
+          Y = plus - minus;
+          sum = sum-is;
+          in-range = in-range;
+          word = word-is;
+          alone = alone;
+          faithful = good .faithful;
+          bound = record { above-zero = good .above-zero; low = good .low; high = good .high };
+          faithful-said = said _<_ (d .w) (d .q) (2 ^ d .w + x) _ _ (d .kind) (good .faithful .low, good .faithful .high);
+          bound-said = said _≤_ (d .w) (fractionBits d + 18) (2 ^ d .w + x) _ _ (d .kind) (good .low, good .high);
+        }
+
+module _ (d : Design) (admitted : Admitted d) (initial : List ℕ) (offsets : List ℤ) (filled : Filled d initial offsets) where
+  set-passes : verdict (setChecks d (length initial) (length offsets)) ≡ Verdict.Passed
+  set-passes = set-passed d _ _ (usable-set d admitted initial offsets filled)
+
+  check3 : checkAnswer d initial offsets ≡ Checked.Faithful
+  unfolding checkVerdict
+  check3 =
+      check-means d initial offsets set-passes .is-faithful
+      (λ x h. record {
+        has-word = not-outside d admitted x h initial offsets filled;
+        faithful = word3 d admitted x h initial offsets filled .faithful;
+      })
+
+  module _ (words output : List ℕ) (in-range : (n : ℕ) → n < length words → getD words n 0 < 2 ^ d .w)
+      (room : length words ≤ length output) where
+    place-passes : (n : ℕ) → n < length words → placeVerdict d initial offsets words n ≡ Verdict.Passed
+    unfolding placeVerdict
+    place-passes n h = passes d admitted (getD words n 0) (in-range n h) initial offsets filled
+
+    accepted : batchAnswer d initial offsets words (length output) ≡ Batched.Count (length words)
+    unfolding batchAnswer roomVerdict outputCheck
+    accepted =
+        rw (verdict-append, set-passes, le-ltb _ _ room)
+        (batch-all (length words) (placeVerdict d initial offsets words) place-passes)
+
+    -- what an accepted batch leaves
+    output-is : outputAfter d initial offsets words output ≡ map (wordAt d initial offsets) words ++ drop (length words) output
+    unfolding outputAfter
+    output-is = rw (accepted, length-map words (wordAt d initial offsets)) refl
+
+    batch3 : BatchHolds d initial offsets words output
+    batch3 =
+        record {
+          accepted = accepted;
+          contents = output-is;
+          at-place = λ n h.
+              rw output-is
+              (List·getD-append (map (wordAt d initial offsets) words) _ 0 n (rw (length-map words (wordAt d initial offsets)) h)
+              ∙ map-at (wordAt d initial offsets) words n h);
+        }
+
+-- The whole of it
+pub error-bound : ErrorBound
+error-bound d admitted =
+    record {
+      each-word = λ initial offsets filled x h. word3 d admitted x h initial offsets filled;
+      each-batch = batch3 d admitted;
+      check = check3 d admitted;
+      fill = EntryLaws.filled d;
+    }

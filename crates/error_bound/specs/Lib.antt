@@ -1,0 +1,2 @@
+-- What a reader has to believe of the error bound, demand 3.
+pub mod ErrorBound

@@ -1,0 +1,36 @@
+-- To unfold `calls-opened` is to unfold every definition that the calls over a set promise by: the fill, the evaluation and the check.
+use Rattle.general.specs.Below.{listBelow}
+use Rattle.entries.proofs.Opened.{entries-opened}
+use Rattle.tables.proofs.Opened.{tables-opened}
+use Rattle.filling.specs.Fill.{
+  admittedCheck,
+  fillVerdict,
+  initialEntries,
+  tableEntries,
+  offsetsBelow,
+  offsetEntries,
+  initialAfter,
+  offsetsAfter,
+}
+use Rattle.evaluating.specs.Evaluate.{wordChecks, evaluateVerdict, evaluateAnswer, evaluateTold}
+use Rattle.evaluating.specs.Batch.{
+  outputCheck,
+  roomVerdict,
+  wordsBelow,
+  placeVerdict,
+  batchAnswer,
+  checksBelow,
+  batchVerdict,
+  outputAfter,
+  passing,
+  batchTold,
+}
+use Rattle.checking.specs.Check as Check
+use Rattle.checking.specs.Check.{faithfulAt, checkVerdict, checkAnswer, checkTold}
+
+unfoldable pub calls-opened : Unit {0}
+unfolding
+    entries-opened tables-opened admittedCheck fillVerdict listBelow initialEntries tableEntries offsetsBelow offsetEntries initialAfter
+    offsetsAfter wordChecks evaluateVerdict evaluateAnswer evaluateTold outputCheck roomVerdict wordsBelow placeVerdict batchAnswer
+    checksBelow batchVerdict outputAfter passing batchTold faithfulAt Check.wordsBelow checkVerdict checkAnswer checkTold
+calls-opened = tt
