@@ -8,7 +8,8 @@ use native.Mathlib.Omega.{arith}
 use lib.Pow.{high, pow-add, pow-mono}
 use Rattle.refusal.specs.declared.Verdict.{Verdict}
 use Rattle.design.specs.declared.Design.{Design}
-use Rattle.design.specs.Cut.{initialWord, initialCount}
+use Rattle.design.specs.Cut.{initialWord}
+use Rattle.design.specs.Stored.{initialCount}
 use Rattle.design.proofs.LegalLaws.{Limits}
 use Rattle.general.proofs.Sums.{below-suc}
 use Rattle.checking.specs.declared.Checked.{Checked}

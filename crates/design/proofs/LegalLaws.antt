@@ -5,6 +5,7 @@ use Prim.Native.Nat.{ℕ, _+_, _-_, _≤_, _<_}
 use native.Mathlib.Omega.{arith}
 use borrow.Author.Tests.{ltb-false, leb-false, eqb-true, not-false}
 use Rattle.refusal.proofs.Checks.{passed-append, none-fails, neither, inside}
+use Rattle.design.specs.Limits.{leastInitialBits, mostInitialBits, mostTables, mostOffsetBits, mostTableBits}
 use Rattle.values.specs.Rows.{Lawful}
 use Rattle.values.specs.Inputs.{SlopeInput}
 use Rattle.values.specs.Widths.{widthChecks}
@@ -20,16 +21,16 @@ pub record Within (d : Design) (i : ℕ) : Type 0 where
   pub a-low : 1 ≤ aOf d i
   pub a-high : aOf d i ≤ d .alpha
   pub b-low : 1 ≤ bOf d i
-  pub b-high : bOf d i ≤ 8
-  pub sum-high : aOf d i + bOf d i ≤ 12
+  pub b-high : bOf d i ≤ mostOffsetBits
+  pub sum-high : aOf d i + bOf d i ≤ mostTableBits
 
 pub record Limits (d : Design) : Type 0 where
   pub widths : Widths (d .kind) (d .w) (d .q) (d .g)
-  pub alpha-low : 2 ≤ d .alpha
-  pub alpha-high : d .alpha ≤ 13
+  pub alpha-low : leastInitialBits ≤ d .alpha
+  pub alpha-high : d .alpha ≤ mostInitialBits
   pub alpha-below : d .alpha < d .w
   pub m-low : 1 ≤ d .m
-  pub m-high : d .m ≤ 4
+  pub m-high : d .m ≤ mostTables
   pub table : (i : ℕ) → i < d .m → Within d i
   pub cut : position d (d .m) ≡ d .w - d .alpha
 
@@ -39,13 +40,13 @@ module _ (d : Design) where
   within i segment offset =
       let a = inside 1 (d .alpha) (aOf d i) segment in
       let parts = neither _ _ offset in
-      let b = inside 1 8 (bOf d i) (parts .0) in
+      let b = inside 1 mostOffsetBits (bOf d i) (parts .0) in
       record {
         a-low = a .0;
         a-high = a .1;
         b-low = b .0;
         b-high = b .1;
-        sum-high = ltb-false 12 (aOf d i + bOf d i) (parts .1);
+        sum-high = ltb-false mostTableBits (aOf d i + bOf d i) (parts .1);
       }
 
   pub limits : Legal d → Limits d
@@ -56,11 +57,11 @@ module _ (d : Design) where
       let alpha = neither _ _ (p .0) in
       record {
         widths = widths-of (d .kind) (d .w) (d .q) (d .g) (lists .0);
-        alpha-low = inside 2 13 (d .alpha) (alpha .0) .0;
-        alpha-high = inside 2 13 (d .alpha) (alpha .0) .1;
+        alpha-low = inside leastInitialBits mostInitialBits (d .alpha) (alpha .0) .0;
+        alpha-high = inside leastInitialBits mostInitialBits (d .alpha) (alpha .0) .1;
         alpha-below = leb-false (d .w) (d .alpha) (alpha .1);
-        m-low = inside 1 4 (d .m) (p .1 .0) .0;
-        m-high = inside 1 4 (d .m) (p .1 .0) .1;
+        m-low = inside 1 mostTables (d .m) (p .1 .0) .0;
+        m-high = inside 1 mostTables (d .m) (p .1 .0) .1;
         table = λ i h. within i (none-below (d .m) (tableBreaks TableRule.SegmentBits d) (p .1 .1 .0) i h)
             (none-below (d .m) (tableBreaks TableRule.OffsetBits d) (p .1 .1 .1 .0) i h);
         cut = eqb-true _ _ (not-false _ (p .1 .1 .1 .1 .0));

@@ -1,5 +1,6 @@
 -- Laws of designs, one file a subject.
 pub mod LegalLaws
 pub mod CutLaws
+pub mod StoredLaws
 pub mod BudgetLaws
 pub mod Opened

@@ -1,17 +1,17 @@
 -- To unfold `design-opened` is to unfold every definition of this crate and of the values.
 use Rattle.values.proofs.Opened.{values-opened}
-use Rattle.design.specs.Cut.{
-  tables,
-  pairAt,
-  position,
-  initialWord,
-  segmentWord,
-  offsetWord,
+use Rattle.design.specs.Cut.{tables, pairAt, position, initialWord, segmentWord, offsetWord}
+use Rattle.design.specs.Stored.{
   initialCount,
   offsetCount,
   tableStart,
   offsetTotal,
   offsetPlace,
+  storedCount,
+  storedIndex,
+  offsetFrom,
+  storedWord,
+  storedPlace,
 }
 use Rattle.general.specs.Below.{sumBelow, someBelow}
 use Rattle.design.specs.Legal.{breaks, tableBreaks, cutChecks, designChecks, designVerdict}
@@ -20,7 +20,8 @@ use Rattle.design.specs.Answers.{budgetAnswer, sizeAnswer}
 
 unfoldable pub design-opened : Unit {0}
 unfolding
-    values-opened tables pairAt sumBelow position initialWord segmentWord offsetWord initialCount offsetCount tableStart offsetTotal
+    values-opened tables pairAt sumBelow position initialWord segmentWord offsetWord initialCount storedCount storedIndex offsetFrom
+    storedWord offsetCount tableStart offsetTotal storedPlace
     offsetPlace someBelow breaks tableBreaks cutChecks designChecks designVerdict reach tableBudget budget limit withinLimit
     size budgetAnswer sizeAnswer
 design-opened = tt

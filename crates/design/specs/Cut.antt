@@ -1,6 +1,6 @@
--- Document 01, "A design": where words and tables lie.
+-- Document 01, "A design": how an input word is cut up.
 use mathlib.Core.List.{List}
-use Prim.Native.Nat.{ℕ, _+_, _-_, _*_, _/_, _%_, _^_}
+use Prim.Native.Nat.{ℕ, _+_, _-_, _/_, _%_, _^_}
 use lib.ListN.{getD, take}
 use Rattle.general.specs.Below.{sumBelow}
 use Rattle.values.specs.declared.rows.Row.{Row}
@@ -12,8 +12,12 @@ use Rattle.design.specs.declared.Design.{Design}
 unfoldable pub tables : Design → List Pair
 tables d = take (d .m) (d .pairs)
 
+-- A pair of no bits, which stands where there is none
+abbrev pub noPair : Pair
+noPair = record { a = 0; b = 0 }
+
 unfoldable pub pairAt : Design → ℕ → Pair
-pairAt d i = getD (tables d) i (record { a = 0; b = 0 })
+pairAt d i = getD (tables d) i noPair
 
 abbrev pub aOf : Design → ℕ → ℕ
 aOf d i = pairAt d i .a
@@ -43,21 +47,3 @@ segmentWord d i x = x / 2 ^ (d .w - aOf d i)
 -- "B_i is floor(x / 2^(p_i)) mod 2^(b_i)"
 unfoldable pub offsetWord : Design → ℕ → ℕ → ℕ
 offsetWord d i x = x / 2 ^ position d i % 2 ^ bOf d i
-
--- "2^alpha initial entries and, for each i, 2^(a_i+b_i) offsets"
-unfoldable pub initialCount : Design → ℕ
-initialCount d = 2 ^ d .alpha
-
-unfoldable pub offsetCount : Design → ℕ → ℕ
-offsetCount d i = 2 ^ (aOf d i + bOf d i)
-
--- "Offset tables lie one after another, table 0 first": where table i begins, and after the last where they end.
-unfoldable pub tableStart : Design → ℕ → ℕ
-tableStart d i = sumBelow i (offsetCount d)
-
-unfoldable pub offsetTotal : Design → ℕ
-offsetTotal d = tableStart d (d .m)
-
--- "entry A_i·2^(b_i) + B_i": the place of an offset among all of them
-unfoldable pub offsetPlace : Design → ℕ → ℕ → ℕ → ℕ
-offsetPlace d i A B = tableStart d i + (A * 2 ^ bOf d i + B)

@@ -7,6 +7,7 @@ use lib.Dec.{leb, ltb, eqb}
 use Rattle.refusal.specs.declared.Cause.{Cause}
 use Rattle.refusal.specs.declared.Verdict.{Verdict}
 use Rattle.refusal.specs.Checks.{Check, _↝_, outside, verdict}
+use Rattle.design.specs.Limits.{leastInitialBits, mostInitialBits, mostTables, mostOffsetBits, mostTableBits}
 use Rattle.general.specs.Below.{someBelow}
 use Rattle.values.specs.Widths.{widthChecks}
 use Rattle.design.specs.declared.Pair.{Pair}
@@ -17,7 +18,7 @@ use Rattle.design.specs.Cut.{pairAt, position}
 -- 7, "a_i not 1..alpha"; 8, "b_i not 1..8, or a_i+b_i over 12"
 unfoldable pub breaks : TableRule → ℕ → Pair → Bool
 breaks TableRule.SegmentBits alpha pair = outside 1 alpha (pair .a)
-breaks TableRule.OffsetBits alpha pair = outside 1 8 (pair .b) || ltb 12 (pair .a + pair .b)
+breaks TableRule.OffsetBits alpha pair = outside 1 mostOffsetBits (pair .b) || ltb mostTableBits (pair .a + pair .b)
 
 unfoldable pub tableBreaks : TableRule → Design → ℕ → Bool
 tableBreaks rule d i = breaks rule (d .alpha) (pairAt d i)
@@ -25,8 +26,8 @@ tableBreaks rule d i = breaks rule (d .alpha) (pairAt d i)
 -- "7 is tried on all tables before 8."
 unfoldable pub cutChecks : Design → List Check
 cutChecks d =
-    (outside 2 13 (d .alpha) || leb (d .w) (d .alpha)) ↝ Cause.InitialBits ∷
-    outside 1 4 (d .m) ↝ Cause.TableCount ∷
+    (outside leastInitialBits mostInitialBits (d .alpha) || leb (d .w) (d .alpha)) ↝ Cause.InitialBits ∷
+    outside 1 mostTables (d .m) ↝ Cause.TableCount ∷
     someBelow (d .m) (tableBreaks TableRule.SegmentBits d) ↝ Cause.SegmentBits ∷
     someBelow (d .m) (tableBreaks TableRule.OffsetBits d) ↝ Cause.OffsetBits ∷
     not (eqb (position d (d .m)) (d .w - d .alpha)) ↝ Cause.CutSum ∷ []

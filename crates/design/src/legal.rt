@@ -2,12 +2,18 @@
 ghost use mathlib.Core.Path.{_≡_};
 ghost use Prim.Native.Nat.{_≤_, _<_};
 ghost use Rattle.refusal.specs.Checks.{verdict};
+ghost use Rattle.design.specs.Limits.{mostTables};
 ghost use Rattle.design.specs.Cut.{pairAt, position};
 ghost use Rattle.general.specs.Below.{someBelow};
 ghost use Rattle.design.specs.Legal.{tableBreaks, cutChecks, designVerdict};
 ghost use Rattle.design.specs.Legal as Legal;
 use crate::Design;
 use crate::Pair;
+use crate::limits::LEAST_INITIAL_BITS;
+use crate::limits::MOST_INITIAL_BITS;
+use crate::limits::MOST_OFFSET_BITS;
+use crate::limits::MOST_TABLE_BITS;
+use crate::limits::MOST_TABLES;
 use refusal::Cause;
 use refusal::Verdict;
 use refusal::outside;
@@ -15,7 +21,7 @@ use values::widths::width_verdict;
 
 // inner: the pair of a table that is read.
 pub fn pair_at(d: Design, i: u32) -> Pair
-    requires { ⌜ (i < d .m) × (d .m ≤ 4) ⌝ }
+    requires { ⌜ (i < d .m) × (d .m ≤ mostTables) ⌝ }
     ensures { λ r. ⌜ r ≡ pairAt d i ⌝ }
 {
     match i {
@@ -32,18 +38,19 @@ pub enum TableRule {
     OffsetBits,
 }
 
-// Whether a table breaks the rule: a not 1..alpha; b not 1..8, or a + b over 12.
+// Whether a table breaks the rule: a not 1..alpha; b not from 1 to its limit, or a + b over theirs.
 fn breaks(rule: TableRule, alpha: u32, pair: Pair) -> bool
     ensures { λ r. ⌜ r ≡ Legal.breaks rule alpha pair ⌝ }
 {
     match rule {
         TableRule::SegmentBits => outside(1, alpha, pair.a),
-        TableRule::OffsetBits => outside(1, 8, pair.b) || 12 < pair.a as u64 + pair.b as u64,
+        TableRule::OffsetBits => outside(1, MOST_OFFSET_BITS, pair.b)
+            || MOST_TABLE_BITS < pair.a as u64 + pair.b as u64,
     }
 }
 
 fn some_table_breaks(rule: TableRule, d: Design) -> bool
-    requires { ⌜ d .m ≤ 4 ⌝ }
+    requires { ⌜ d .m ≤ mostTables ⌝ }
     ensures { λ r. ⌜ r ≡ someBelow (d .m) (tableBreaks rule d) ⌝ }
 {
     let m = d.m;
@@ -58,7 +65,7 @@ fn some_table_breaks(rule: TableRule, d: Design) -> bool
 
 // The b_i in all.
 fn offset_bits(d: Design) -> u64
-    requires { ⌜ d .m ≤ 4 ⌝ }
+    requires { ⌜ d .m ≤ mostTables ⌝ }
     ensures { λ r. ⌜ r ≡ position d (d .m) ⌝ }
 {
     let m = d.m;
@@ -72,13 +79,13 @@ fn offset_bits(d: Design) -> u64
 fn cut_verdict(d: Design) -> Verdict
     ensures { λ r. ⌜ r ≡ verdict (cutChecks d) ⌝ }
 {
-    if outside(2, 13, d.alpha) {
+    if outside(LEAST_INITIAL_BITS, MOST_INITIAL_BITS, d.alpha) {
         return Verdict::Refused(Cause::InitialBits);
     }
     if d.w <= d.alpha {
         return Verdict::Refused(Cause::InitialBits);
     }
-    if outside(1, 4, d.m) {
+    if outside(1, MOST_TABLES, d.m) {
         return Verdict::Refused(Cause::TableCount);
     }
     if some_table_breaks(TableRule::SegmentBits, d) {

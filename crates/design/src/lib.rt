@@ -4,6 +4,7 @@ ghost use mathlib.Core.Path.{_≡_};
 ghost use Rattle.design.specs.Answers.{budgetAnswer, sizeAnswer, toldBy, budgetTold, sizeTold};
 
 pub mod legal;
+pub mod limits;
 pub mod measure;
 
 use legal::design_verdict;

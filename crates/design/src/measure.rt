@@ -1,7 +1,7 @@
 // Budget, limit and size of a legal design.
 ghost use mathlib.Core.Path.{_≡_};
 ghost use Prim.Native.Nat.{_<_};
-ghost use Rattle.design.specs.Cut.{offsetTotal};
+ghost use Rattle.design.specs.Stored.{offsetCount, offsetTotal};
 ghost use Rattle.design.specs.Cut as Cut;
 ghost use Rattle.design.specs.Legal.{Legal};
 ghost use Rattle.design.specs.Budget.{tableBudget, budget, limit, size};
@@ -45,6 +45,16 @@ pub fn limit_of(d: Design) -> u64
     pow2(d.g + 17)
 }
 
+// inner: how many offsets table i stores.
+pub fn offset_count(d: Design, i: u32) -> u64
+    requires { ⌜ Legal d ⌝ }
+    requires { ⌜ i < d .m ⌝ }
+    ensures { λ r. ⌜ r ≡ offsetCount d i ⌝ }
+{
+    let pair = pair_at(d, i);
+    pow2(pair.a + pair.b)
+}
+
 // inner: the number of offsets of a legal design, all tables together.
 pub fn offset_total(d: Design) -> u64
     requires { ⌜ Legal d ⌝ }
@@ -53,8 +63,7 @@ pub fn offset_total(d: Design) -> u64
     let m = d.m;
     let mut entries = 0;
     for i in 0..m {
-        let pair = pair_at(d, i);
-        entries += pow2(pair.a + pair.b);
+        entries += offset_count(d, i);
     }
     entries
 }

@@ -10,7 +10,8 @@ use Rattle.values.specs.Inputs.{InRange, FloorInput, SegmentInput, SlopeInput}
 use Rattle.values.specs.Slopes.{segmentStart, segmentEnd, hi, lo}
 use Rattle.values.proofs.Bounds.{floor-small, start-input, end-input, ordered}
 use Rattle.design.specs.declared.Design.{Design}
-use Rattle.design.specs.Cut.{aOf, bOf, row, fractionBits, position, initialCount}
+use Rattle.design.specs.Cut.{aOf, bOf, row, fractionBits, position}
+use Rattle.design.specs.Stored.{initialCount}
 use Rattle.design.proofs.LegalLaws.{Limits, lawful, slopewise, bits-end}
 use Rattle.entries.specs.Entries.{valueAt, endValues, initialAt, hiAt, loAt, oddNumber, magnitude}
 use Rattle.general.proofs.SignedLaws.{difference-small}

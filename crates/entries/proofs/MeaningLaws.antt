@@ -9,6 +9,7 @@ use lib.Dec.{ltb, le→leb, lt→ltb}
 use lib.IntN.{ℤ, pos, negsuc, subℕ, natAbs, negℤ, negℤ-negℤ, _+ℤ_, _*ℤ_}
 use lib.Pow.{pow-add, pow-pos}
 use lib.Signed.{nonNeg, _≤ℤ_, _<ℤ_}
+use Rattle.design.specs.Stored.{storedIndex, storedWord, offsetFrom}
 use Rattle.values.specs.Slopes.{hi}
 use Rattle.design.specs.declared.Design.{Design}
 use Rattle.design.specs.Cut.{bOf, row, position}
@@ -132,3 +133,9 @@ pub entry-means : (d : Design) (i A B : ℕ) → 1 ≤ bOf d i → B < 2 ^ bOf d
     → Meaning (hiAt d i A + loAt d i A) (bOf d i) (position d i) (row d .rising) B (offsetAt d i A B)
 unfolding offsetAt hiAt hi
 entry-means d i A B = offset-means _ _ _ _ B (omega arith)
+
+-- What B reads tells B's offset.
+pub read-back : (d : Design) (i A B : ℕ) → B < 2 ^ bOf d i
+    → offsetFrom d i B (offsetAt d i A (storedWord d i (storedIndex d i B))) ≡ offsetAt d i A B
+unfolding offsetFrom storedWord storedIndex
+read-back d i A B h = refl

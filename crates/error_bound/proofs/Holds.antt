@@ -12,6 +12,9 @@ use borrow.Author.Tests.{le-ltb, lt-leb}
 use Rattle.refusal.specs.declared.Verdict.{Verdict}
 use Rattle.refusal.specs.Checks.{verdict}
 use Rattle.refusal.proofs.Checks.{verdict-append}
+use Rattle.entries.proofs.MeaningLaws.{read-back}
+use Rattle.design.proofs.StoredLaws.{index-lt}
+use Rattle.design.specs.Stored.{storedIndex, offsetPlace}
 use Rattle.values.specs.Inputs.{InRange}
 use Rattle.values.specs.Value.{wordCheck}
 use Rattle.values.proofs.ExactLaws.{value-low}
@@ -28,14 +31,14 @@ use Rattle.tables.specs.Inputs.{Usable}
 use Rattle.entries.specs.Entries.{initialAt}
 use Rattle.tables.specs.Sum.{offsetFor, sumAt, sumOutside, wordOf, wordAt}
 use Rattle.tables.specs.Set.{setChecks}
-use Rattle.filling.specs.Fill.{Filled}
+use Rattle.filling.specs.Fill.{Filled, storedOffset}
 use Rattle.evaluating.specs.Evaluate.{wordChecks, evaluateVerdict, evaluateAnswer}
 use Rattle.evaluating.specs.Batch.{outputCheck, roomVerdict, placeVerdict, batchAnswer, outputAfter}
 use Rattle.checking.specs.Check.{checkVerdict, checkAnswer}
 use Rattle.error_bound.specs.ErrorBound.{margin, scaledWord, WordHolds, BatchHolds, ErrorBound}
 use Rattle.tables.proofs.SetLaws.{set-passed}
 use Rattle.error_bound.proofs.Totals.{added, taken, total-balance, not-negative}
-use Rattle.error_bound.proofs.SumBound.{offsetFrom, sum-low, sum-high}
+use Rattle.error_bound.proofs.SumBound.{writtenOffset, sum-low, sum-high}
 use Rattle.error_bound.proofs.WordBound.{Near, GoodWord, sum-in-range, good-word}
 use Rattle.error_bound.proofs.Said.{said}
 use Rattle.filling.proofs.EntryLaws as EntryLaws
@@ -66,10 +69,10 @@ module _ (d : Design) (admitted : Admitted d) (x : ℕ) (x-lt : x < 2 ^ d .w) wh
 
   -- what is added and what is taken, all together
   abbrev plus : ℕ
-  plus = initialAt d (initialWord d x) + sumBelow (d .m) (λ i. added (offsetFrom d x i))
+  plus = initialAt d (initialWord d x) + sumBelow (d .m) (λ i. added (writtenOffset d x i))
 
   abbrev minus : ℕ
-  minus = sumBelow (d .m) (λ i. taken (offsetFrom d x i))
+  minus = sumBelow (d .m) (λ i. taken (writtenOffset d x i))
 
   half-is : 2 ^ 18 * 2 ^ (d .g - 1) ≡ 2 ^ (d .g + 17)
   half-is = let e : 18 + (d .g - 1) ≡ d .g + 17 = omega (arith, l .widths .g-low) in sym (pow-add 2 18 (d .g - 1)) ∙ rw e refl
@@ -98,19 +101,22 @@ module _ (d : Design) (admitted : Admitted d) (x : ℕ) (x-lt : x < 2 ^ d .w) wh
       }
 
   module _ (initial : List ℕ) (offsets : List ℤ) (filled : Filled d initial offsets) where
-    offset-read : (i : ℕ) → i < d .m → offsetFor d offsets x i ≡ offsetFrom d x i
-    unfolding offsetFor offsetFrom
+    offset-read : (i : ℕ) → i < d .m → offsetFor d offsets x i ≡ writtenOffset d x i
+    unfolding offsetFor offsetPlace storedOffset writtenOffset
     offset-read i h =
-        filled .offset-entry i (segmentWord d i x) (offsetWord d i x) h (segment-word-lt d l i x h x-lt) (offset-word-lt d i x)
+        let A = segmentWord d i x in
+        let B = offsetWord d i x in
+        rw (filled .offset-entry i A (storedIndex d i B) h (segment-word-lt d l i x h x-lt) (index-lt d i B (offset-word-lt d i x)))
+        (read-back d i A B (offset-word-lt d i x))
 
     pub sum-is : sumAt d initial offsets x ≡ pos (plus - minus)
     unfolding sumAt
     sum-is =
         rw (
           filled .initial-entry (initialWord d x) (initial-word-lt d l x x-lt),
-          signed-congruence (d .m) (offsetFor d offsets x) (offsetFrom d x) offset-read,
+          signed-congruence (d .m) (offsetFor d offsets x) (writtenOffset d x) offset-read,
         )
-        (not-negative _ plus minus (total-balance (initialAt d (initialWord d x)) (d .m) (offsetFrom d x)) less-taken)
+        (not-negative _ plus minus (total-balance (initialAt d (initialWord d x)) (d .m) (writtenOffset d x)) less-taken)
 
     pub word-is : wordAt d initial offsets x ≡ (plus - minus) / 2 ^ d .g
     unfolding wordAt wordOf

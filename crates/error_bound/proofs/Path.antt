@@ -8,7 +8,8 @@ use lib.Pow.{pow-add, pow-pos}
 use Rattle.values.specs.Slopes.{segmentStart, segmentEnd}
 use Rattle.values.proofs.SlopeLaws.{OnSegment, on-range, hi-steeper, lo-flatter}
 use Rattle.design.specs.declared.Design.{Design}
-use Rattle.design.specs.Cut.{aOf, bOf, row, fractionBits, position, initialWord, segmentWord, offsetWord, initialCount}
+use Rattle.design.specs.Cut.{aOf, bOf, row, fractionBits, position, initialWord, segmentWord, offsetWord}
+use Rattle.design.specs.Stored.{initialCount}
 use Rattle.general.specs.Below.{sumBelow}
 use Rattle.design.specs.Budget.{reach}
 use Rattle.design.proofs.LegalLaws.{Limits, lawful}

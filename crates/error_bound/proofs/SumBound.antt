@@ -67,8 +67,8 @@ module _ (start end half m share n lows highs plus minus : ℕ) where
   half-high below-start below-end sums = omega arith
 
 -- The offset that x looks up in table i, where the tables are filled
-unfoldable pub offsetFrom : Design → ℕ → ℕ → ℤ
-offsetFrom d x i = offsetAt d i (segmentWord d i x) (offsetWord d i x)
+unfoldable pub writtenOffset : Design → ℕ → ℕ → ℤ
+writtenOffset d x i = offsetAt d i (segmentWord d i x) (offsetWord d i x)
 
 module _ (d : Design) (l : Limits d) (x : ℕ) (x-lt : x < 2 ^ d .w) where
   -- each table by itself
@@ -88,8 +88,8 @@ module _ (d : Design) (l : Limits d) (x : ℕ) (x-lt : x < 2 ^ d .w) where
   ordered-at i h = ordered (row d) (d .w) (fractionBits d) (aOf d i) (segmentWord d i x) (slopewise d l i h) (segment-word-lt d l i x h x-lt) .1
 
   table-of : (i : ℕ) → i < d .m → let A = segmentWord d i x in
-      Table (hiAt d i A) (loAt d i A) (done d x i) (left d x i) (added (offsetFrom d x i)) (taken (offsetFrom d x i)) (tableBudget d i)
-  unfolding offsetFrom
+      Table (hiAt d i A) (loAt d i A) (done d x i) (left d x i) (added (writtenOffset d x i)) (taken (writtenOffset d x i)) (tableBudget d i)
+  unfolding writtenOffset
   table-of i h =
       table _ _ _ _ _ _ _ _ (sym (add-sub-of-le (ordered-at i h))) (share-enough i h) (offset-low d l x i h) (offset-high d l x i h)
 
@@ -103,10 +103,10 @@ module _ (d : Design) (l : Limits d) (x : ℕ) (x-lt : x < 2 ^ d .w) where
       go false s e = omega arith
 
   abbrev plus : ℕ
-  plus = sumBelow (d .m) (λ i. added (offsetFrom d x i))
+  plus = sumBelow (d .m) (λ i. added (writtenOffset d x i))
 
   abbrev minus : ℕ
-  minus = sumBelow (d .m) (λ i. taken (offsetFrom d x i))
+  minus = sumBelow (d .m) (λ i. taken (writtenOffset d x i))
 
   -- A number above the exact value at X is not much below the sum,
   pub sum-low : (n : ℕ) → MoreThan (row d) (d .w) (fractionBits d + 18) (2 ^ d .w + x) n

@@ -15,10 +15,12 @@ use Rattle.refusal.proofs.Checks.{inside}
 use Rattle.values.specs.Value.{wordCheck}
 use Rattle.general.specs.Below.{largest, someBelow, signedSum}
 use Rattle.design.specs.declared.Design.{Design}
-use Rattle.design.specs.Cut.{fractionBits, initialCount, offsetTotal, initialWord}
+use Rattle.design.specs.Cut.{fractionBits, initialWord, offsetWord}
+use Rattle.design.specs.Stored.{initialCount, offsetTotal}
 use Rattle.general.proofs.Sums.{none-below, largest-above}
 use Rattle.design.proofs.LegalLaws.{Limits}
-use Rattle.design.proofs.CutLaws.{place-in-total, segment-word-lt, offset-word-lt, initial-word-lt}
+use Rattle.design.proofs.StoredLaws.{place-in-total, from-size}
+use Rattle.design.proofs.CutLaws.{segment-word-lt, offset-word-lt, initial-word-lt}
 use Rattle.tables.specs.Sum.{offsetFor, sumAt, sumOutside}
 use Rattle.evaluating.specs.Evaluate.{wordChecks}
 use Rattle.evaluating.specs.Batch.{wordsBelow, placeVerdict}
@@ -64,8 +66,8 @@ module _ (d : Design) (l : Limits d) (initial : List ℕ) (offsets : List ℤ) w
       → mag (offsetFor d offsets x i) < largest (offsetTotal d) (λ (j : ℕ). mag (getD offsets j (pos 0))) + 1
   unfolding offsetFor
   offset-small x i word more =
-      let place = place-in-total d i _ _ more (record { A-lt = segment-word-lt d l i x more word; B-lt = offset-word-lt d i x }) in
-      omega (arith, largest-above (offsetTotal d) (λ (j : ℕ). mag (getD offsets j (pos 0))) _ place)
+      let place = place-in-total d i _ _ more (segment-word-lt d l i x more word) (offset-word-lt d i x) in
+      rw (from-size d i (offsetWord d i x)) (omega (arith, largest-above (offsetTotal d) (λ (j : ℕ). mag (getD offsets j (pos 0))) _ place))
 
   within-limit : {k limit : ℕ} → limit ≡ 2 ^ (fractionBits d + 2) → k < limit → sumOutside d (pos k) ≡ false
   unfolding sumOutside

@@ -1,12 +1,11 @@
 -- The entries that the fill writes: how many there are, which stands where, and that an accepted fill leaves filled tables.
 use mathlib.Core.Path.{_≡_, refl, sym, _∙_}
 use mathlib.Core.List.{List, [], _∷_}
-use Prim.Native.Nat.{ℕ, zero, suc, _+_, _*_, _^_, _≤_, _<_}
+use Prim.Native.Nat.{ℕ, zero, suc, _+_, _*_, _≤_, _<_}
 use native.Mathlib.Nat.{not-suc-le-zero}
 use native.Mathlib.Omega.{arith}
-use lib.Arith.{digits-lt}
+use lib.Arith.{digits-lt, digits-div, digits-mod}
 use lib.ListN.{length, getD, take, length-append, List·getD-append}
-use lib.Pow.{high, low, pow-add}
 use lib.Seq.{getD-append-add, getD-take, length-take-le, ext-getD}
 use lib.IntN.{ℤ, pos}
 use Rattle.refusal.specs.declared.Verdict.{Verdict}
@@ -14,12 +13,12 @@ use Rattle.refusal.proofs.Checks.{passed-append}
 use Rattle.general.proofs.WritingLaws.{kept-length}
 use Rattle.general.proofs.ListLaws.{list-length, list-at}
 use Rattle.design.specs.declared.Design.{Design}
-use Rattle.design.specs.Cut.{bOf, initialCount, offsetCount, tableStart, offsetTotal, offsetPlace}
+use Rattle.design.specs.Stored.{initialCount, offsetCount, tableStart, offsetTotal, storedCount, storedPlace}
 use Rattle.general.specs.Below.{sumBelow}
 use Rattle.general.proofs.Sums.{below-suc}
-use Rattle.design.proofs.CutLaws.{Entry, place-below, entry-at}
+use Rattle.design.proofs.StoredLaws.{Entry, place-below, entry-at}
 use Rattle.tables.specs.Inputs.{Usable}
-use Rattle.entries.specs.Entries.{initialAt, offsetAt}
+use Rattle.entries.specs.Entries.{initialAt}
 use Rattle.tables.specs.Set.{setChecks}
 use Rattle.filling.specs.Fill.{
   admittedCheck,
@@ -31,6 +30,7 @@ use Rattle.filling.specs.Fill.{
   initialAfter,
   offsetsAfter,
   Filled,
+  storedOffset,
 }
 use Rattle.tables.proofs.SetLaws.{usable}
 
@@ -47,11 +47,11 @@ module _ (d : Design) where
   unfolding tableEntries
   table-length i = list-length _ (offsetCount d i)
 
-  table-at : (i A B : ℕ) (z : ℤ) → Entry d i A B → getD (tableEntries d i) (A * 2 ^ bOf d i + B) z ≡ offsetAt d i A B
+  table-at : (i A index : ℕ) (z : ℤ) → Entry d i A index → getD (tableEntries d i) (A * storedCount d i + index) z ≡ storedOffset d i A index
   unfolding tableEntries offsetCount
-  table-at i A B z entry =
-      list-at _ (offsetCount d i) (A * 2 ^ bOf d i + B) z (rw pow-add (digits-lt (entry .A-lt) (entry .B-lt)))
-      ∙ rw (high A (bOf d i) (entry .B-lt), low A (bOf d i) (entry .B-lt))
+  table-at i A index z entry =
+      list-at _ (offsetCount d i) (A * storedCount d i + index) z (digits-lt (entry .A-lt) (entry .index-lt))
+      ∙ rw (digits-div A (entry .index-lt), digits-mod A (entry .index-lt))
 
   -- "Offset tables lie one after another, table 0 first"
   pub offsets-length : (n : ℕ) → length (offsetsBelow d n) ≡ tableStart d n
@@ -59,16 +59,16 @@ module _ (d : Design) where
   offsets-length zero = refl
   offsets-length (suc n) = rw (length-append, offsets-length n, table-length n)
 
-  pub offset-at : (n i A B : ℕ) (z : ℤ) → i < n → Entry d i A B
-      → getD (offsetsBelow d n) (offsetPlace d i A B) z ≡ offsetAt d i A B
-  unfolding offsetsBelow offsetPlace
-  offset-at zero i A B z h entry = absurd (not-suc-le-zero h)
-  offset-at (suc n) i A B z h entry =
+  pub offset-at : (n i A index : ℕ) (z : ℤ) → i < n → Entry d i A index
+      → getD (offsetsBelow d n) (storedPlace d i A index) z ≡ storedOffset d i A index
+  unfolding offsetsBelow storedPlace
+  offset-at zero i A index z h entry = absurd (not-suc-le-zero h)
+  offset-at (suc n) i A index z h entry =
       below-suc h
       (λ last. rw last
-      (rw (← offsets-length n) (getD-append-add (offsetsBelow d n) (tableEntries d n) _ z) ∙ table-at n A B z (rw last at entry)))
-      (λ below. List·getD-append (offsetsBelow d n) (tableEntries d n) z _ (rw (offsets-length n) (place-below d n i A B below entry))
-      ∙ offset-at n i A B z below entry)
+      (rw (← offsets-length n) (getD-append-add (offsetsBelow d n) (tableEntries d n) _ z) ∙ table-at n A index z (rw last at entry)))
+      (λ below. List·getD-append (offsetsBelow d n) (tableEntries d n) z _ (rw (offsets-length n) (place-below d n i A index below entry))
+      ∙ offset-at n i A index z below entry)
 
 -- "an accepted fill leaves such tables"
 module _ (d : Design) (initial : List ℕ) (offsets : List ℤ) where
@@ -88,10 +88,10 @@ module _ (d : Design) (initial : List ℕ) (offsets : List ℤ) where
         initial-long = rw (kept-length (initialEntries d) initial initial-fits) (u .initial-long);
         offsets-long = rw (kept-length (offsetsBelow d (d .m)) offsets offsets-fit) (u .offsets-long);
         initial-entry = λ A h. List·getD-append (initialEntries d) _ 0 A (rw (initial-length d) h) ∙ initial-at d A h;
-        offset-entry = λ i A B h a b.
-            let entry : Entry d i A B = record { A-lt = a; B-lt = b } in
-            List·getD-append (offsetsBelow d (d .m)) _ (pos 0) _ (rw (offsets-length d (d .m)) (place-below d (d .m) i A B h entry))
-            ∙ offset-at d (d .m) i A B (pos 0) h entry;
+        offset-entry = λ i A index h a b.
+            let entry : Entry d i A index = record { A-lt = a; index-lt = b } in
+            List·getD-append (offsetsBelow d (d .m)) _ (pos 0) _ (rw (offsets-length d (d .m)) (place-below d (d .m) i A index h entry))
+            ∙ offset-at d (d .m) i A index (pos 0) h entry;
       })
 
 -- `Filled` says that the tables begin with the entries the fill writes: as lists,
@@ -110,6 +110,6 @@ module _ (d : Design) (initial : List ℕ) (offsets : List ℤ) where
         let at = entry-at d (d .m) p p-lt in
         getD-take (tableStart d (d .m)) offsets p (pos 0) p-lt
         ∙ rw (← at .place)
-        (f .offset-entry (at .i) (at .A) (at .B) (at .i-lt) (at .entry .A-lt) (at .entry .B-lt)
-        ∙ sym (offset-at d (d .m) (at .i) (at .A) (at .B) (pos 0) (at .i-lt) (at .entry)))),
+        (f .offset-entry (at .i) (at .A) (at .index) (at .i-lt) (at .entry .A-lt) (at .entry .index-lt)
+        ∙ sym (offset-at d (d .m) (at .i) (at .A) (at .index) (pos 0) (at .i-lt) (at .entry)))),
   )

@@ -8,15 +8,16 @@ use native.Mathlib.Numerals.{add-one}
 use native.Mathlib.Omega.{arith}
 use lib.IntN.{ℤ}
 use lib.ListN.{length}
-use lib.Pow.{high, low, pow-add}
+use lib.Pow.{high, low}
 use Rattle.design.specs.declared.Design.{Design}
-use Rattle.design.specs.Cut.{aOf, bOf, row, position, offsetCount, tableStart, offsetTotal}
+use Rattle.design.specs.Cut.{aOf, bOf, row, position}
+use Rattle.design.specs.Stored.{offsetCount, tableStart, offsetTotal, storedCount, storedWord}
 use Rattle.general.specs.Below.{sumBelow, listBelow}
 use Rattle.general.proofs.Sums.{sum-mono, sum-step, sum-next}
 use Rattle.design.proofs.LegalLaws.{Limits, bits-end}
 use Rattle.values.specs.Slopes.{hi}
 use Rattle.entries.specs.Entries.{offsetAt, hiAt, loAt, offsetOf}
-use Rattle.filling.specs.Fill.{tableEntries, offsetsBelow}
+use Rattle.filling.specs.Fill.{tableEntries, offsetsBelow, storedOffset}
 use Rattle.general.proofs.ListLaws.{list-length, list-add, list-congruence}
 use Rattle.filling.proofs.EntryLaws.{offsets-length}
 use Rattle.entries.proofs.EntryBounds.{slopes-reach}
@@ -27,13 +28,13 @@ use Rattle.general.proofs.WritingLaws.{over-none, over-more}
 
 module _ (d : Design) (i : ℕ) where
   -- An offset by the numbers that it is made of
-  offset-parts : (A B : ℕ) → offsetAt d i A B ≡ offsetOf (hiAt d i A + loAt d i A) (bOf d i) (position d i) (row d .rising) B
-  unfolding offsetAt
+  offset-parts : (A B : ℕ) → storedOffset d i A B ≡ offsetOf (hiAt d i A + loAt d i A) (bOf d i) (position d i) (row d .rising) B
+  unfolding storedOffset storedWord offsetAt
   offset-parts A B = refl
 
   -- The offsets of the first n segments
   pub firstSegments : ℕ → List ℤ
-  firstSegments n = listBelow (n * 2 ^ bOf d i) (λ k. offsetAt d i (k / 2 ^ bOf d i) (k % 2 ^ bOf d i))
+  firstSegments n = listBelow (n * 2 ^ bOf d i) (λ k. storedOffset d i (k / 2 ^ bOf d i) (k % 2 ^ bOf d i))
 
   first-length : (n : ℕ) → length (firstSegments n) ≡ n * 2 ^ bOf d i
   unfolding firstSegments
@@ -45,7 +46,7 @@ module _ (d : Design) (i : ℕ) where
   unfolding firstSegments segmentOffsets
   next-segment n =
       let one = 2 ^ bOf d i in
-      let f : ℕ → ℤ = λ k. offsetAt d i (k / one) (k % one) in
+      let f : ℕ → ℤ = λ k. storedOffset d i (k / one) (k % one) in
       let more : (n + 1) * one ≡ n * one + one = omega arith in
       let here : listBelow one (offsetOf (hiAt d i n + loAt d i n) (bOf d i) (position d i) (row d .rising))
       ≡ listBelow one (λ j. f (n * one + j)) =
@@ -54,18 +55,17 @@ module _ (d : Design) (i : ℕ) where
 
   -- Those of all segments are the table's.
   all-segments : firstSegments (2 ^ aOf d i) ≡ tableEntries d i
-  unfolding firstSegments tableEntries offsetCount
-  all-segments = rw pow-add
+  unfolding firstSegments tableEntries offsetCount storedCount
+  all-segments = refl
 
   next-table : tableStart d i + 2 ^ aOf d i * 2 ^ bOf d i ≡ tableStart d (i + 1)
-  unfolding tableStart offsetCount
-  next-table = rw (sum-next, pow-add)
+  unfolding tableStart offsetCount storedCount
+  next-table = rw sum-next
 
   -- Each segment lies within the offsets,
   pub segment-room : i < d .m → (n : ℕ) → n < 2 ^ aOf d i → tableStart d i + n * 2 ^ bOf d i + 2 ^ bOf d i ≤ offsetTotal d
-  unfolding offsetTotal tableStart offsetCount
-  segment-room h n n-lt =
-      omega (arith, sum-step (offsetCount d) i (d .m) h, mul-le-mul-right (2 ^ bOf d i) n-lt, pow-add 2 (aOf d i) (bOf d i))
+  unfolding offsetTotal tableStart offsetCount storedCount
+  segment-room h n n-lt = omega (arith, sum-step (offsetCount d) i (d .m) h, mul-le-mul-right (2 ^ bOf d i) n-lt)
 
 -- as each table begins within them.
 pub table-room : (d : Design) (n : ℕ) → n < d .m → tableStart d n ≤ offsetTotal d

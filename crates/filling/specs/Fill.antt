@@ -12,7 +12,8 @@ use Rattle.tables.specs.Set.{setChecks}
 use Rattle.general.specs.Lists.{leaves}
 use Rattle.general.specs.Below.{listBelow}
 use Rattle.design.specs.declared.Design.{Design}
-use Rattle.design.specs.Cut.{aOf, bOf, initialCount, offsetCount, offsetTotal, offsetPlace}
+use Rattle.design.specs.Cut.{aOf}
+use Rattle.design.specs.Stored.{initialCount, offsetCount, offsetTotal, storedCount, storedWord, storedPlace}
 use Rattle.design.specs.Budget.{withinLimit}
 use Rattle.entries.specs.Entries.{initialAt, offsetAt}
 
@@ -27,9 +28,13 @@ fillVerdict d initial offsets = verdict (setChecks d initial offsets ++ admitted
 unfoldable pub initialEntries : Design → List ℕ
 initialEntries d = listBelow (initialCount d) (initialAt d)
 
--- The offsets of table i: "entry A_i·2^(b_i) + B_i"
+-- The offset that segment A of table i stores at an index: that of the B which it belongs to
+unfoldable pub storedOffset : Design → ℕ → ℕ → ℕ → ℤ
+storedOffset d i A index = offsetAt d i A (storedWord d i index)
+
+-- The offsets of table i, segment by segment: "entry A_i·2^(b_i) + B_i"
 unfoldable pub tableEntries : Design → ℕ → List ℤ
-tableEntries d i = listBelow (offsetCount d i) (λ n. offsetAt d i (n / 2 ^ bOf d i) (n % 2 ^ bOf d i))
+tableEntries d i = listBelow (offsetCount d i) (λ n. storedOffset d i (n / storedCount d i) (n % storedCount d i))
 
 -- "Offset tables lie one after another, table 0 first": those of the tables below n
 unfoldable pub offsetsBelow : Design → ℕ → List ℤ
@@ -50,5 +55,5 @@ pub record Filled (d : Design) (initial : List ℕ) (offsets : List ℤ) : Type 
   pub initial-long : initialCount d ≤ length initial
   pub offsets-long : offsetTotal d ≤ length offsets
   pub initial-entry : (A : ℕ) → A < initialCount d → getD initial A 0 ≡ initialAt d A
-  pub offset-entry : (i A B : ℕ) → i < d .m → A < 2 ^ aOf d i → B < 2 ^ bOf d i
-      → getD offsets (offsetPlace d i A B) (pos 0) ≡ offsetAt d i A B
+  pub offset-entry : (i A index : ℕ) → i < d .m → A < 2 ^ aOf d i → index < storedCount d i
+      → getD offsets (storedPlace d i A index) (pos 0) ≡ storedOffset d i A index

@@ -2,7 +2,8 @@
 use mathlib.Core.Path.{_≡_}
 use Prim.Native.Nat.{ℕ, _≤_, _<_}
 use Rattle.design.specs.declared.Design.{Design}
-use Rattle.design.specs.Cut.{position, offsetTotal}
+use Rattle.design.specs.Cut.{position}
+use Rattle.design.specs.Stored.{offsetTotal}
 use Rattle.design.specs.Legal.{Legal}
 
 -- A table is to be written: table i, whose bits begin at p, into offsets of this length.

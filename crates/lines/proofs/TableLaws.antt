@@ -10,10 +10,10 @@ use lib.Dec.{leb}
 use borrow.Author.Tests.{le-leb, lt-leb}
 use Rattle.design.specs.declared.Design.{Design}
 use Rattle.general.specs.Below.{sumBelow}
-use Rattle.design.specs.Cut.{offsetCount, tableStart, offsetTotal}
+use Rattle.design.specs.Stored.{offsetCount, tableStart, offsetTotal}
 use Rattle.design.specs.Legal.{Legal}
 use Rattle.design.proofs.LegalLaws.{limits}
-use Rattle.design.proofs.CutLaws.{offset-total-small, initial-count-small}
+use Rattle.design.proofs.StoredLaws.{offset-total-small, initial-count-small}
 use Rattle.general.proofs.Sums.{sum-mono, sum-next}
 use Rattle.lines.specs.declared.Slot.{Slot}
 use Rattle.lines.specs.Slots.{lineCount, tableOf, offsetSlot}

@@ -1,7 +1,7 @@
 -- What inner calls may count on. Their callers are proved to see to it.
 use Prim.Native.Nat.{ℕ, _<_}
 use Rattle.design.specs.declared.Design.{Design}
-use Rattle.design.specs.Cut.{offsetTotal}
+use Rattle.design.specs.Stored.{offsetTotal}
 use Rattle.design.specs.Legal.{Legal}
 use Rattle.lines.specs.declared.Slot.{Slot}
 use Rattle.lines.specs.Slots.{lineCount}

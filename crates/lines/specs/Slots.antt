@@ -4,7 +4,7 @@ use Prim.Native.Nat.{ℕ, suc, _+_, _-_}
 use lib.Dec.{leb, eqb}
 use Rattle.design.specs.declared.Design.{Design}
 use Rattle.general.specs.Below.{sumBelow}
-use Rattle.design.specs.Cut.{initialCount, tableStart, offsetTotal}
+use Rattle.design.specs.Stored.{initialCount, tableStart, offsetTotal}
 use Rattle.lines.specs.declared.Slot.{Slot}
 
 -- How many lines a set has: the design's, one for each entry, and the last

@@ -2,14 +2,13 @@
 ghost use mathlib.Core.Path.{_≡_};
 ghost use Prim.Native.Nat.{_<_};
 ghost use lib.ListN.{length};
-ghost use Rattle.design.specs.Cut.{offsetCount};
 ghost use Rattle.design.specs.Legal.{Legal};
 ghost use Rattle.encoding.specs.Inputs.{held};
 ghost use Rattle.lines.specs.Slots.{lineCount, offsetSlot, slotOf};
 ghost use Rattle.lines.specs.Lines.{frameHead, entryWidth};
 ghost use Rattle.lines.specs.Inputs.{LineInput, PlaceInput};
 use design::Design;
-use design::legal::pair_at;
+use design::measure::offset_count;
 use design::measure::offset_total;
 use encoding::Frame;
 use encoding::design_frame;
@@ -32,16 +31,6 @@ pub fn line_count(d: Design) -> u64
     pow2(d.alpha) + offset_total(d) + 2
 }
 
-// How many offsets table i has.
-fn table_size(d: Design, i: u32) -> u64
-    requires { ⌜ Legal d ⌝ }
-    requires { ⌜ i < d .m ⌝ }
-    ensures { λ r. ⌜ r ≡ offsetCount d i ⌝ }
-{
-    let pair = pair_at(d, i);
-    pow2(pair.a + pair.b)
-}
-
 // The table and the index in it of the offset at a place: at most four tables are looked at.
 fn offset_slot(d: Design, place: u32) -> Slot
     requires { ⌜ PlaceInput d place ⌝ }
@@ -50,11 +39,11 @@ fn offset_slot(d: Design, place: u32) -> Slot
     let at = place as u64;
     let mut table = 0;
     let mut start = 0;
-    let mut end = table_size(d, 0);
+    let mut end = offset_count(d, 0);
     while end <= at {
         table += 1;
         start = end;
-        end += table_size(d, table);
+        end += offset_count(d, table);
     }
     let index = (at - start) as u32;
     Slot::Offset {

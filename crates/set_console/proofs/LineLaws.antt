@@ -9,7 +9,7 @@ use borrow.Author.Tests.{leb-false}
 use Rattle.refusal.specs.declared.Verdict.{Verdict}
 use Rattle.refusal.proofs.Checks.{passed-append, none-fails}
 use Rattle.design.specs.declared.Design.{Design}
-use Rattle.design.proofs.CutLaws.{initial-count-small, offset-total-small}
+use Rattle.design.proofs.StoredLaws.{initial-count-small, offset-total-small}
 use Rattle.design.proofs.LegalLaws.{limits}
 use Rattle.tables.specs.Set.{setChecks}
 use Rattle.tables.proofs.SetLaws.{usable}

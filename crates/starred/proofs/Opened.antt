@@ -11,6 +11,7 @@ use Rattle.filling.specs.Fill.{
   offsetEntries,
   initialAfter,
   offsetsAfter,
+  storedOffset,
 }
 use Rattle.evaluating.specs.Evaluate.{wordChecks, evaluateVerdict, evaluateAnswer, evaluateTold}
 use Rattle.evaluating.specs.Batch.{
@@ -30,7 +31,7 @@ use Rattle.checking.specs.Check.{faithfulAt, checkVerdict, checkAnswer, checkTo
 
 unfoldable pub calls-opened : Unit {0}
 unfolding
-    entries-opened tables-opened admittedCheck fillVerdict listBelow initialEntries tableEntries offsetsBelow offsetEntries initialAfter
+    entries-opened tables-opened admittedCheck fillVerdict listBelow initialEntries storedOffset tableEntries offsetsBelow offsetEntries initialAfter
     offsetsAfter wordChecks evaluateVerdict evaluateAnswer evaluateTold outputCheck roomVerdict wordsBelow placeVerdict batchAnswer
     checksBelow batchVerdict outputAfter passing batchTold faithfulAt Check.wordsBelow checkVerdict checkAnswer checkTold
 calls-opened = tt

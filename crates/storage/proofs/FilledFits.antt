@@ -9,12 +9,13 @@ use lib.IntN.{ℤ, pos, negsuc}
 use borrow.Author.Tests.{lt-ltb}
 use Rattle.refusal.specs.declared.Verdict.{Verdict}
 use Rattle.design.specs.declared.Design.{Design}
-use Rattle.design.specs.Cut.{aOf, bOf, row, initialCount, offsetTotal}
+use Rattle.design.specs.Cut.{aOf, bOf, row}
+use Rattle.design.specs.Stored.{initialCount, offsetTotal, storedCount, storedWord}
 use Rattle.design.specs.Legal.{Legal}
 use Rattle.design.proofs.LegalLaws.{Limits, limits}
-use Rattle.design.proofs.CutLaws.{entry-at}
+use Rattle.design.proofs.StoredLaws.{entry-at, word-lt}
 use Rattle.entries.specs.Entries.{initialAt, oddNumber, sameSign, signed, offsetOf, offsetAt}
-use Rattle.filling.specs.Fill.{fillVerdict, initialAfter, offsetsAfter, Filled}
+use Rattle.filling.specs.Fill.{fillVerdict, initialAfter, offsetsAfter, Filled, storedOffset}
 use Rattle.entries.proofs.EntryBounds.{initial-small, magnitude-small, slopes-reach}
 use Rattle.filling.proofs.EntryLaws as EntryLaws
 use Rattle.encoding.specs.Bytes.{fits, fitsSigned}
@@ -31,10 +32,11 @@ module _ (d : Design) (l : Limits d) where
   unfolding fits
   initial-fits A h = lt-ltb (initialAt d A) (2 ^ (8 * 3)) (omega (arith, initial-small d l A h))
 
-  offset-fits : (i A B : ℕ) → i < d .m → A < 2 ^ aOf d i → B < 2 ^ bOf d i → fitsSigned 3 (offsetAt d i A B) ≡ true
-  unfolding offsetAt offsetOf signed
-  offset-fits i A B i-lt A-lt B-lt =
-      either-fits 3 _ (omega (arith, magnitude-small _ _ _ B (slopes-reach d l i A i-lt A-lt) B-lt))
+  offset-fits : (i A index : ℕ) → i < d .m → A < 2 ^ aOf d i → index < storedCount d i → fitsSigned 3 (storedOffset d i A index) ≡ true
+  unfolding storedOffset offsetAt offsetOf signed
+  offset-fits i A index i-lt A-lt index-lt =
+      let B = storedWord d i index in
+      either-fits 3 _ (omega (arith, magnitude-small _ _ _ B (slopes-reach d l i A i-lt A-lt) (word-lt d i index index-lt)))
       (sameSign (row d .rising) (oddNumber (bOf d i) B))
 
 -- Legality is enough; the fill writes an admitted design only.
@@ -49,9 +51,9 @@ filled-storable t legal filled =
           let at = entry-at d (d .m) place h in
           rw (
             ← at .place,
-            filled .offset-entry (at .i) (at .A) (at .B) (at .i-lt) (at .entry .A-lt) (at .entry .B-lt),
+            filled .offset-entry (at .i) (at .A) (at .index) (at .i-lt) (at .entry .A-lt) (at .entry .index-lt),
           )
-          (offset-fits d (limits d legal) (at .i) (at .A) (at .B) (at .i-lt) (at .entry .A-lt) (at .entry .B-lt));
+          (offset-fits d (limits d legal) (at .i) (at .A) (at .index) (at .i-lt) (at .entry .A-lt) (at .entry .index-lt));
     }
 
 -- "an accepted fill leaves such tables"

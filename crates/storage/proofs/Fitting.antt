@@ -4,7 +4,7 @@ use mathlib.Core.Bool.{true}
 use Prim.Native.Nat.{ℕ, _+_, _<_}
 use native.Mathlib.Omega.{arith}
 use lib.ListN.{length}
-use Rattle.design.specs.Cut.{initialCount}
+use Rattle.design.specs.Stored.{initialCount}
 use Rattle.tables.specs.Inputs.{Usable}
 use Rattle.lines.specs.Slots.{lineCount, offsetSlot, slotOf}
 use Rattle.lines.specs.Lines.{entryFits}

@@ -6,7 +6,7 @@ use native.Mathlib.Nat.{add-zero, le-refl, le-trans}
 use native.Mathlib.Omega.{arith}
 use Rattle.design.specs.declared.Design.{Design}
 use Rattle.general.specs.Below.{sumBelow, listBelow}
-use Rattle.design.specs.Cut.{initialCount, offsetCount, tableStart, offsetTotal}
+use Rattle.design.specs.Stored.{initialCount, offsetCount, tableStart, offsetTotal}
 use Rattle.general.proofs.ListLaws.{list-add, list-congruence}
 use Rattle.encoding.specs.Bytes.{bigEndian}
 use Rattle.encoding.specs.Encode.{lineOf}

@@ -11,7 +11,7 @@ use lib.Seq.{getD-take, length-take-le, take-at, drop-at, take-take}
 use lib.IntN.{ℤ, pos}
 use Rattle.refusal.specs.declared.Verdict.{Verdict}
 use Rattle.design.specs.declared.Design.{Design}
-use Rattle.design.specs.Cut.{initialCount, offsetTotal}
+use Rattle.design.specs.Stored.{initialCount, offsetTotal}
 use Rattle.design.specs.Same.{Same}
 use Rattle.tables.specs.Inputs.{Usable}
 use Rattle.general.specs.Below.{listBelow}

@@ -5,20 +5,18 @@ use Prim.Native.Nat.{ℕ, zero, suc}
 use lib.IntN.{ℤ}
 use Rattle.design.specs.declared.Pair.{Pair}
 use Rattle.design.specs.declared.Design.{Design}
-use Rattle.design.specs.Cut.{
-  tables,
-  pairAt,
-  aOf,
-  bOf,
-  position,
-  initialWord,
-  segmentWord,
-  offsetWord,
+use Rattle.design.specs.Cut.{tables, pairAt, aOf, bOf, position, initialWord, segmentWord, offsetWord}
+use Rattle.design.specs.Stored.{
   initialCount,
   offsetCount,
   tableStart,
   offsetTotal,
   offsetPlace,
+  storedCount,
+  storedIndex,
+  offsetFrom,
+  storedWord,
+  storedPlace,
 }
 use Rattle.design.specs.Same.{Same}
 use Rattle.design.specs.Legal.{tableBreaks, cutChecks, designChecks, designVerdict}
@@ -36,6 +34,7 @@ use Rattle.filling.specs.Fill.{
   offsetEntries,
   initialAfter,
   offsetsAfter,
+  storedOffset,
 }
 use Rattle.evaluating.specs.Evaluate.{wordChecks, evaluateVerdict, evaluateAnswer, evaluateTold}
 use Rattle.evaluating.specs.Batch.{roomVerdict, placeVerdict, batchAnswer, batchVerdict, batchTold, outputAfter}
@@ -50,7 +49,8 @@ use Rattle.storage.specs.Unread.{SameAnswers}
 -- What lies between the answers and what they read of a design
 unfoldable opened : Unit {0}
 unfolding
-    pairAt position initialWord segmentWord offsetWord initialCount offsetCount tableStart offsetTotal offsetPlace
+    pairAt position initialWord segmentWord offsetWord initialCount storedCount storedIndex offsetFrom storedWord offsetCount tableStart
+    offsetTotal storedPlace offsetPlace storedOffset
     tableBreaks cutChecks designChecks designVerdict reach tableBudget budget limit withinLimit size budgetAnswer sizeAnswer
     valueAt endValues initialAt hiAt loAt offsetAt offsetFor sumAt sumOutside wordOf wordAt
     tablesCheck setChecks admittedCheck fillVerdict initialEntries tableEntries offsetEntries initialAfter offsetsAfter
@@ -60,7 +60,7 @@ unfolding
 opened = tt
 
 -- Those of them that a rewrite has to be told to look into
-ruleset insides = (aOf, bOf, offsetCount, tableBreaks, tableBudget, initialAt, offsetFor, placeVerdict, wordAt, faithfulAt, slotOf)
+ruleset insides = (aOf, bOf, storedCount, offsetCount, tableBreaks, tableBudget, initialAt, offsetFor, placeVerdict, wordAt, faithfulAt, slotOf)
 
 -- The design with other pairs
 abbrev with-pairs : Design → List Pair → Design

@@ -9,7 +9,7 @@ use lib.ListN.{getD}
 use lib.Seq.{getD-set-other}
 use lib.IntN.{ℤ, pos}
 use Rattle.design.specs.declared.Design.{Design}
-use Rattle.design.specs.Cut.{initialCount}
+use Rattle.design.specs.Stored.{initialCount}
 use Rattle.encoding.specs.Bytes.{complement, fits, fitsSigned, fromComplement}
 use Rattle.lines.specs.declared.Slot.{Slot}
 use Rattle.lines.specs.Slots.{lineCount, slotOf, offsetSlot}

@@ -11,7 +11,7 @@ use lib.IntN.{ℤ}
 use borrow.Author.Tests.{eq-eqb}
 use Rattle.refusal.specs.declared.Verdict.{Verdict}
 use Rattle.design.specs.declared.Design.{Design}
-use Rattle.design.specs.Cut.{initialCount, offsetTotal}
+use Rattle.design.specs.Stored.{initialCount, offsetTotal}
 use Rattle.design.specs.Legal.{Legal}
 use Rattle.tables.specs.Inputs.{Usable}
 use Rattle.tables.proofs.SetLaws.{tables-long}

@@ -3,7 +3,7 @@ use mathlib.Core.List.{List, [], _∷_, _++_}
 use Prim.Native.Nat.{ℕ, zero, suc, _+_}
 use lib.ListN.{getD}
 use lib.IntN.{pos}
-use Rattle.design.specs.Cut.{initialCount, offsetCount, tableStart, offsetTotal}
+use Rattle.design.specs.Stored.{initialCount, offsetCount, tableStart, offsetTotal}
 use Rattle.general.specs.Below.{listBelow}
 use Rattle.encoding.specs.Bytes.{bigEndian, complement}
 use Rattle.encoding.specs.Encode.{lineOf}

@@ -6,7 +6,7 @@ use lib.ListN.{length, drop}
 use lib.IntN.{ℤ}
 use Rattle.refusal.specs.declared.Verdict.{Verdict}
 use Rattle.design.specs.declared.Design.{Design}
-use Rattle.design.specs.Cut.{initialCount, offsetTotal}
+use Rattle.design.specs.Stored.{initialCount, offsetTotal}
 use Rattle.design.specs.Budget.{Admitted}
 use Rattle.filling.specs.Fill.{fillVerdict, initialAfter, offsetsAfter, Filled}
 use Rattle.lines.specs.Slots.{lineCount}

@@ -7,25 +7,15 @@ use native.Mathlib.Decide.{decLt}
 use native.Mathlib.Omega.{arith}
 use lib.ListN.{take, List·getD-eq-default, length-take}
 use lib.Pow.{pow-lt, pow-mono, shr-shr, split}
+use Rattle.design.specs.Limits.{mostTables, mostOffsetBits, mostTableBits, mostInTable}
 use Rattle.design.specs.declared.Pair.{Pair}
 use Rattle.design.specs.declared.Design.{Design}
-use Rattle.design.specs.Cut.{
-  tables,
-  pairAt,
-  aOf,
-  bOf,
-  position,
-  initialWord,
-  segmentWord,
-  offsetWord,
-  offsetCount,
-  tableStart,
-  offsetTotal,
-  offsetPlace,
-}
+use Rattle.design.specs.Cut.{tables, pairAt, aOf, bOf, position, initialWord, segmentWord, offsetWord, noPair}
+use Rattle.design.specs.Stored.{offsetCount, tableStart, offsetTotal, offsetPlace, storedPlace, storedCount, storedIndex}
 use Rattle.general.proofs.Sums.{sum-bounded, sum-next}
 use Rattle.design.proofs.LegalLaws.{Limits, bits-end}
-use Rattle.design.proofs.CutLaws.{place-in-total, segment-word-lt, offset-word-lt}
+use Rattle.design.proofs.StoredLaws.{place-in-total, count-is}
+use Rattle.design.proofs.CutLaws.{segment-word-lt, offset-word-lt}
 use Rattle.tables.specs.declared.lookups.Lookup.{Lookup}
 use Rattle.tables.specs.declared.lookups.Lookups.{Lookups}
 use Rattle.tables.specs.Lookup.{lookupOf, lookupsOf, placeAt}
@@ -36,14 +26,14 @@ pub shl-one : (n : ℕ) → n < 32 → 1 * 2 ^ n % 2 ^ 32 ≡ 2 ^ n
 shl-one n h = ap (λ (k : ℕ). k % 2 ^ 32) (one-mul _) ∙ mod-eq-of-lt (pow-lt h)
 
 -- A pair beyond m is one of no bits.
-pair-beyond : (d : Design) (i : ℕ) → d .m ≤ i → pairAt d i ≡ record { a = 0; b = 0 }
+pair-beyond : (d : Design) (i : ℕ) → d .m ≤ i → pairAt d i ≡ noPair
 unfolding pairAt tables
 pair-beyond d i h = List·getD-eq-default (take (d .m) (d .pairs)) _ {n = i} (omega (arith, length-take (d .m) (d .pairs)))
 
 -- How many bits a table has, if there is one or not
 pub record Few (d : Design) (i : ℕ) : Type 0 where
-  pub b-small : bOf d i ≤ 8
-  pub bits-small : aOf d i + bOf d i ≤ 12
+  pub b-small : bOf d i ≤ mostOffsetBits
+  pub bits-small : aOf d i + bOf d i ≤ mostTableBits
   pub bits-within : aOf d i + bOf d i ≤ d .w
 
 -- The lookup of a table of no bits
@@ -60,7 +50,7 @@ module _ (d : Design) (i at start : ℕ) (at-is : at ≡ position d i) (start-is
   pub lookup-none : d .m ≤ i → no-bits (d .w) at start ≡ lookupOf d i
   lookup-none h =
       let none : d .w ≡ d .w - (0 + 0) = omega arith in
-      ap (λ (shift : ℕ). no-bits shift at start) none ∙ lookup-here (record { a = 0; b = 0 }) (sym (pair-beyond d i h))
+      ap (λ (shift : ℕ). no-bits shift at start) none ∙ lookup-here noPair (sym (pair-beyond d i h))
 
 module _ (d : Design) (l : Limits d) where
   pub few : (i : ℕ) → Few d i
@@ -80,20 +70,19 @@ module _ (d : Design) (l : Limits d) where
             record { b-small = omega arith; bits-small = omega arith; bits-within = omega arith }
       ]
 
-  count-small : (i : ℕ) → offsetCount d i ≤ 4096
-  unfolding offsetCount
-  count-small i = pow-mono {j = 12} (few i .bits-small)
+  count-small : (i : ℕ) → offsetCount d i ≤ mostInTable
+  count-small i = rw (count-is d i) (pow-mono {j = mostTableBits} (few i .bits-small))
 
-  position-small : (i : ℕ) → position d i ≤ i * 8
+  position-small : (i : ℕ) → position d i ≤ i * mostOffsetBits
   unfolding position
-  position-small i = sum-bounded i 8 (bOf d) (λ j h. few j .b-small)
+  position-small i = sum-bounded i mostOffsetBits (bOf d) (λ j h. few j .b-small)
 
-  start-small : (i : ℕ) → tableStart d i ≤ i * 4096
+  start-small : (i : ℕ) → tableStart d i ≤ i * mostInTable
   unfolding tableStart
-  start-small i = sum-bounded i 4096 (offsetCount d) (λ j h. count-small j)
+  start-small i = sum-bounded i mostInTable (offsetCount d) (λ j h. count-small j)
 
   module _ (i : ℕ) (lookup : Lookup) (e : lookup ≡ lookupOf d i) where
-    pub lookup-small : i < 4 → Small lookup
+    pub lookup-small : i < mostTables → Small lookup
     unfolding lookupOf
     lookup-small h =
         rw e
@@ -110,12 +99,12 @@ module _ (d : Design) (l : Limits d) where
     shift-within = rw e (omega arith)
 
     count-again : 1 * 2 ^ (d .w - lookup .shift) % 2 ^ 32 ≡ offsetCount d i
-    unfolding lookupOf offsetCount
+    unfolding lookupOf
     count-again =
         let bits : d .w - lookup .shift ≡ aOf d i + bOf d i = rw e (omega (arith, few i .bits-within)) in
-        rw bits (shl-one _ (omega (arith, few i .bits-small)))
+        rw (bits, count-is d i) (shl-one _ (omega (arith, few i .bits-small)))
 
-    pub count-again-small : 1 * 2 ^ (d .w - lookup .shift) % 2 ^ 32 ≤ 4096
+    pub count-again-small : 1 * 2 ^ (d .w - lookup .shift) % 2 ^ 32 ≤ mostInTable
     count-again-small = rw count-again (count-small i)
 
     pub position-next : lookup .position + lookup .b ≡ position d (i + 1)
@@ -140,7 +129,7 @@ module _ (d : Design) (l : Limits d) (i near x : ℕ) (more : i < d .m) (words :
 
   -- So the lookup of a table that is read leads to the place of x's offset,
   pub place-is : placeAt (lookupOf d i) near x ≡ offsetPlace d i (segmentWord d i x) (offsetWord d i x)
-  unfolding placeAt lookupOf offsetPlace segmentWord offsetWord
+  unfolding placeAt lookupOf offsetPlace storedPlace storedCount storedIndex segmentWord offsetWord
   place-is =
       let e : d .w - (aOf d i + bOf d i) + bOf d i ≡ d .w - aOf d i = omega (arith, few d l i .bits-within) in
       rw (whole near (d .w - (aOf d i + bOf d i)) (bOf d i), e, same-segment)
@@ -149,7 +138,7 @@ module _ (d : Design) (l : Limits d) (i near x : ℕ) (more : i < d .m) (words :
   pub place-lt : placeAt (lookupOf d i) near x < offsetTotal d
   place-lt =
       rw place-is
-      (place-in-total d i _ _ more (record { A-lt = segment-word-lt d l i x more (words .word); B-lt = offset-word-lt d i x }))
+      (place-in-total d i _ _ more (segment-word-lt d l i x more (words .word)) (offset-word-lt d i x))
 
 -- The four lookups of a design, one by one
 pub record Looked (d : Design) (lookups : Lookups) : Type 0 where

@@ -10,7 +10,7 @@ use Rattle.refusal.specs.declared.Verdict.{Verdict}
 use Rattle.refusal.specs.Checks.{verdict, refuses}
 use Rattle.refusal.proofs.Checks.{verdict-append, passed-append, none-fails, neither}
 use Rattle.design.specs.declared.Design.{Design}
-use Rattle.design.specs.Cut.{initialCount, offsetTotal}
+use Rattle.design.specs.Stored.{initialCount, offsetTotal}
 use Rattle.design.specs.Legal.{designChecks, designVerdict, Legal}
 use Rattle.tables.specs.Inputs.{Usable}
 use Rattle.tables.specs.Set.{tablesCheck, setChecks}

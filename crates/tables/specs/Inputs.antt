@@ -1,10 +1,17 @@
 -- What inner calls may count on. Their callers are proved to see to it.
 use mathlib.Core.Path.{_≡_}
-use Prim.Native.Nat.{ℕ, _*_, _^_, _≤_, _<_}
+use mathlib.Core.List.{List}
+use Prim.Native.Nat.{ℕ, _+_, _*_, _^_, _≤_, _<_, min}
+use lib.IntN.{ℤ, pos, _+ℤ_}
+use lib.Signed.{mag}
+use Rattle.design.specs.Limits.{mostOffsetBits, mostOffsets}
+use Rattle.general.specs.Below.{signedSum}
 use Rattle.design.specs.declared.Design.{Design}
-use Rattle.design.specs.Cut.{initialWord, initialCount, offsetTotal}
+use Rattle.design.specs.Cut.{initialWord}
+use Rattle.design.specs.Stored.{initialCount, offsetTotal}
 use Rattle.design.specs.Legal.{Legal}
 use Rattle.tables.specs.declared.lookups.Lookup.{Lookup}
+use Rattle.tables.specs.Sum.{offsetFor}
 
 -- A legal design with tables, here their lengths, that are long enough for it
 pub record Usable (d : Design) (initial offsets : ℕ) : Type 0 where
@@ -21,6 +28,11 @@ pub record SameInterval (d : Design) (near x : ℕ) : Type 0 where
 -- A lookup whose numbers are small: it shifts by fewer than 32 bits and begins where a fourth table may.
 pub record Small (lookup : Lookup) : Type 0 where
   pub shift-small : lookup .shift ≤ 16
-  pub b-small : lookup .b ≤ 8
+  pub b-small : lookup .b ≤ mostOffsetBits
   pub position-small : lookup .position ≤ 24
-  pub start-small : lookup .start ≤ 3 * 4096
+  pub start-small : lookup .start ≤ mostOffsets
+
+-- A sum of an initial entry and the offsets of the first i tables, or of all where there are fewer, each of 32 bits
+pub record Summed (d : Design) (entry : ℕ) (offsets : List ℤ) (x i : ℕ) (sum : ℤ) : Type 0 where
+  pub sum-is : sum ≡ pos entry +ℤ signedSum (min i (d .m)) (offsetFor d offsets x)
+  pub small : mag sum ≤ 2 ^ 32 + i * 2 ^ 32

@@ -2,7 +2,8 @@
 use Prim.Native.Nat.{ℕ, _+_, _-_, _/_, _%_, _^_}
 use Rattle.design.specs.declared.Design.{Design}
 use Rattle.design.specs.Cut as Cut
-use Rattle.design.specs.Cut.{aOf, bOf, tableStart}
+use Rattle.design.specs.Cut.{aOf, bOf}
+use Rattle.design.specs.Stored.{tableStart}
 use Rattle.tables.specs.declared.lookups.Lookup.{Lookup}
 use Rattle.tables.specs.declared.lookups.Lookups.{Lookups}
 

@@ -6,7 +6,7 @@ use lib.Dec.{ltb}
 use Rattle.refusal.specs.declared.Cause.{Cause}
 use Rattle.refusal.specs.Checks.{Check, _↝_}
 use Rattle.design.specs.declared.Design.{Design}
-use Rattle.design.specs.Cut.{initialCount, offsetTotal}
+use Rattle.design.specs.Stored.{initialCount, offsetTotal}
 use Rattle.design.specs.Legal.{designChecks}
 
 -- 10, "either lent table shorter than the set", by the tables' lengths

@@ -7,11 +7,13 @@ use lib.IntN.{ℤ, pos, _+ℤ_, natAbs}
 use lib.Signed.{ltZ, leZ}
 use Rattle.general.specs.Below.{signedSum}
 use Rattle.design.specs.declared.Design.{Design}
-use Rattle.design.specs.Cut.{fractionBits, initialWord, segmentWord, offsetWord, offsetPlace}
+use Rattle.design.specs.Cut.{fractionBits, initialWord, segmentWord, offsetWord}
+use Rattle.design.specs.Stored.{offsetFrom, offsetPlace}
 
--- The offset of table i that x looks up, "entry A_i·2^(b_i) + B_i"
+-- The offset of table i that x looks up, "entry A_i·2^(b_i) + B_i": it comes from what is stored at the place that A_i and B_i read
 unfoldable pub offsetFor : Design → List ℤ → ℕ → ℕ → ℤ
-offsetFor d offsets x i = getD offsets (offsetPlace d i (segmentWord d i x) (offsetWord d i x)) (pos 0)
+offsetFor d offsets x i =
+    offsetFrom d i (offsetWord d i x) (getD offsets (offsetPlace d i (segmentWord d i x) (offsetWord d i x)) (pos 0))
 
 -- "Y is the initial entry plus the m offsets, each offset signed."
 unfoldable pub sumAt : Design → List ℕ → List ℤ → ℕ → ℤ

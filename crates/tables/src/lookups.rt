@@ -2,7 +2,7 @@
 ghost use mathlib.Core.Path.{_≡_};
 ghost use Prim.Native.Nat.{_+_, _^_, _<_};
 ghost use Rattle.design.specs.Cut as Cut;
-ghost use Rattle.design.specs.Cut.{tableStart};
+ghost use Rattle.design.specs.Stored.{tableStart};
 ghost use Rattle.design.specs.Legal.{Legal};
 ghost use Rattle.tables.specs.Inputs.{Small};
 ghost use Rattle.tables.specs.Lookup.{lookupOf, lookupsOf, placeAt};

@@ -1,14 +1,15 @@
 // The sum Y of an input word over any tables, whoever filled them, and the word that it comes to.
 ghost use mathlib.Core.Path.{_≡_};
 ghost use mathlib.Core.Bool.{false};
-ghost use Prim.Native.Nat.{_+_, _^_, _≤_, _<_};
+ghost use Prim.Native.Nat.{ℕ, _+_, _^_, _≤_, _<_};
 ghost use lib.ListN.{length, getD};
 ghost use lib.IntN.{pos, _+ℤ_};
 ghost use lib.Signed.{mag};
-ghost use Rattle.design.specs.Cut.{offsetTotal};
+ghost use Rattle.design.specs.Limits.{mostTables};
+ghost use Rattle.design.specs.Stored.{offsetTotal};
 ghost use Rattle.design.specs.Legal.{Legal};
-ghost use Rattle.tables.specs.Inputs.{Usable, SameInterval, Small};
-ghost use Rattle.tables.specs.Lookup.{lookupsOf, placeAt};
+ghost use Rattle.tables.specs.Inputs.{Usable, SameInterval, Small, Summed};
+ghost use Rattle.tables.specs.Lookup.{lookupsOf, placeAt, lookupOf};
 ghost use Rattle.general.specs.Below.{signedSum};
 ghost use Rattle.tables.specs.Sum.{offsetFor, sumAt, sumOutside, wordOf};
 use crate::lookups::Lookup;
@@ -31,6 +32,28 @@ fn add_offset(lookup: Lookup, sum: TableUnits, offsets: &[i32], near: u32, x: u3
     TableUnits(sum.0 + offset as i64)
 }
 
+// One table more: its offset, if there is such a table.
+fn add_table(
+    d: Design,
+    i: u32,
+    lookup: Lookup,
+    sum: TableUnits,
+    offsets: &[i32],
+    near: u32,
+    x: u32,
+) -> TableUnits
+    requires { ⌜ Legal d × (offsetTotal d ≤ length (now offsets)) ⌝ }
+    requires { ⌜ (lookup ≡ lookupOf d i) × SameInterval d near x ⌝ }
+    requires { ⌜ (i ≤ mostTables) × (mag (sum .0) ≤ 2 ^ 40) ⌝ }
+    ensures { λ r. ⌜ ((entry : ℕ) → Summed d entry (now (offsets .entry)) x i (sum .0)
+        → Summed d entry (now (offsets .entry)) x (i + 1) (r .0)) ⌝ }
+{
+    if d.m <= i {
+        return sum;
+    }
+    add_offset(lookup, sum, offsets, near, x)
+}
+
 // inner: Y, from x's initial entry on: m lookups, shifts and adds. `near` is any word of x's interval.
 pub fn sum_from(
     d: Design,
@@ -45,21 +68,11 @@ pub fn sum_from(
     requires { ⌜ SameInterval d near x ⌝ }
     ensures { λ r. ⌜ r ≡ record { 0 = pos entry +ℤ signedSum (d .m) (offsetFor d (now (offsets .entry)) x) } ⌝ }
 {
-    let m = d.m;
     let none = TableUnits(entry as i64);
-    let one = add_offset(lookups.first, none, offsets, near, x);
-    if m == 1 {
-        return one;
-    }
-    let two = add_offset(lookups.second, one, offsets, near, x);
-    if m == 2 {
-        return two;
-    }
-    let three = add_offset(lookups.third, two, offsets, near, x);
-    if m == 3 {
-        return three;
-    }
-    add_offset(lookups.fourth, three, offsets, near, x)
+    let one = add_table(d, 0, lookups.first, none, offsets, near, x);
+    let two = add_table(d, 1, lookups.second, one, offsets, near, x);
+    let three = add_table(d, 2, lookups.third, two, offsets, near, x);
+    add_table(d, 3, lookups.fourth, three, offsets, near, x)
 }
 
 // inner: Y, summed from the tables: the initial entry and m offsets.

@@ -8,7 +8,7 @@ use Rattle.values.specs.Inputs.{InRange, SegmentInput}
 use Rattle.values.specs.Slopes.{segmentStart, segmentEnd}
 use Rattle.values.proofs.Bounds.{start-input, end-input}
 use Rattle.design.specs.declared.Design.{Design}
-use Rattle.design.specs.Cut.{initialCount}
+use Rattle.design.specs.Stored.{initialCount}
 use Rattle.design.specs.Legal.{Legal}
 use Rattle.design.proofs.LegalLaws.{limits}
 use Rattle.entries.specs.Entries.{valueAt, endValues, initialAt}

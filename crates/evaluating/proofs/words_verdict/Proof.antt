@@ -4,7 +4,7 @@ use native.Mathlib.Omega.{arith}
 use borrow.Author.Needs.{needs}
 use lib.Pow.{pow-mono}
 use Rattle.design.proofs.LegalLaws.{limits}
-use Rattle.design.proofs.CutLaws.{offset-total-small}
+use Rattle.design.proofs.StoredLaws.{offset-total-small}
 use Rattle.evaluating.proofs.RangeLaws.{width-answers}
 use Rattle.evaluating.proofs.words_verdict.Statement.{statement}
 use Rattle.evaluating.proofs.words_verdict.Tie as tie

@@ -6,9 +6,9 @@ use native.Mathlib.Omega.{arith}
 use lib.ListN.{length, length-set}
 use lib.Pow.{pow-pos}
 use Rattle.design.specs.declared.Design.{Design}
-use Rattle.design.specs.Cut.{initialCount}
+use Rattle.design.specs.Stored.{initialCount}
 use Rattle.design.proofs.LegalLaws.{limits}
-use Rattle.design.proofs.CutLaws.{initial-count-small}
+use Rattle.design.proofs.StoredLaws.{initial-count-small}
 use Rattle.entries.specs.Entries.{initialAt}
 use Rattle.general.specs.Below.{listBelow}
 use Rattle.filling.specs.Fill.{initialEntries}

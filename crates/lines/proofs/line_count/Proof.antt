@@ -2,7 +2,7 @@
 use Prim.Native.Nat.{_+_, _≤_}
 use native.Mathlib.Omega.{arith}
 use borrow.Author.Needs.{needs}
-use Rattle.design.specs.Cut.{initialCount}
+use Rattle.design.specs.Stored.{initialCount}
 use Rattle.design.proofs.LegalLaws.{limits}
 use Rattle.lines.specs.Slots.{lineCount}
 use Rattle.lines.proofs.TableLaws.{lines-small}

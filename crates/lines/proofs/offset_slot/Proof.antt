@@ -2,7 +2,7 @@
 use Prim.Native.Nat.{_+_, _-_, _<_}
 use native.Mathlib.Omega.{arith}
 use Rattle.design.proofs.LegalLaws.{limits}
-use Rattle.design.proofs.CutLaws.{offset-total-small}
+use Rattle.design.proofs.StoredLaws.{offset-total-small}
 use Rattle.lines.proofs.TableLaws.{Search, search-start, search-within, search-next, search-step, search-end}
 use Rattle.lines.proofs.offset_slot.Statement.{statement}
 use Rattle.lines.proofs.offset_slot.Tie as tie
@@ -13,11 +13,11 @@ Inv-loop d place at table₀ start₀ end₀ table start end = Search d at table
 abbrev μ-loop : tie.MeasureT-loop
 μ-loop d place at table₀ start₀ end₀ table start end = d .m - table
 
-table-size-requires : tie.Need-table-size-requires Inv-loop μ-loop
-table-size-requires c κs = (c .pre .legal, limits _ (c .pre .legal) .m-low)
+offset-count-requires : tie.Need-offset-count-requires Inv-loop μ-loop
+offset-count-requires c κs = (c .pre .legal, limits _ (c .pre .legal) .m-low)
 
 loop-holds : tie.Need-loop-holds Inv-loop μ-loop
-loop-holds c = search-start _ _ _ (limits _ (c .before .pre .legal) .m-low) (c .table-size .ensures)
+loop-holds c = search-start _ _ _ (limits _ (c .before .pre .legal) .m-low) (c .offset-count .ensures)
 
 -- a table that ends at the place or before is not the last,
 next : (c : tie.In-loop Inv-loop μ-loop) → c .before .loop .table + 1 < c .before .before .before .args .d .m
@@ -26,14 +26,14 @@ next c = search-next _ _ _ _ _ (c .before .loop .inv) (c .before .before .before
 add-table : tie.Need-add-table Inv-loop μ-loop
 add-table c = omega (arith, next c, limits _ (c .before .before .before .pre .legal) .m-high)
 
-table-size-requires-2 : tie.Need-table-size-requires-2 Inv-loop μ-loop
-table-size-requires-2 c κs = (c .before .before .before .pre .legal, next c)
+offset-count-requires-2 : tie.Need-offset-count-requires-2 Inv-loop μ-loop
+offset-count-requires-2 c κs = (c .before .before .before .pre .legal, next c)
 
 -- and the search goes on at the next.
 loop-again : tie.Need-loop-again Inv-loop μ-loop
 loop-again c =
     search-step _ _ _ _ _ _ (c .before .before .loop .inv) (c .before .before .before .before .pre .within) (omega arith)
-    (c .table-size2 .ensures)
+    (c .offset-count2 .ensures)
 
 add-end : tie.Need-add-end Inv-loop μ-loop
 add-end c =
@@ -57,10 +57,10 @@ offset-slot-spec =
     (tie.spec
     Inv-loop
     μ-loop
-    table-size-requires
+    offset-count-requires
     loop-holds
     add-table
-    table-size-requires-2
+    offset-count-requires-2
     add-end
     loop-less
     loop-again

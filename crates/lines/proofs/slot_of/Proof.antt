@@ -2,9 +2,9 @@
 use mathlib.Core.Path.{_≡_, sym, _∙_}
 use native.Mathlib.Omega.{arith}
 use borrow.Author.Needs.{needs}
-use Rattle.design.specs.Cut.{initialCount}
+use Rattle.design.specs.Stored.{initialCount}
 use Rattle.design.proofs.LegalLaws.{limits}
-use Rattle.design.proofs.CutLaws.{offset-total-small, initial-count-small}
+use Rattle.design.proofs.StoredLaws.{offset-total-small, initial-count-small}
 use Rattle.lines.specs.Slots.{lineCount}
 use Rattle.lines.proofs.SlotLaws.{slot-first, slot-initial, slot-offset, slot-last}
 use Rattle.lines.proofs.TableLaws.{lines-small}

@@ -2,7 +2,7 @@
 use mathlib.Core.Path.{sym}
 use native.Mathlib.Omega.{arith}
 use borrow.Author.Needs.{needs}
-use Rattle.design.specs.Cut.{initialCount}
+use Rattle.design.specs.Stored.{initialCount}
 use Rattle.design.proofs.LegalLaws.{limits}
 use Rattle.tables.proofs.SetLaws.{initial-short, offsets-tried}
 use Rattle.tables.proofs.tables_short.Statement.{statement}

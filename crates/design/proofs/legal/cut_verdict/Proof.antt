@@ -9,6 +9,7 @@ use Rattle.refusal.specs.declared.Cause.{Cause}
 use Rattle.refusal.specs.declared.Verdict.{Verdict}
 use Rattle.refusal.specs.Checks.{outside, refuses, verdict}
 use Rattle.refusal.proofs.Checks.{inside, tested}
+use Rattle.design.specs.Limits.{leastInitialBits, mostInitialBits, mostTables}
 use Rattle.design.specs.declared.legal.TableRule.{TableRule}
 use Rattle.design.specs.Cut.{position}
 use Rattle.general.specs.Below.{someBelow}
@@ -17,13 +18,13 @@ use Rattle.design.proofs.legal.cut_verdict.Statement.{statement}
 use Rattle.design.proofs.legal.cut_verdict.Tie as tie
 
 -- each test passed so far
-alpha-passed : (c : tie.Else1) → outside 2 13 (c .before .before .args .d .alpha) ≡ false
+alpha-passed : (c : tie.Else1) → outside leastInitialBits mostInitialBits (c .before .before .args .d .alpha) ≡ false
 alpha-passed c = tested (c .before .outside .ensures) (c .if1 .left)
 
 w-passed : (c : tie.Else2) → let d = c .before .before .before .before .args .d in leb (d .w) (d .alpha) ≡ false
 w-passed c = lt-leb _ _ (c .if2 .left)
 
-m-passed : (c : tie.Else3) → outside 1 4 (c .before .before .before .before .before .before .args .d .m) ≡ false
+m-passed : (c : tie.Else3) → outside 1 mostTables (c .before .before .before .before .before .before .args .d .m) ≡ false
 m-passed c = tested (c .before .outside2 .ensures) (c .if3 .left)
 
 segments-passed : (c : tie.Else4)
@@ -54,7 +55,7 @@ unfolding cutChecks
 returns-3 c = rw (alpha-passed (c .before .before .before .before), w-passed (c .before .before), tested (c .before .outside2 .ensures) (c .if3 .taken))
 
 some-table-breaks-requires : tie.Need-some-table-breaks-requires
-some-table-breaks-requires c κs = inside 1 4 _ (m-passed c) .1
+some-table-breaks-requires c κs = inside 1 mostTables _ (m-passed c) .1
 
 returns-4 : tie.Need-returns-4
 unfolding cutChecks
@@ -63,7 +64,7 @@ returns-4 c =
     rw (alpha-passed (b .before .before .before .before), w-passed (b .before .before), m-passed b, tested (c .before .some-table-breaks .ensures) (c .if4 .taken))
 
 some-table-breaks-requires-2 : tie.Need-some-table-breaks-requires-2
-some-table-breaks-requires-2 c κs = inside 1 4 _ (m-passed (c .before .before)) .1
+some-table-breaks-requires-2 c κs = inside 1 mostTables _ (m-passed (c .before .before)) .1
 
 returns-5 : tie.Need-returns-5
 unfolding cutChecks
@@ -78,7 +79,7 @@ returns-5 c =
     )
 
 offset-bits-requires : tie.Need-offset-bits-requires
-offset-bits-requires c κs = inside 1 4 _ (m-passed (c .before .before .before .before)) .1
+offset-bits-requires c κs = inside 1 mostTables _ (m-passed (c .before .before .before .before)) .1
 
 sub-if6 : tie.Need-sub-if6
 sub-if6 c = search needs

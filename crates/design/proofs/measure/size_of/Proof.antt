@@ -1,10 +1,11 @@
 -- `design::measure::size_of` meets its contract: 24 bits for each initial entry and each offset.
 use Prim.Native.Nat.{_≤_}
 use native.Mathlib.Omega.{arith}
-use Rattle.design.specs.Cut.{initialCount}
+use Rattle.design.specs.Limits.{mostInitial, mostOffsets}
+use Rattle.design.specs.Stored.{initialCount}
 use Rattle.design.specs.Budget.{size}
 use Rattle.design.proofs.LegalLaws.{limits}
-use Rattle.design.proofs.CutLaws.{initial-count-small, offset-total-small}
+use Rattle.design.proofs.StoredLaws.{initial-count-small, offset-total-small}
 use Rattle.design.proofs.measure.size_of.Statement.{statement}
 use Rattle.design.proofs.measure.size_of.Tie as tie
 
@@ -18,8 +19,8 @@ returns : tie.Need-returns
 unfolding size initialCount
 returns c = rw (c .before .pow2 .ensures, c .offset-total .ensures)
 
--- at most 8192 initial entries and 16384 offsets
-few : (c : tie.After-offset-total) → (c .before .pow2 .result ≤ 8192) × (c .offset-total .result ≤ 16384)
+-- at most so many initial entries and offsets
+few : (c : tie.After-offset-total) → (c .before .pow2 .result ≤ mostInitial) × (c .offset-total .result ≤ mostOffsets)
 unfolding initialCount
 few c =
     let l = limits _ (c .before .before .pre) in

@@ -8,7 +8,7 @@ use borrow.Author.Needs.{needs}
 use borrow.Author.Tests.{not-true}
 use lib.Pow.{pow-mono}
 use Rattle.design.specs.declared.Design.{Design}
-use Rattle.design.specs.Cut.{initialCount}
+use Rattle.design.specs.Stored.{initialCount}
 use Rattle.design.proofs.LegalLaws.{Limits, limits}
 use Rattle.evaluating.proofs.RangeLaws.{sums-stay}
 use Rattle.evaluating.proofs.range.sums_in_range.Statement.{statement}

@@ -2,7 +2,8 @@
 use mathlib.Core.Path.{refl}
 use borrow.Author.Needs.{needs}
 use Rattle.general.specs.Below.{sumBelow}
-use Rattle.design.specs.Cut.{position, tableStart}
+use Rattle.design.specs.Cut.{position}
+use Rattle.design.specs.Stored.{tableStart}
 use Rattle.tables.specs.Lookup.{lookupsOf}
 use Rattle.tables.proofs.lookups.lookups_of.Statement.{statement}
 use Rattle.tables.proofs.lookups.lookups_of.Tie as tie

@@ -5,6 +5,7 @@ use native.Mathlib.Nat.{mod-le, lt-of-lt-of-le}
 use native.Mathlib.Omega.{arith}
 use borrow.Author.Needs.{needs}
 use lib.Pow.{pow-pos, shr-le}
+use Rattle.design.specs.Limits.{mostOffsets}
 use Rattle.tables.specs.declared.lookups.Lookup.{Lookup}
 use Rattle.tables.specs.Inputs.{Small}
 use Rattle.tables.specs.Lookup.{placeAt}
@@ -19,7 +20,7 @@ size-pos n h = rw (shl-one n h) (pow-pos n)
 parts-small : (near x s p cut size : ℕ) → near < 2 ^ 16 → x < 2 ^ 16 → near / 2 ^ s - cut + x / 2 ^ p % size < 2 ^ 17
 parts-small near x s p cut size near-word word = omega (arith, shr-le near s, shr-le x p, mod-le (x / 2 ^ p) size)
 
-place-small : (start near x s p cut size : ℕ) → start ≤ 3 * 4096 → near < 2 ^ 16 → x < 2 ^ 16
+place-small : (start near x s p cut size : ℕ) → start ≤ mostOffsets → near < 2 ^ 16 → x < 2 ^ 16
     → start + (near / 2 ^ s - cut + x / 2 ^ p % size) < 2 ^ 18
 place-small start near x s p cut size h near-word word = omega (arith, parts-small near x s p cut size near-word word)
 

@@ -1,0 +1,14 @@
+// The limits of a cut, document 01's refusals 5 to 8. No other code knows these numbers.
+
+// alpha
+pub const LEAST_INITIAL_BITS: u32 = 2;
+
+pub const MOST_INITIAL_BITS: u32 = 13;
+
+// m
+pub const MOST_TABLES: u32 = 4;
+
+// b of a table, and a + b
+pub const MOST_OFFSET_BITS: u32 = 8;
+
+pub const MOST_TABLE_BITS: u64 = 12;
