@@ -8,7 +8,7 @@ use Rattle.refusal.proofs.Checks.{passed-append, none-fails, neither, inside}
 use Rattle.design.specs.Limits.{leastInitialBits, mostInitialBits, mostTables, mostOffsetBits, mostTableBits}
 use Rattle.values.specs.Rows.{Lawful}
 use Rattle.values.specs.Inputs.{SlopeInput}
-use Rattle.values.specs.Widths.{widthChecks}
+use Rattle.values.specs.Widths.{limitsOf, widthChecks}
 use Rattle.values.proofs.WidthLaws.{Widths, widths-of, row-lawful}
 use Rattle.design.specs.declared.Design.{Design}
 use Rattle.design.specs.declared.legal.TableRule.{TableRule}
@@ -52,7 +52,7 @@ module _ (d : Design) where
   pub limits : Legal d → Limits d
   unfolding designVerdict designChecks cutChecks
   limits legal =
-      let lists = passed-append (widthChecks (d .kind) (d .w) (d .q) (d .g)) (cutChecks d) legal in
+      let lists = passed-append (widthChecks (limitsOf (d .kind)) (d .kind) (d .w) (d .q) (d .g)) (cutChecks d) legal in
       let p = none-fails (cutChecks d) (lists .1) in
       let alpha = neither _ _ (p .0) in
       record {

@@ -9,7 +9,7 @@ use Rattle.refusal.specs.declared.Verdict.{Verdict}
 use Rattle.refusal.specs.Checks.{Check, _↝_, outside, verdict}
 use Rattle.design.specs.Limits.{leastInitialBits, mostInitialBits, mostTables, mostOffsetBits, mostTableBits}
 use Rattle.general.specs.Below.{someBelow}
-use Rattle.values.specs.Widths.{widthChecks}
+use Rattle.values.specs.Widths.{widthChecks, limitsOf}
 use Rattle.design.specs.declared.Pair.{Pair}
 use Rattle.design.specs.declared.Design.{Design}
 use Rattle.design.specs.declared.legal.TableRule.{TableRule}
@@ -33,7 +33,7 @@ cutChecks d =
     not (eqb (position d (d .m)) (d .w - d .alpha)) ↝ Cause.CutSum ∷ []
 
 unfoldable pub designChecks : Design → List Check
-designChecks d = widthChecks (d .kind) (d .w) (d .q) (d .g) ++ cutChecks d
+designChecks d = widthChecks (limitsOf (d .kind)) (d .kind) (d .w) (d .q) (d .g) ++ cutChecks d
 
 unfoldable pub designVerdict : Design → Verdict
 designVerdict d = verdict (designChecks d)

@@ -17,6 +17,7 @@ use crate::limits::MOST_TABLES;
 use refusal::Cause;
 use refusal::Verdict;
 use refusal::outside;
+use values::widths::limits_of;
 use values::widths::width_verdict;
 
 // inner: the pair of a table that is read.
@@ -104,7 +105,7 @@ fn cut_verdict(d: Design) -> Verdict
 pub fn design_verdict(d: Design) -> Verdict
     ensures { λ r. ⌜ r ≡ designVerdict d ⌝ }
 {
-    if let Verdict::Refused(cause) = width_verdict(d.kind, d.w, d.q, d.g) {
+    if let Verdict::Refused(cause) = width_verdict(limits_of(d.kind), d.kind, d.w, d.q, d.g) {
         return Verdict::Refused(cause);
     }
     cut_verdict(d)

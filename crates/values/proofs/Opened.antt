@@ -4,11 +4,11 @@ use Rattle.values.specs.Exact.{num, den, numberSide, valueSide}
 use Rattle.values.specs.Floor.{rootFrom, scaled, floorValue}
 use Rattle.values.specs.Slopes.{segmentStart, segmentEnd, hi, lo, spread, largestSpread}
 use Rattle.general.specs.Below.{largest}
-use Rattle.values.specs.Widths.{widthChecks}
+use Rattle.values.specs.Widths.{widthChecks, limitsOf}
 use Rattle.values.specs.Value.{wordCheck, valueVerdict, valueOf}
 
 unfoldable pub values-opened : Unit {0}
 unfolding
     rows rowOf num den numberSide valueSide rootFrom scaled floorValue segmentStart segmentEnd hi lo spread largest largestSpread
-    widthChecks wordCheck valueVerdict valueOf
+    limitsOf widthChecks wordCheck valueVerdict valueOf
 values-opened = tt

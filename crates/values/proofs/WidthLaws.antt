@@ -13,7 +13,7 @@ use Rattle.refusal.specs.Checks.{verdict}
 use Rattle.refusal.proofs.Checks.{none-fails, neither, inside}
 use Rattle.values.specs.declared.rows.Row.{Row}
 use Rattle.values.specs.Rows.{rows, rowOf, Lawful}
-use Rattle.values.specs.Widths.{widthChecks}
+use Rattle.values.specs.Widths.{limitsOf, widthChecks}
 
 both : (a b : Bool) → T (a && b) → T a × T b
 both true b t = (tt, t)
@@ -71,10 +71,10 @@ pub record Widths (kind w q g : ℕ) : Type 0 where
   pub g-high : g ≤ 6
   pub P-high : q + g ≤ 20
 
-pub widths-of : (kind w q g : ℕ) → verdict (widthChecks kind w q g) ≡ Verdict.Passed → Widths kind w q g
-unfolding widthChecks
+pub widths-of : (kind w q g : ℕ) → verdict (widthChecks (limitsOf kind) kind w q g) ≡ Verdict.Passed → Widths kind w q g
+unfolding limitsOf widthChecks
 widths-of kind w q g e =
-    let p = none-fails (widthChecks kind w q g) e in
+    let p = none-fails (widthChecks (limitsOf kind) kind w q g) e in
     let g-and-P = neither _ _ (p .1 .1 .1 .0) in
     record {
       kind-high = inside 0 4 kind (p .0) .1;

@@ -11,7 +11,7 @@ use Rattle.refusal.specs.Told.{Told, accepted, refused, told}
 use Rattle.values.specs.declared.Valued.{Valued}
 use Rattle.values.specs.Rows.{rowOf}
 use Rattle.values.specs.Floor.{floorValue}
-use Rattle.values.specs.Widths.{widthChecks}
+use Rattle.values.specs.Widths.{limitsOf, widthChecks}
 
 -- 12, "x ≥ 2^w"
 unfoldable pub wordCheck : ℕ → ℕ → Check
@@ -22,7 +22,7 @@ valued Verdict.Passed n = Valued.Value (record { 0 = pos n })
 valued (Verdict.Refused cause) n = Valued.Refused cause
 
 unfoldable pub valueVerdict : ℕ → ℕ → ℕ → ℕ → ℕ → Verdict
-valueVerdict kind w q g x = verdict (widthChecks kind w q g ++ wordCheck w x ∷ [])
+valueVerdict kind w q g x = verdict (widthChecks (limitsOf kind) kind w q g ++ wordCheck w x ∷ [])
 
 unfoldable pub valueOf : ℕ → ℕ → ℕ → ℕ → ℕ → Valued
 valueOf kind w q g x = valued (valueVerdict kind w q g x) (floorValue (rowOf kind) w (q + g) (2 ^ w + x))

@@ -5,10 +5,22 @@ use Prim.Native.Nat.{ℕ, _+_}
 use lib.Dec.{ltb}
 use Rattle.refusal.specs.declared.Cause.{Cause}
 use Rattle.refusal.specs.Checks.{Check, _↝_, outside}
+use Rattle.values.specs.declared.widths.Limits.{Limits}
 
-unfoldable pub widthChecks : ℕ → ℕ → ℕ → ℕ → List Check
-widthChecks kind w q g =
-    outside 0 4 kind ↝ Cause.Kind ∷
-    outside 6 16 w ↝ Cause.InputWidth ∷
-    outside 6 16 q ↝ Cause.OutputWidth ∷
-    (outside 2 6 g || ltb 20 (q + g)) ↝ Cause.GuardBits ∷ []
+-- "kind not 0..4", "w not 6..16", "q not 6..16", "g not 2..6, or q+g over 20": the same for every kind.
+unfoldable pub limitsOf : ℕ → Limits
+limitsOf kind =
+    record {
+      kind = 4;
+      w = record { 0 = 6; 1 = 16 };
+      q = record { 0 = 6; 1 = 16 };
+      g = record { 0 = 2; 1 = 6 };
+      sum = 20;
+    }
+
+unfoldable pub widthChecks : Limits → ℕ → ℕ → ℕ → ℕ → List Check
+widthChecks limits kind w q g =
+    outside 0 (limits .kind) kind ↝ Cause.Kind ∷
+    outside (limits .w .0) (limits .w .1) w ↝ Cause.InputWidth ∷
+    outside (limits .q .0) (limits .q .1) q ↝ Cause.OutputWidth ∷
+    (outside (limits .g .0) (limits .g .1) g || ltb (limits .sum) (q + g)) ↝ Cause.GuardBits ∷ []

@@ -17,6 +17,7 @@ use general::pow2;
 use refusal::Cause;
 use refusal::Verdict;
 use rows::row_of;
+use widths::limits_of;
 use widths::width_verdict;
 
 // A count of table units, of either sign. 2^g of them are one output unit.
@@ -45,7 +46,7 @@ pub fn value(kind: u32, w: u32, q: u32, g: u32, x: u32) -> Valued
     ensures answer { λ r. ⌜ r ≡ valueOf kind w q g x ⌝ }
     ensures told { λ r. ⌜ toldBy r ≡ valueTold kind w q g x ⌝ }
 {
-    if let Verdict::Refused(cause) = width_verdict(kind, w, q, g) {
+    if let Verdict::Refused(cause) = width_verdict(limits_of(kind), kind, w, q, g) {
         return Valued::Refused(cause);
     }
     let one = pow2(w);

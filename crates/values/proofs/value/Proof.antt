@@ -16,7 +16,7 @@ use Rattle.values.specs.declared.Valued.{Valued}
 use Rattle.values.specs.Rows.{rowOf}
 use Rattle.values.specs.Floor.{floorValue}
 use Rattle.values.specs.Inputs.{FloorInput}
-use Rattle.values.specs.Widths.{widthChecks}
+use Rattle.values.specs.Widths.{limitsOf, widthChecks}
 use Rattle.values.specs.Value.{valued, valueVerdict, valueOf, wordCheck, toldBy, valueTold}
 use Rattle.values.proofs.WidthLaws.{Widths, widths-of, row-lawful}
 use Rattle.values.proofs.value.Statement.{statement}
@@ -36,11 +36,11 @@ module _ (kind w q g x : ℕ) where
   unfolding valueOf valueTold
   promised r e = (e, ap toldBy e ∙ valued-told (valueVerdict kind w q g x) _)
 
-  refused : (cause : Cause) → verdict (widthChecks kind w q g) ≡ Verdict.Refused cause → Promised (Valued.Refused cause)
+  refused : (cause : Cause) → verdict (widthChecks (limitsOf kind) kind w q g) ≡ Verdict.Refused cause → Promised (Valued.Refused cause)
   unfolding valueOf valueVerdict wordCheck
   refused cause e = promised _ (rw (verdict-append, e))
 
-  module _ (passed : verdict (widthChecks kind w q g) ≡ Verdict.Passed) where
+  module _ (passed : verdict (widthChecks (limitsOf kind) kind w q g) ≡ Verdict.Passed) where
     past : 2 ^ w ≤ x → Promised (Valued.Refused Cause.WordRange)
     unfolding valueOf valueVerdict wordCheck
     past h = promised _ (rw (verdict-append, passed, le-leb _ _ h))
@@ -60,13 +60,21 @@ module _ (kind w q g x : ℕ) where
           range = record { low = omega arith; high = omega arith };
         }
 
--- where the widths passed
-passed : (c : tie.After-enum-told) →
-    let a = c .before .before .before .args in verdict (widthChecks (a .kind) (a .w) (a .q) (a .g)) ≡ Verdict.Passed
-passed c = sym (c .before .before .width-verdict .ensures) ∙ c .enum-told .given .1
+-- the verdict of the widths, by the limits of the kind
+judged : (c : tie.After-width-verdict) → let a = c .before .before .args in
+    c .width-verdict .result ≡ verdict (widthChecks (limitsOf (a .kind)) (a .kind) (a .w) (a .q) (a .g))
+judged c = rw (← c .before .limits-of .ensures) (c .width-verdict .ensures)
 
-limits : (c : tie.After-enum-told) → let a = c .before .before .before .args in Widths (a .kind) (a .w) (a .q) (a .g)
+-- where they passed
+passed : (c : tie.After-enum-told) → let a = c .before .before .before .before .args in
+    verdict (widthChecks (limitsOf (a .kind)) (a .kind) (a .w) (a .q) (a .g)) ≡ Verdict.Passed
+passed c = sym (judged (c .before .before)) ∙ c .enum-told .given .1
+
+limits : (c : tie.After-enum-told) → let a = c .before .before .before .before .args in Widths (a .kind) (a .w) (a .q) (a .g)
 limits c = widths-of _ _ _ _ (passed c)
+
+limits-of-requires : tie.Need-limits-of-requires
+limits-of-requires c κs = search needs
 
 width-verdict-requires : tie.Need-width-verdict-requires
 width-verdict-requires c κs = search needs
@@ -75,7 +83,7 @@ enum-known-cause : tie.Need-enum-known-cause
 enum-known-cause c = search needs
 
 returns : tie.Need-returns
-returns c = refused _ _ _ _ _ _ (sym (c .before .before .before .width-verdict .ensures) ∙ c .before .cause .given .1)
+returns c = refused _ _ _ _ _ _ (sym (judged (c .before .before .before)) ∙ c .before .cause .given .1)
 
 enum-told : tie.Need-enum-told
 enum-told c = search needs
@@ -110,6 +118,7 @@ pub value-spec : {M : Type 1} → statement M
 value-spec =
     tie.close
     (tie.spec
+    limits-of-requires
     width-verdict-requires
     enum-known-cause
     returns
