@@ -7,16 +7,14 @@ use Prim.Native.Nat.{ℕ, zero, suc, _^_, _<_}
 use native.Mathlib.Nat.{le-step, le-refl, not-suc-le-zero}
 use native.Mathlib.Omega.{arith}
 use lib.IntN.{ℤ}
-use borrow.Author.Tests.{ltb-true, lt-ltb, not-true}
+use borrow.Author.Tests.{not-true}
 use Rattle.refusal.specs.declared.Verdict.{Verdict}
 use Rattle.refusal.specs.Told.{told}
 use Rattle.refusal.proofs.Checks.{both, both-so}
-use Rattle.values.specs.declared.rows.Row.{Row}
+use Rattle.values.proofs.FaithfulLaws.{faithful-test, faithful-tested}
 use Rattle.design.specs.declared.Design.{Design}
-use Rattle.design.specs.Cut.{row}
 use Rattle.general.proofs.Sums.{below-suc}
 use Rattle.checking.specs.declared.Checked.{Checked}
-use Rattle.tables.specs.Faithful.{Faithful, isFaithful}
 use Rattle.checking.specs.Check.{
   Finding,
   all-faithful,
@@ -30,19 +28,6 @@ use Rattle.checking.specs.Check.{
   FaithfulWord,
   CheckMeans,
 }
-
--- The test of a word says what the record says.
-module _ (row : Row) (w q X y : ℕ) where
-  pub faithful-test : isFaithful row w q X y ≡ true → Faithful row w q X y
-  unfolding isFaithful
-  faithful-test e =
-      let parts = both _ _ e in
-      let sides = both _ _ (parts .0) in
-      record { positive = ltb-true _ _ (sides .0); low = ltb-true _ _ (sides .1); high = ltb-true _ _ (parts .1) }
-
-  pub faithful-tested : Faithful row w q X y → isFaithful row w q X y ≡ true
-  unfolding isFaithful
-  faithful-tested f = both-so _ _ (both-so _ _ (lt-ltb _ _ (f .positive)) (lt-ltb _ _ (f .low))) (lt-ltb _ _ (f .high))
 
 -- All words below n are faithful,
 pub check-all : (n : ℕ) (test : ℕ → Bool) → ((x : ℕ) → x < n → test x ≡ true) → wordsBelow n test ≡ all-faithful

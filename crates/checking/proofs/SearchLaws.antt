@@ -7,6 +7,7 @@ use native.Mathlib.Numerals.{add-one}
 use native.Mathlib.Omega.{arith}
 use lib.Pow.{high, pow-add, pow-mono}
 use Rattle.refusal.specs.declared.Verdict.{Verdict}
+use Rattle.values.specs.Room.{widestWord, wordBound}
 use Rattle.design.specs.declared.Design.{Design}
 use Rattle.design.specs.Cut.{initialWord}
 use Rattle.design.specs.Stored.{initialCount}
@@ -44,21 +45,21 @@ module _ (test : ℕ → Bool) where
         let end : interval * rests + rests ≡ (interval + 1) * rests = omega arith in
         rw (e, end) at s
 
--- How many intervals and words in each the two loops run over: all 2^w words, at most 2^16.
+-- How many intervals and words in each the two loops run over: all 2^w words.
 pub record Counts (d : Design) (intervals rests : ℕ) : Type 0 where
   pub intervals-is : intervals ≡ initialCount d
   pub rests-is : rests ≡ 2 ^ (d .w - d .alpha)
   pub product : intervals * rests ≡ 2 ^ d .w
-  pub words-small : 2 ^ d .w ≤ 2 ^ 16
-  pub intervals-small : intervals ≤ 2 ^ 16
-  pub rests-small : rests ≤ 2 ^ 16
+  pub words-small : 2 ^ d .w ≤ wordBound
+  pub intervals-small : intervals ≤ wordBound
+  pub rests-small : rests ≤ wordBound
 
 module _ (d : Design) (l : Limits d) where
-  pub intervals-fit : 2 ^ d .alpha ≤ 2 ^ 16
-  intervals-fit = pow-mono {j = 16} (omega (arith, l .alpha-high))
+  pub intervals-fit : 2 ^ d .alpha ≤ wordBound
+  intervals-fit = pow-mono {j = widestWord} (omega (arith, l .alpha-below, l .widths .room .w-small))
 
-  pub rests-fit : 2 ^ (d .w - d .alpha) ≤ 2 ^ 16
-  rests-fit = pow-mono {j = 16} (omega (arith, l .widths .w-high))
+  pub rests-fit : 2 ^ (d .w - d .alpha) ≤ wordBound
+  rests-fit = pow-mono {j = widestWord} (omega (arith, l .widths .room .w-small))
 
   pub counts : {intervals rests : ℕ} → intervals ≡ 2 ^ d .alpha → rests ≡ 2 ^ (d .w - d .alpha) → Counts d intervals rests
   unfolding initialCount
@@ -67,7 +68,7 @@ module _ (d : Design) (l : Limits d) where
         intervals-is = intervals-is;
         rests-is = rests-is;
         product = rw (intervals-is, rests-is, ← pow-add 2 (d .alpha) (d .w - d .alpha), add-sub-of-le (le-of-lt (l .alpha-below))) refl;
-        words-small = pow-mono (l .widths .w-high);
+        words-small = pow-mono (l .widths .room .w-small);
         intervals-small = omega (arith, intervals-fit);
         rests-small = omega (arith, rests-fit);
       }

@@ -10,11 +10,11 @@ use Rattle.refusal.specs.declared.Verdict.{Verdict}
 use Rattle.refusal.specs.Numbers.{numberOf}
 use Rattle.refusal.specs.Checks.{verdict}
 use Rattle.refusal.specs.Told.{Told, accepted, refused, told}
+use Rattle.values.specs.Faithful.{Faithful, isFaithful}
 use Rattle.design.specs.declared.Design.{Design}
 use Rattle.design.specs.Cut.{row}
 use Rattle.checking.specs.declared.Checked.{Checked}
 use Rattle.tables.specs.Sum.{sumAt, sumOutside, wordAt}
-use Rattle.tables.specs.Faithful.{Faithful, isFaithful}
 use Rattle.tables.specs.Set.{setChecks}
 
 -- "A word whose sum is refused counts as unfaithful."

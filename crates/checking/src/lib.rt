@@ -1,16 +1,14 @@
 // The check of any tables, whoever filled them: faithful, or the lowest word that is not.
 ghost use mathlib.Core.Path.{_≡_};
 ghost use mathlib.Core.List.{List};
-ghost use Prim.Native.Nat.{ℕ, _^_, _≤_, _<_};
+ghost use Prim.Native.Nat.{ℕ, _^_, _≤_};
 ghost use lib.ListN.{length, getD};
-ghost use Rattle.values.specs.Inputs.{FloorInput};
 ghost use Rattle.design.specs.Cut as Cut;
 ghost use Rattle.design.specs.Cut.{initialWord};
 ghost use Rattle.design.specs.Stored.{offsetTotal};
 ghost use Rattle.design.specs.Legal.{Legal};
 ghost use Rattle.tables.specs.Inputs.{Usable, SameInterval};
 ghost use Rattle.tables.specs.Lookup.{lookupsOf};
-ghost use Rattle.tables.specs.Faithful.{isFaithful};
 ghost use Rattle.checking.specs.Check.{faithfulAt, wordsBelow, checked, checkAnswer, toldBy, checkTold};
 use design::Design;
 use general::pow2;
@@ -22,9 +20,7 @@ use tables::set_verdict;
 use tables::sums::sum_from;
 use tables::sums::sum_outside;
 use tables::sums::word_of;
-use values::OutputUnits;
-use values::exact::number_sides;
-use values::exact::value_side;
+use values::faithful::is_faithful;
 use values::rows::Row;
 use values::rows::row_of;
 
@@ -33,21 +29,6 @@ pub enum Checked {
     Faithful,
     Unfaithful(u32),
     Refused(Cause),
-}
-
-// Whether y ≥ 1 is strictly less than one output unit from the exact value.
-fn is_faithful(row: Row, w: u32, q: u32, x: u64, y: OutputUnits) -> bool
-    requires { ⌜ FloorInput row w q x ⌝ }
-    requires { ⌜ y .0 < 2 ^ 18 ⌝ }
-    ensures { λ r. ⌜ r ≡ isFaithful row w q x (y .0) ⌝ }
-{
-    let word = y.0 as u64;
-    if word == 0 {
-        return false;
-    }
-    let exact = value_side(row, w, q, x);
-    let sides = number_sides(row, w, x, word - 1, word + 1);
-    sides.low < exact && exact < sides.high
 }
 
 // A word whose sum is refused counts as unfaithful. Its initial entry, and its segments, which `near`, any word of its interval, tells,

@@ -7,9 +7,10 @@ use borrow.Author.Tests.{ltb-false, leb-false, eqb-true, not-false}
 use Rattle.refusal.proofs.Checks.{passed-append, none-fails, neither, inside}
 use Rattle.design.specs.Limits.{leastInitialBits, mostInitialBits, mostTables, mostOffsetBits, mostTableBits}
 use Rattle.values.specs.Rows.{Lawful}
+use Rattle.values.specs.Room.{Room}
 use Rattle.values.specs.Inputs.{SlopeInput}
 use Rattle.values.specs.Widths.{limitsOf, widthChecks}
-use Rattle.values.proofs.WidthLaws.{Widths, widths-of, row-lawful}
+use Rattle.values.proofs.WidthLaws.{Widths, widths-of}
 use Rattle.design.specs.declared.Design.{Design}
 use Rattle.design.specs.declared.legal.TableRule.{TableRule}
 use Rattle.design.specs.Cut.{aOf, bOf, row, fractionBits, position}
@@ -70,16 +71,13 @@ module _ (d : Design) where
 -- What the calls of the values ask, at a legal design
 module _ (d : Design) (l : Limits d) where
   pub lawful : Lawful (row d)
-  lawful = row-lawful (d .kind) (l .widths .kind-high)
+  lawful = l .widths .lawful
+
+  pub room : Room (row d) (d .w) (fractionBits d)
+  room = l .widths .room
 
   pub slopewise : (i : ℕ) → i < d .m → SlopeInput (row d) (d .w) (fractionBits d) (aOf d i)
-  slopewise i h =
-      record {
-        lawful = lawful;
-        w-small = l .widths .w-high;
-        P-small = l .widths .P-high;
-        a-small = omega (arith, l .table i h .a-high, l .alpha-below);
-      }
+  slopewise i h = record { lawful = lawful; room = room; a-small = omega (arith, l .table i h .a-high, l .alpha-below) }
 
   -- the bits of table i end within the w - alpha low bits of x
   pub bits-end : (i : ℕ) → i < d .m → position d i + bOf d i ≤ d .w - d .alpha

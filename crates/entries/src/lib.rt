@@ -2,6 +2,7 @@
 ghost use mathlib.Core.Path.{_≡_};
 ghost use Prim.Native.Nat.{_+_, _^_, _<_};
 ghost use lib.IntN.{natAbs};
+ghost use Rattle.values.specs.Room.{floorBound};
 ghost use Rattle.values.specs.Inputs.{InRange};
 ghost use Rattle.design.specs.Cut.{aOf};
 ghost use Rattle.design.specs.Stored.{initialCount};
@@ -25,7 +26,7 @@ use values::slopes::segment_start;
 fn value_at(d: Design, row: Row, x: u64) -> u64
     requires { ⌜ Legal d ⌝ }
     requires { ⌜ (row ≡ Cut.row d) × InRange (d .w) x ⌝ }
-    ensures { λ r. ⌜ (r ≡ valueAt d x) × (r < 2 ^ 21) ⌝ }
+    ensures { λ r. ⌜ (r ≡ valueAt d x) × (r < floorBound) ⌝ }
 {
     floor_value(row, d.w, d.q + d.g, x).count()
 }

@@ -14,7 +14,7 @@ use Rattle.evaluating.specs.declared.Evaluated.{Evaluated}
 use Rattle.evaluating.specs.declared.Batched.{Batched}
 use Rattle.checking.specs.declared.Checked.{Checked}
 use Rattle.tables.specs.Sum.{sumAt, wordAt}
-use Rattle.tables.specs.Faithful.{Faithful}
+use Rattle.values.specs.Faithful.{Faithful}
 use Rattle.filling.specs.Fill.{fillVerdict, initialAfter, offsetsAfter, Filled}
 use Rattle.evaluating.specs.Evaluate.{evaluateAnswer}
 use Rattle.evaluating.specs.Batch.{batchAnswer, outputAfter}

@@ -2,7 +2,7 @@
 // sums of its first pass.
 ghost use mathlib.Core.Path.{_≡_};
 ghost use mathlib.Core.Bool.{true};
-ghost use Prim.Native.Nat.{_≤_};
+ghost use Prim.Native.Nat.{_≤_, _<_};
 ghost use lib.ListN.{length, getD};
 ghost use lib.IntN.{pos};
 ghost use lib.Signed.{mag};
@@ -76,7 +76,7 @@ pub fn sums_in_range(d: Design, initial: &[u32], offsets: &[i32]) -> bool
 
 // The lowest word of w bits or more, which is refused with 12, or how many words there are.
 pub fn width_answer(w: u32, words: &[u32]) -> Batched
-    requires { ⌜ w ≤ 16 ⌝ }
+    requires { ⌜ w < 64 ⌝ }
     ensures { λ r. ⌜ r ≡ widthAnswer w (now (words .entry)) ⌝ }
 {
     let limit = pow2(w);

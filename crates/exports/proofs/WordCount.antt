@@ -9,6 +9,7 @@ use lib.ListN.{length}
 use lib.IntN.{ℤ}
 use borrow.Author.Tests.{le-leb}
 use Rattle.refusal.specs.declared.Verdict.{Verdict}
+use Rattle.values.specs.Widths.{limitsOf}
 use Rattle.design.specs.declared.Design.{Design}
 use Rattle.design.specs.Legal.{Legal}
 use Rattle.design.proofs.LegalLaws.{limits}
@@ -17,7 +18,8 @@ use Rattle.checking.specs.Check.{Finding, checked, checkVerdict, checkAnswer}
 use Rattle.tables.proofs.SetLaws.{usable}
 
 pub words-counted : (d : Design) → Legal d → cond (leb (d .w) 16) (2 ^ d .w) 0 ≡ 2 ^ d .w
-words-counted d legal = rw (le-leb _ _ (limits d legal .widths .w-high))
+unfolding limitsOf
+words-counted d legal = rw (le-leb (d .w) 16 (limits d legal .widths .within .w-high))
 
 passed-checks : (v : Verdict) (finding : Finding) → checked v finding ≡ Checked.Faithful → v ≡ Verdict.Passed
 passed-checks Verdict.Passed finding e = refl

@@ -80,7 +80,7 @@ offset-input d l i A h A-lt =
     record {
       slopes-low = omega arith;
       b-low = l .table i h .b-low;
-      bits = omega (arith, bits-end d l i h, l .widths .w-high);
+      bits = omega (arith, bits-end d l i h, l .widths .room .w-small);
       small = slopes-reach d l i A h A-lt;
     }
 

@@ -1,4 +1,4 @@
--- What the fill writes can be stored: an initial entry is below 2^22, and T of an offset is at most 2^21.
+-- What the fill writes can be stored: initial entries and T of an offset are small.
 use mathlib.Core.Path.{_≡_}
 use mathlib.Core.Bool.{Bool, true, false, cond}
 use mathlib.Core.List.{List}

@@ -87,8 +87,8 @@ module _ (d : Design) (l : Limits d) where
     lookup-small h =
         rw e
         (record {
-          shift-small = omega (arith, l .widths .w-high);
-          b-small = few i .b-small;
+          shift-small = omega (arith, l .widths .room .w-small);
+          b-small = omega (arith, few i .b-small);
           position-small = omega (arith, position-small i);
           start-small = omega (arith, start-small i);
         })

@@ -4,7 +4,7 @@ use mathlib.Core.List.{List}
 use Prim.Native.Nat.{ℕ, _+_, _*_, _^_, _≤_, _<_, min}
 use lib.IntN.{ℤ, pos, _+ℤ_}
 use lib.Signed.{mag}
-use Rattle.design.specs.Limits.{mostOffsetBits, mostOffsets}
+use Rattle.design.specs.Limits.{mostOffsets}
 use Rattle.general.specs.Below.{signedSum}
 use Rattle.design.specs.declared.Design.{Design}
 use Rattle.design.specs.Cut.{initialWord}
@@ -25,11 +25,11 @@ pub record SameInterval (d : Design) (near x : ℕ) : Type 0 where
   pub word : x < 2 ^ d .w
   pub same : initialWord d near ≡ initialWord d x
 
--- A lookup whose numbers are small: it shifts by fewer than 32 bits and begins where a fourth table may.
+-- A lookup whose numbers are small: it shifts by fewer bits than a word of the machine has and begins where a fourth table may.
 pub record Small (lookup : Lookup) : Type 0 where
-  pub shift-small : lookup .shift ≤ 16
-  pub b-small : lookup .b ≤ mostOffsetBits
-  pub position-small : lookup .position ≤ 24
+  pub shift-small : lookup .shift < 32
+  pub b-small : lookup .b < 32
+  pub position-small : lookup .position < 32
   pub start-small : lookup .start ≤ mostOffsets
 
 -- A sum of an initial entry and the offsets of the first i tables, or of all where there are fewer, each of 32 bits

@@ -3,4 +3,3 @@ pub mod Set
 pub mod Lookup
 pub mod Sum
 pub mod Inputs
-pub mod Faithful

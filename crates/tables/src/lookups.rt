@@ -1,6 +1,7 @@
 // What a lookup in each offset table needs of the design, found once, so that a word costs shifts, masks and adds only.
 ghost use mathlib.Core.Path.{_≡_};
-ghost use Prim.Native.Nat.{_+_, _^_, _<_};
+ghost use Prim.Native.Nat.{_+_, _<_};
+ghost use Rattle.values.specs.Room.{wordBound};
 ghost use Rattle.design.specs.Cut as Cut;
 ghost use Rattle.design.specs.Stored.{tableStart};
 ghost use Rattle.design.specs.Legal.{Legal};
@@ -85,7 +86,7 @@ pub fn lookups_of(d: Design) -> Lookups
 // `near`, any word of x's interval, so that it is found once where many words of one interval are looked up.
 pub(crate) fn place_of(lookup: Lookup, near: u32, x: u32) -> u32
     requires { ⌜ Small lookup ⌝ }
-    requires { ⌜ (near < 2 ^ 16) × (x < 2 ^ 16) ⌝ }
+    requires { ⌜ (near < wordBound) × (x < wordBound) ⌝ }
     ensures { λ r. ⌜ r ≡ placeAt lookup near x ⌝ }
 {
     let size = 1 << lookup.b;

@@ -7,6 +7,7 @@ ghost use lib.IntN.{pos, _+ℤ_};
 ghost use lib.Signed.{mag};
 ghost use Rattle.design.specs.Limits.{mostTables};
 ghost use Rattle.design.specs.Stored.{offsetTotal};
+ghost use Rattle.values.specs.Room.{wordBound};
 ghost use Rattle.design.specs.Legal.{Legal};
 ghost use Rattle.tables.specs.Inputs.{Usable, SameInterval, Small, Summed};
 ghost use Rattle.tables.specs.Lookup.{lookupsOf, placeAt, lookupOf};
@@ -23,7 +24,7 @@ use values::TableUnits;
 // One offset more.
 fn add_offset(lookup: Lookup, sum: TableUnits, offsets: &[i32], near: u32, x: u32) -> TableUnits
     requires { ⌜ Small lookup ⌝ }
-    requires { ⌜ (near < 2 ^ 16) × (x < 2 ^ 16) ⌝ }
+    requires { ⌜ (near < wordBound) × (x < wordBound) ⌝ }
     requires { ⌜ (placeAt lookup near x < length (now offsets)) × (mag (sum .0) ≤ 2 ^ 40) ⌝ }
     ensures { λ r. ⌜ (r ≡ record { 0 = sum .0 +ℤ getD (now (offsets .entry)) (placeAt lookup near x) (pos 0) })
         × (mag (r .0) ≤ mag (sum .0) + 2 ^ 32) ⌝ }

@@ -1,101 +1,143 @@
--- How large the numbers of an inner call can get, so that nothing wraps.
+-- How large numbers get where there is room for them, so that nothing wraps.
+use mathlib.Core.Path.{_≡_, refl, _∙_}
 use mathlib.Core.Bool.{Bool, true, false, cond}
 use Prim.Native.Nat.{ℕ, suc, _+_, _-_, _*_, _/_, _^_, _≤_, _<_}
-use native.Mathlib.Nat.{mul-le-mul, le-trans, lt-of-lt-of-le, one-le-mul, div-le-self, pow-le-pow-left, pow-le-pow-right}
+use native.Mathlib.Nat.{mul-le-mul, mul-le-mul-left, mul-le-mul-right, mul-lt-mul-of-pos-left, mul-lt-mul-of-pos-right, le-trans, le-of-eq, le-of-lt, lt-of-lt-of-le, lt-of-le-of-lt, one-le-mul, div-le-self, mul-div-le, pow-le-pow-left}
 use native.Mathlib.Omega.{arith}
-use lib.Pow.{pow-mono, pow-pos}
+use lib.Pow.{pow-add, pow-lt, pow-mono, pow-pos}
 use Rattle.values.specs.declared.rows.Row.{Row}
-use Rattle.values.specs.Inputs.{ExactInput, FloorInput, SegmentInput, SlopeInput}
-use Rattle.values.specs.Exact.{num, den, numberSide, valueSide}
+use Rattle.values.specs.Room.{Room, highestDegree, finestUnit, wordBound, inputBound, floorBound, slopeBound, productBound}
+use Rattle.values.specs.Inputs.{FloorInput, SegmentInput, SlopeInput}
+use Rattle.values.specs.Parts.{divisorPart, numberPart, valuePart}
 use Rattle.values.specs.Floor.{floorValue}
 use Rattle.values.specs.Slopes.{segmentStart, segmentEnd, hi, lo, spread}
-use Rattle.values.proofs.Powers.{pow-pow}
+use Rattle.values.proofs.Powers.{pow-pow, pow-swap}
+use Rattle.values.proofs.ExactLaws.{argument-high}
 use Rattle.values.proofs.FloorLaws.{floor-high}
-use Rattle.values.proofs.SlopeLaws.{OnSegment, on-range, start-on, end-on, segment-room, lo-le-hi}
+use Rattle.values.proofs.SlopeLaws.{OnSegment, on-range, start-on, end-on, segment-room, lo-le-hi, range-pos}
 
-cond-small : (b : Bool) {m n limit : ℕ} → m ≤ limit → n ≤ limit → cond b m n ≤ limit
-cond-small true h k = h
-cond-small false h k = k
+-- Room for s fraction bits is room for fewer.
+pub coarser : {row : Row} {w s : ℕ} (t : ℕ) → t ≤ s → Room row w s → Room row w t
+coarser {row} {s} t h room =
+    let fewer : row .k * (t + 1) ≤ row .k * (s + 1) = mul-le-mul-left (row .k) (omega arith) in
+    record {
+      degree = room .degree;
+      w-small = room .w-small;
+      s-small = omega arith;
+      power = le-trans fewer (room .power);
+      falls = λ e. omega (arith, room .falls e);
+    }
 
--- The two sides of the inequality
-module _ (row : Row) (w X : ℕ) (fit : ExactInput row w X) where
-  width-one : 2 ^ w ≤ 2 ^ 16
-  width-one = pow-mono (fit .w-small)
+-- So it is of narrower words.
+pub narrower : {row : Row} {w s : ℕ} (v : ℕ) → v ≤ w → Room row w s → Room row v s
+narrower v h room =
+    record {
+      degree = room .degree;
+      w-small = omega arith;
+      s-small = room .s-small;
+      power = room .power;
+      falls = λ e. omega (arith, room .falls e);
+    }
 
-  pub argument-small : row .c * X ≤ 2 ^ 18
+module _ {row : Row} {w s : ℕ} (room : Room row w s) where
+  pub words-few : 2 ^ w ≤ wordBound
+  words-few = pow-mono (room .w-small)
+
+  pub exponent-small : row .k * s + row .k ≤ 63
+  exponent-small = omega (arith, room .power)
+
+pub coarser-input : {row : Row} {w s X : ℕ} (t : ℕ) → t ≤ s → FloorInput row w s X → FloorInput row w t X
+coarser-input t h fit = record { lawful = fit .lawful; room = coarser t h (fit .room); range = fit .range }
+
+-- The parts. u is c·X, below 2^(k+w), e is k·s, and m is a number's power, at most 2^t.
+module _ (w k e u : ℕ) (u-high : u < 2 ^ k * 2 ^ w) where
+  value-fits : (rising : Bool) → k + w < 64 → e + k < 64 → (rising ≡ false → e + w < 64)
+      → cond rising (u * 2 ^ (e - w)) (2 ^ (e + w)) < 2 ^ 64
+  value-fits true wide power falls =
+      lt-of-lt-of-le (mul-lt-mul-of-pos-right u-high (pow-pos (e - w)))
+      (rw (← pow-add 2 k w, ← pow-add 2 (k + w) (e - w)) (pow-mono {j = 64} (omega arith)))
+  value-fits false wide power falls = pow-lt {j = 64} (falls refl)
+
+  number-fits : (rising : Bool) (m t : ℕ) → m ≤ 2 ^ t → t + (w - e) < 64 → (rising ≡ false → t + (k + w) ≤ 64)
+      → m * cond rising (2 ^ (w - e)) u < 2 ^ 64
+  number-fits true m t high power falls =
+      lt-of-le-of-lt (mul-le-mul-right (2 ^ (w - e)) high) (rw (← pow-add 2 t (w - e)) (pow-lt {j = 64} power))
+  number-fits false m t high power falls =
+      lt-of-le-of-lt (mul-le-mul-right u high)
+      (lt-of-lt-of-le (mul-lt-mul-of-pos-left u-high (pow-pos t))
+      (rw (← pow-add 2 k w, ← pow-add 2 t (k + w)) (pow-mono {j = 64} (falls refl))))
+
+module _ (row : Row) (w s X : ℕ) (fit : FloorInput row w s X) where
+  pub argument-small : row .c * X < 2 ^ 64
   argument-small =
-      let small : X ≤ 2 ^ 17 = omega (arith, fit .range .high, width-one) in
-      mul-le-mul (fit .lawful .c-small) small
+      omega (
+        arith,
+        argument-high row (fit .lawful) w X (fit .range),
+        mul-le-mul (pow-mono {j = highestDegree} (fit .room .degree)) (words-few (fit .room)),
+      )
 
-  num-small : num row w X ≤ 2 ^ 18
-  unfolding num
-  num-small = cond-small (row .rising) argument-small (omega (arith, width-one))
+  pub value-part-fits : valuePart row w s X < 2 ^ 64
+  unfolding valuePart
+  value-part-fits =
+      let room = fit .room in
+      value-fits w (row .k) (row .k * s) (row .c * X) (argument-high row (fit .lawful) w X (fit .range)) (row .rising)
+      (omega arith) (omega (arith, room .power)) (λ e. omega (arith, room .falls e, fit .lawful .k-pos))
 
-  den-small : den row w X ≤ 2 ^ 18
-  unfolding den
-  den-small = cond-small (row .rising) (omega (arith, width-one)) argument-small
+  pub X-small : X < inputBound
+  X-small = omega (arith, fit .range .high, words-few (fit .room))
 
-  pub number-side-small : (n : ℕ) → n ≤ 2 ^ 21 → numberSide row w X n ≤ 2 ^ 60
-  unfolding numberSide
-  number-side-small n small =
-      let power-small : n ^ row .k ≤ 2 ^ 42 =
-      le-trans (pow-le-pow-left small (row .k)) (pow-le-pow-right {n = 2 ^ 21} (omega arith) (fit .lawful .k-small)) in
-      mul-le-mul power-small den-small
-
-module _ (row : Row) (w P X : ℕ) (fit : FloorInput row w P X) where
-  pub exact-input : ExactInput row w X
-  exact-input = record { lawful = fit .lawful; w-small = fit .w-small; range = fit .range }
-
-  pub exponent-small : row .k * P ≤ 40
-  exponent-small = mul-le-mul (fit .lawful .k-small) (fit .P-small)
-
-  pub value-side-small : valueSide row w P X ≤ 2 ^ 58
-  unfolding valueSide
-  value-side-small = rw (pow-pow 2 (row .k) P) (mul-le-mul (pow-mono {j = 40} exponent-small) (num-small row w X exact-input))
-
-  pub one-small : 2 ^ w ≤ 2 ^ 16
-  one-small = pow-mono (fit .w-small)
-
-  pub X-small : X ≤ 2 ^ 17
-  X-small = omega (arith, fit .range .high, one-small)
-
-  pub X-pos : 0 < X
-  X-pos = le-trans (pow-pos w) (fit .range .low)
-
-  pub step-small : row .k * X ≤ 2 ^ 18
-  step-small = mul-le-mul (fit .lawful .k-small) X-small
+  pub step-small : row .k * X ≤ highestDegree * inputBound
+  step-small = mul-le-mul (fit .room .degree) (le-of-lt X-small)
 
   pub step-pos : 0 < row .k * X
-  step-pos = one-le-mul (fit .lawful .k-pos) X-pos
+  step-pos = one-le-mul (fit .lawful .k-pos) (range-pos (fit .range))
 
-  pub floor-small : floorValue row w P X < 2 ^ 21
+  pub floor-small : floorValue row w s X < floorBound
   floor-small =
-      lt-of-lt-of-le (floor-high row (fit .lawful) w P X (fit .range)) (pow-mono {i = P + 1} {j = 21} (omega (arith, fit .P-small)))
+      lt-of-lt-of-le (floor-high row (fit .lawful) w s X (fit .range)) (pow-mono {j = finestUnit + 1} (omega (arith, fit .room .s-small)))
+
+-- Numbers of s + 2 bits
+module _ (row : Row) (w s X : ℕ) (fit : FloorInput row w (s + 2) X) (n : ℕ) (small : n ≤ 2 ^ (s + 2)) where
+  power-high : n ^ row .k ≤ 2 ^ (row .k * (s + 2))
+  power-high = le-trans (pow-le-pow-left small (row .k)) (le-of-eq (pow-swap 2 (s + 2) (row .k) ∙ pow-pow 2 (row .k) (s + 2)))
+
+  pub power-fits : n ^ row .k < 2 ^ 64
+  power-fits = lt-of-le-of-lt power-high (pow-lt {j = 64} (omega (arith, fit .room .power)))
+
+  pub number-part-fits : numberPart row w s X n < 2 ^ 64
+  unfolding numberPart divisorPart
+  number-part-fits =
+      let room = fit .room in
+      number-fits w (row .k) (row .k * s) (row .c * X) (argument-high row (fit .lawful) w X (fit .range)) (row .rising) (n ^ row .k)
+      (row .k * (s + 2)) power-high (omega (arith, room .power)) (λ e. omega (arith, room .falls e))
 
 -- A quotient and a little more fits where its dividend and that do.
 pub quotient-fits : (n d more : ℕ) → n + more < 2 ^ 64 → n / d + more < 2 ^ 64
 quotient-fits n d more h = omega (arith, div-le-self n d)
 
--- Hi of a value of 21 binary digits
-hi-small : (n d : ℕ) → n < 2 ^ 21 → (n + 1) * 65536 / d + 1 ≤ 2 ^ 38
+-- Hi of a value
+hi-small : (n d : ℕ) → n < floorBound → (n + 1) * 65536 / d + 1 ≤ slopeBound
 hi-small n d h = omega (arith, div-le-self ((n + 1) * 65536) d)
 
-module _ (w a A : ℕ) (fit : SegmentInput w a A) where
-  pub segment-small : suc A * 2 ^ (w - a) ≤ 2 ^ 16
-  segment-small = le-trans (segment-room w a A (fit .a-small) (fit .A-small)) (pow-mono (fit .w-small))
+-- A slope is L(X) / (k·X), and X is at least 2^w.
+slope-small : (n k s one : ℕ) → 1 ≤ k → one ≤ s → n / (k * s) * one ≤ n
+slope-small n k s one k-pos low =
+    let step : one ≤ k * s = omega (arith, mul-le-mul-right s k-pos) in
+    omega (arith, mul-le-mul-left (n / (k * s)) step, mul-div-le n (k * s))
 
-  pub width-small : 2 ^ w ≤ 2 ^ 16
+module _ (w a A : ℕ) (fit : SegmentInput w a A) where
+  pub width-small : 2 ^ w ≤ wordBound
   width-small = pow-mono (fit .w-small)
+
+  pub segment-small : suc A * 2 ^ (w - a) ≤ wordBound
+  segment-small = le-trans (segment-room w a A (fit .a-small) (fit .A-small)) width-small
+
+pub segment-input : {row : Row} {w P a A : ℕ} → SlopeInput row w P a → A < 2 ^ a → SegmentInput w a A
+segment-input fit h = record { w-small = fit .room .w-small; a-small = fit .a-small; A-small = h }
 
 module _ (row : Row) (w P a A : ℕ) (fit : SlopeInput row w P a) (A-lt : A < 2 ^ a) where
   on-input : (X : ℕ) → OnSegment w a A X → FloorInput row w P X
-  on-input X on =
-      record {
-        lawful = fit .lawful;
-        w-small = fit .w-small;
-        P-small = fit .P-small;
-        range = on-range w a A (fit .a-small) A-lt X on;
-      }
+  on-input X on = record { lawful = fit .lawful; room = fit .room; range = on-range w a A (fit .a-small) A-lt X on }
 
   pub start-input : FloorInput row w P (segmentStart w a A)
   start-input = on-input (segmentStart w a A) (start-on w a A (fit .a-small) A-lt)
@@ -110,6 +152,25 @@ module _ (row : Row) (w P a A : ℕ) (fit : SlopeInput row w P a) (A-lt : A < 2 
     lo-le-hi w a A (fit .a-small) A-lt row (fit .lawful) P _ (end-on w a A (fit .a-small) A-lt),
   )
 
-  pub spread-small : spread row w P a A ≤ 2 ^ 38
+  pub spread-small : spread row w P a A ≤ slopeBound
   unfolding spread hi
-  spread-small = omega (arith, hi-small (floorValue row w P (segmentStart w a A)) (row .k * segmentStart w a A) (floor-small row w P _ start-input))
+  spread-small =
+      omega (arith, hi-small (floorValue row w P (segmentStart w a A)) (row .k * segmentStart w a A) (floor-small row w P _ start-input))
+
+  hi-scaled : hi row w P (segmentStart w a A) * 2 ^ w ≤ floorBound * 65536 + 2 ^ w
+  unfolding hi
+  hi-scaled =
+      omega (
+        arith,
+        floor-small row w P _ start-input,
+        slope-small ((floorValue row w P (segmentStart w a A) + 1) * 65536) (row .k) (segmentStart w a A) (2 ^ w)
+            (fit .lawful .k-pos) (start-input .range .low),
+      )
+
+  -- Hi + Lo, alone and with 2^w
+  pub slopes-scaled : (hi row w P (segmentStart w a A) + lo row w P (segmentEnd w a A)) * 2 ^ w ≤ productBound
+  slopes-scaled = omega (arith, mul-le-mul-right (2 ^ w) (ordered .1), hi-scaled, words-few (fit .room))
+
+  pub slopes-small : hi row w P (segmentStart w a A) + lo row w P (segmentEnd w a A) ≤ productBound
+  slopes-small =
+      omega (arith, slopes-scaled, mul-le-mul-left (hi row w P (segmentStart w a A) + lo row w P (segmentEnd w a A)) (pow-pos w))

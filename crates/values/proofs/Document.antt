@@ -1,20 +1,18 @@
 -- Both sides of the one inequality, and L, are for each kind what document 01 writes.
-use mathlib.Core.Path.{_≡_, refl, sym, _∙_, ap₂, transport}
+use mathlib.Core.Path.{_≡_, refl, sym, ap₂, transport}
 use mathlib.Core.Logic.{⊎-elim}
-use Prim.Native.Nat.{ℕ, _*_, _^_, _≤_}
-use native.Mathlib.Nat.{one-mul, mul-comm, pow-suc, pow-zero}
+use Prim.Native.Nat.{ℕ, _*_, _^_, _≤_, _<_}
+use native.Mathlib.Nat.{one-mul, mul-comm}
 use native.Mathlib.Omega.{arith}
 use lib.Pow.{pow-add}
-use Rattle.values.specs.Rows.{rows, rowOf}
+use Rattle.values.specs.Rows.{rows, kinds, rowOf}
 use Rattle.values.specs.Exact.{num, den, numberSide, valueSide, AtMost, Greatest}
 use Rattle.values.specs.Floor.{floorValue}
 use Rattle.values.specs.Inputs.{InRange}
 use Rattle.values.specs.Document.{SidesSaid, FloorSaid, Document}
 use Rattle.values.proofs.FloorLaws.{floor-greatest}
+use Rattle.values.proofs.NewtonLaws.{first-power}
 use Rattle.values.proofs.WidthLaws.{row-lawful}
-
-first-power : (n : ℕ) → n ^ 1 ≡ n
-first-power n = pow-suc n 0 ∙ rw (pow-zero, one-mul)
 
 sides-said : (kind w s X n : ℕ) → SidesSaid kind w s X n
 unfolding rows rowOf num den numberSide valueSide
@@ -36,6 +34,7 @@ both-sides : {a b c d : ℕ} → (a ≡ c) × (b ≡ d) → (a ≤ b) ≡ (c ≤
 both-sides e = ap₂ (λ (x y : ℕ). x ≤ y) (e .0) (e .1)
 
 floor-said : (kind w P X : ℕ) → InRange w X → FloorSaid kind w P X
+unfolding rows kinds
 floor-said kind w P X range =
     record {
       reciprocal = λ e. reworded (λ n. both-sides (sides-said kind w P X n .reciprocal e)) (floor (omega arith));
@@ -47,7 +46,7 @@ floor-said kind w P X range =
           (floor (⊎-elim (λ (h : kind ≡ 3). omega arith) (λ (h : kind ≡ 4). omega arith) e));
     }
   where
-    floor : kind ≤ 4 → Greatest (AtMost (rowOf kind) w P X) (floorValue (rowOf kind) w P X)
+    floor : kind < kinds → Greatest (AtMost (rowOf kind) w P X) (floorValue (rowOf kind) w P X)
     floor h = floor-greatest (rowOf kind) (row-lawful kind h) w P X range
 
 pub document : Document

@@ -50,14 +50,15 @@ module _ (row : Row) (w X : ℕ) where
     pub more-than-finer : MoreThan row w s X n → MoreThan row w (s + t) X (2 ^ t * n)
     more-than-finer h = rw (value-scale s t, number-scale n t) (mul-lt-mul-of-pos-left h (scale-pos t))
 
+-- c·X is below 2^k·2^w: p is 2^k, d is 2^w.
+wide : (c p d X : ℕ) → 1 ≤ c → 2 * c ≤ p → X < d * 2 → c * X < p * d
+wide c p d X c-pos reach high = omega (arith, mul-lt-mul-of-pos-left high c-pos, mul-le-mul-right d reach)
+
 -- In the range of X each of num and den is below 2^k times the other, so the exact value lies in [1/2, 2).
 ratio : (rising : Bool) (c p d X : ℕ) → 1 ≤ c → 2 * c ≤ p → 0 < d → d ≤ X → X < d * 2
     → (cond rising (c * X) d < p * cond rising d (c * X)) × (cond rising d (c * X) < p * cond rising (c * X) d)
 ratio rising c p d X c-pos reach d-pos low high = go rising
   where
-    wide : c * X < p * d
-    wide = omega (arith, mul-lt-mul-of-pos-left high c-pos, mul-le-mul-right d reach)
-
     two : 2 ≤ p
     two = omega arith
 
@@ -65,10 +66,13 @@ ratio rising c p d X c-pos reach d-pos low high = go rising
     narrow = omega (arith, mul-le-mul-right X two, mul-le-mul-right (p * X) c-pos)
 
     go : (up : Bool) → (cond up (c * X) d < p * cond up d (c * X)) × (cond up d (c * X) < p * cond up (c * X) d)
-    go true = (wide, narrow)
-    go false = (narrow, wide)
+    go true = (wide c p d X c-pos reach high, narrow)
+    go false = (narrow, wide c p d X c-pos reach high)
 
 module _ (row : Row) (lawful : Lawful row) (w X : ℕ) (range : InRange w X) where
+  pub argument-high : row .c * X < 2 ^ row .k * 2 ^ w
+  argument-high = wide (row .c) (2 ^ row .k) (2 ^ w) X (lawful .c-pos) (lawful .domain) (range .high)
+
   ratios : (num row w X < 2 ^ row .k * den row w X) × (den row w X < 2 ^ row .k * num row w X)
   unfolding num den
   ratios =

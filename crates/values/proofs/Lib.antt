@@ -1,6 +1,8 @@
 -- Laws of values and slopes, one file a subject.
 pub mod Powers
 pub mod ExactLaws
+pub mod PartLaws
+pub mod FaithfulLaws
 pub mod FloorLaws
 pub mod NewtonLaws
 pub mod SlopeLaws

@@ -1,14 +1,16 @@
 -- To unfold `values-opened` is to unfold every definition of this crate, so that the checker computes with them on numbers.
-use Rattle.values.specs.Rows.{rows, rowOf}
+use Rattle.values.specs.Rows.{rows, kinds, rowOf}
 use Rattle.values.specs.Exact.{num, den, numberSide, valueSide}
 use Rattle.values.specs.Floor.{rootFrom, scaled, floorValue}
 use Rattle.values.specs.Slopes.{segmentStart, segmentEnd, hi, lo, spread, largestSpread}
 use Rattle.general.specs.Below.{largest}
 use Rattle.values.specs.Widths.{widthChecks, limitsOf}
+use Rattle.values.specs.Parts.{divisorPart, numberPart, valuePart}
+use Rattle.values.specs.Faithful.{isFaithful}
 use Rattle.values.specs.Value.{wordCheck, valueVerdict, valueOf}
 
 unfoldable pub values-opened : Unit {0}
 unfolding
-    rows rowOf num den numberSide valueSide rootFrom scaled floorValue segmentStart segmentEnd hi lo spread largest largestSpread
+    rows kinds rowOf num den numberSide valueSide divisorPart numberPart valuePart isFaithful rootFrom scaled floorValue segmentStart segmentEnd hi lo spread largest largestSpread
     limitsOf widthChecks wordCheck valueVerdict valueOf
 values-opened = tt

@@ -1,19 +1,21 @@
 -- What the checks of kind and widths leave, and the laws of the rows, computed over their table once.
 use mathlib.Core.Path.{_≡_}
-use mathlib.Core.Bool.{Bool, true, false, _&&_}
+use mathlib.Core.Bool.{Bool, true, false, _&&_, _||_, true≢false}
 use mathlib.Core.List.{List, [], _∷_}
 use Prim.Native.Nat.{ℕ, zero, suc, _+_, _*_, _^_, _≤_, _<_}
-use native.Mathlib.Nat.{le-of-suc-le-suc, not-suc-le-zero}
+use native.Mathlib.Nat.{le-trans, not-suc-le-zero}
+use native.Mathlib.Decide.{decLt}
 use native.Mathlib.Omega.{arith}
 use borrow.Author.Tests.{ltb-false}
 use lib.Dec.{T, leb, leb→le}
-use lib.ListN.{length, getD}
 use Rattle.refusal.specs.declared.Verdict.{Verdict}
 use Rattle.refusal.specs.Checks.{verdict}
 use Rattle.refusal.proofs.Checks.{none-fails, neither, inside}
-use Rattle.values.specs.declared.rows.Row.{Row}
-use Rattle.values.specs.Rows.{rows, rowOf, Lawful}
+use Rattle.values.specs.declared.widths.Limits.{Limits}
+use Rattle.values.specs.Rows.{rows, kinds, rowOf, Lawful}
+use Rattle.values.specs.Room.{Room, highestDegree, widestWord, finestUnit}
 use Rattle.values.specs.Widths.{limitsOf, widthChecks}
+use Rattle.values.proofs.Bounds.{coarser, narrower}
 
 both : (a b : Bool) → T (a && b) → T a × T b
 both true b t = (tt, t)
@@ -32,57 +34,124 @@ all-pass : (tests : List Bool) → T (allPass tests) → AllPass tests
 all-pass [] t = tt
 all-pass (test ∷ tests) t = let p = both test (allPass tests) t in (p .0, all-pass tests (p .1))
 
-lawTests : Row → List Bool
-lawTests row = leb 1 (row .c) ∷ leb 1 (row .k) ∷ leb (2 * row .c) (2 ^ row .k) ∷ leb (row .c) 2 ∷ leb (row .k) 2 ∷ []
+-- What is asked of a kind below `kinds`: of its row, by the mathematics; of its row at its limits, by the machine; and of its limits.
+kindTests : ℕ → List Bool
+kindTests kind =
+    let row = rowOf kind in
+    let limits = limitsOf kind in
+    leb 1 (row .c) ∷ leb 1 (row .k) ∷ leb (2 * row .c) (2 ^ row .k) ∷
+    leb (row .k) highestDegree ∷ leb (limits .w .1) widestWord ∷ leb (limits .sum) finestUnit ∷ leb (row .k * (limits .sum + 1)) 63 ∷
+    (row .rising || leb (row .k * (limits .sum + 1) + limits .w .1) 64) ∷ leb 1 (limits .q .0) ∷ leb 2 (limits .g .0) ∷ []
 
-lawful-of : (row : Row) → T (allPass (lawTests row)) → Lawful row
-unfolding lawTests
-lawful-of row t =
-    let p = all-pass (lawTests row) t in
+-- A kind whose tests pass
+record Fine (kind : ℕ) : Type 0 where
+  lawful : Lawful (rowOf kind)
+  room : Room (rowOf kind) (limitsOf kind .w .1) (limitsOf kind .sum)
+  q-low : 1 ≤ limitsOf kind .q .0
+  g-low : 2 ≤ limitsOf kind .g .0
+
+falling : (rising test : Bool) → T (rising || test) → rising ≡ false → T test
+falling true test t e = absurd (true≢false e)
+falling false test t e = t
+
+fine-of : (kind : ℕ) → T (allPass (kindTests kind)) → Fine kind
+unfolding kindTests
+fine-of kind t =
+    let p = all-pass (kindTests kind) t in
+    let m = p .1 .1 .1 in
+    let l = m .1 .1 .1 .1 .1 in
     record {
-      c-pos = leb→le _ _ (p .0);
-      k-pos = leb→le _ _ (p .1 .0);
-      domain = leb→le _ _ (p .1 .1 .0);
-      c-small = leb→le _ _ (p .1 .1 .1 .0);
-      k-small = leb→le _ _ (p .1 .1 .1 .1 .0);
+      lawful = record { c-pos = leb→le _ _ (p .0); k-pos = leb→le _ _ (p .1 .0); domain = leb→le _ _ (p .1 .1 .0) };
+      room = record {
+        degree = leb→le _ _ (m .0);
+        w-small = leb→le _ _ (m .1 .0);
+        s-small = leb→le _ _ (m .1 .1 .0);
+        power = leb→le _ _ (m .1 .1 .1 .0);
+        falls = λ e. leb→le _ _ (falling (rowOf kind .rising) _ (m .1 .1 .1 .1 .0) e);
+      };
+      q-low = leb→le _ _ (l .0);
+      g-low = leb→le _ _ (l .1 .0);
     }
 
--- A test that passes at each row of a list passes at each place.
-abbrev atEach : (Row → Bool) → List Row → Bool
-atEach test [] = true
-atEach test (row ∷ rows) = test row && atEach test rows
+-- A test that passes for every number below n passes for each.
+abbrev allBelow : ℕ → (ℕ → Bool) → Bool
+allBelow zero test = true
+allBelow (suc n) test = allBelow n test && test n
 
-at-place : (test : Row → Bool) (rs : List Row) (none : Row) → T (atEach test rs) → (i : ℕ) → i < length rs → T (test (getD rs i none))
-at-place test [] none t i h = absurd (not-suc-le-zero h)
-at-place test (row ∷ rs) none t zero h = both (test row) (atEach test rs) t .0
-at-place test (row ∷ rs) none t (suc i) h = at-place test rs none (both (test row) (atEach test rs) t .1) i (le-of-suc-le-suc h)
+at-each : (n : ℕ) (test : ℕ → Bool) → T (allBelow n test) → (i : ℕ) → i < n → T (test i)
+at-each zero test t i h = absurd (not-suc-le-zero h)
+at-each (suc n) test t i h = elim (decLt i n) [
+  | yes before ↦ at-each n test (both (allBelow n test) (test n) t .0) i before
+  | no last ↦ let e : i ≡ n = omega arith in rw e (both (allBelow n test) (test n) t .1)
+]
 
-pub row-lawful : (kind : ℕ) → kind ≤ 4 → Lawful (rowOf kind)
-unfolding rows rowOf lawTests
-row-lawful kind h = lawful-of (rowOf kind) (at-place (λ row. allPass (lawTests row)) rows _ tt kind (omega arith))
+fine : (kind : ℕ) → kind < kinds → Fine kind
+unfolding rows kinds rowOf limitsOf kindTests
+fine kind h = fine-of kind (at-each kinds (λ (kind : ℕ). allPass (kindTests kind)) tt kind h)
 
+pub row-lawful : (kind : ℕ) → kind < kinds → Lawful (rowOf kind)
+row-lawful kind h = fine kind h .lawful
+
+-- Kind and widths lie within the limits.
+pub record Within (limits : Limits) (kind w q g : ℕ) : Type 0 where
+  pub kind-high : kind ≤ limits .kind
+  pub w-low : limits .w .0 ≤ w
+  pub w-high : w ≤ limits .w .1
+  pub q-low : limits .q .0 ≤ q
+  pub q-high : q ≤ limits .q .1
+  pub g-low : limits .g .0 ≤ g
+  pub g-high : g ≤ limits .g .1
+  pub sum-high : q + g ≤ limits .sum
+
+pub within-of : (limits : Limits) (kind w q g : ℕ) → verdict (widthChecks limits kind w q g) ≡ Verdict.Passed → Within limits kind w q g
+unfolding widthChecks
+within-of limits kind w q g e =
+    let p = none-fails (widthChecks limits kind w q g) e in
+    let w-in = inside (limits .w .0) (limits .w .1) w (p .1 .0) in
+    let q-in = inside (limits .q .0) (limits .q .1) q (p .1 .1 .0) in
+    let g-and-sum = neither _ _ (p .1 .1 .1 .0) in
+    let g-in = inside (limits .g .0) (limits .g .1) g (g-and-sum .0) in
+    record {
+      kind-high = inside 0 (limits .kind) kind (p .0) .1;
+      w-low = w-in .0;
+      w-high = w-in .1;
+      q-low = q-in .0;
+      q-high = q-in .1;
+      g-low = g-in .0;
+      g-high = g-in .1;
+      sum-high = ltb-false (limits .sum) (q + g) (g-and-sum .1);
+    }
+
+-- No limit lets a kind through that has no row, and a kind fits a byte.
+known : (kind : ℕ) → kind ≤ limitsOf kind .kind → (kind < kinds) × (kinds ≤ 256)
+unfolding rows kinds limitsOf
+known kind h = (omega arith, omega arith)
+
+-- What everything above uses of kind and widths that pass
 pub record Widths (kind w q g : ℕ) : Type 0 where
-  pub kind-high : kind ≤ 4
-  pub w-low : 6 ≤ w
-  pub w-high : w ≤ 16
-  pub q-low : 6 ≤ q
-  pub q-high : q ≤ 16
+  pub within : Within (limitsOf kind) kind w q g
+  pub kind-known : kind < kinds
+  pub kinds-few : kinds ≤ 256
+  pub lawful : Lawful (rowOf kind)
+  -- there is room for the finest units of the kind, and so for those asked for
+  pub finest : Room (rowOf kind) w (limitsOf kind .sum)
+  pub room : Room (rowOf kind) w (q + g)
+  pub q-low : 1 ≤ q
   pub g-low : 2 ≤ g
-  pub g-high : g ≤ 6
-  pub P-high : q + g ≤ 20
 
 pub widths-of : (kind w q g : ℕ) → verdict (widthChecks (limitsOf kind) kind w q g) ≡ Verdict.Passed → Widths kind w q g
-unfolding limitsOf widthChecks
 widths-of kind w q g e =
-    let p = none-fails (widthChecks (limitsOf kind) kind w q g) e in
-    let g-and-P = neither _ _ (p .1 .1 .1 .0) in
+    let within = within-of (limitsOf kind) kind w q g e in
+    let has-row = known kind (within .kind-high) in
+    let f = fine kind (has-row .0) in
+    let finest = narrower w (within .w-high) (f .room) in
     record {
-      kind-high = inside 0 4 kind (p .0) .1;
-      w-low = inside 6 16 w (p .1 .0) .0;
-      w-high = inside 6 16 w (p .1 .0) .1;
-      q-low = inside 6 16 q (p .1 .1 .0) .0;
-      q-high = inside 6 16 q (p .1 .1 .0) .1;
-      g-low = inside 2 6 g (g-and-P .0) .0;
-      g-high = inside 2 6 g (g-and-P .0) .1;
-      P-high = ltb-false 20 (q + g) (g-and-P .1);
+      within = within;
+      kind-known = has-row .0;
+      kinds-few = has-row .1;
+      lawful = f .lawful;
+      finest = finest;
+      room = coarser (q + g) (within .sum-high) finest;
+      q-low = le-trans (f .q-low) (within .q-low);
+      g-low = le-trans (f .g-low) (within .g-low);
     }

@@ -6,8 +6,10 @@ ghost use lib.IntN.{natAbs};
 ghost use lib.Signed.{nonNeg};
 ghost use Rattle.values.specs.Value.{valueOf, toldBy, valueTold};
 
-pub mod exact;
+pub mod faithful;
 pub mod floor;
+mod newton;
+mod parts;
 pub mod rows;
 pub mod slopes;
 pub mod widths;

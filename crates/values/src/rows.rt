@@ -1,7 +1,7 @@
 // c, k and sign of each kind: one small table, read by values, slopes and fill.
 ghost use mathlib.Core.Path.{_≡_};
 ghost use Prim.Native.Nat.{_<_};
-ghost use Rattle.values.specs.Rows.{rowOf};
+ghost use Rattle.values.specs.Rows.{kinds, rowOf};
 
 // The argument is c·X / 2^w; the function is its k-th root, or one over that where it falls.
 pub struct Row {
@@ -40,7 +40,7 @@ const ROWS: [Row; 5] = [
 
 // inner: the kind has been checked.
 pub fn row_of(kind: u32) -> Row
-    requires { ⌜ kind < 5 ⌝ }
+    requires { ⌜ kind < kinds ⌝ }
     ensures { λ r. ⌜ r ≡ rowOf kind ⌝ }
 {
     ROWS[kind as usize]

@@ -4,6 +4,7 @@ ghost use Prim.Native.Nat.{_+_, _*_, _^_, _<_};
 ghost use Rattle.values.specs.Floor.{floorValue};
 ghost use Rattle.values.specs.Slopes.{segmentStart, segmentEnd, spread, largestSpread};
 ghost use Rattle.values.specs.Slopes as Slopes;
+ghost use Rattle.values.specs.Room.{floorBound};
 ghost use Rattle.values.specs.Inputs.{FloorInput, SegmentInput, SlopeInput};
 use crate::floor::floor_value;
 use crate::rows::Row;
@@ -28,7 +29,7 @@ pub fn segment_end(w: u32, a: u32, segment: u64) -> u64
 // L(X) as a plain number.
 fn floor_count(row: Row, w: u32, p: u32, x: u64) -> u64
     requires { ⌜ FloorInput row w p x ⌝ }
-    ensures { λ r. ⌜ (r ≡ floorValue row w p x) × (r < 2 ^ 21) ⌝ }
+    ensures { λ r. ⌜ (r ≡ floorValue row w p x) × (r < floorBound) ⌝ }
 {
     floor_value(row, w, p, x).count()
 }

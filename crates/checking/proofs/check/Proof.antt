@@ -2,7 +2,6 @@
 use mathlib.Core.Path.{_≡_, sym, ap, _∙_}
 use mathlib.Core.List.{List}
 use Prim.Native.Nat.{ℕ, _^_}
-use native.Mathlib.Omega.{arith}
 use lib.IntN.{ℤ}
 use lib.ListN.{length}
 use borrow.Author.Needs.{needs}
@@ -57,7 +56,7 @@ lookups-of-requires : tie.Need-lookups-of-requires
 lookups-of-requires c κs = set c .legal
 
 row-of-requires : tie.Need-row-of-requires
-row-of-requires c κs = omega (arith, limits _ (set (c .before) .legal) .widths .kind-high)
+row-of-requires c κs = limits _ (set (c .before) .legal) .widths .kind-known
 
 search-requires : tie.Need-search-requires
 search-requires c κs = (set (c .before .before), (c .before .lookups-of .ensures, c .row-of .ensures))

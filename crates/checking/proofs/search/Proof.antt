@@ -1,12 +1,13 @@
 -- `checking::search` meets its contract: up to here every word is faithful, over whole intervals and then within one.
 use mathlib.Core.Path.{_≡_, refl}
 use mathlib.Core.Bool.{Bool}
-use Prim.Native.Nat.{ℕ, _+_, _-_, _*_, _^_, _≤_, _<_}
+use Prim.Native.Nat.{ℕ, _+_, _-_, _*_, _≤_, _<_}
 use native.Mathlib.Nat.{zero-mul, add-zero, add-assoc}
 use native.Mathlib.Omega.{arith}
 use lib.ListN.{length}
 use borrow.Author.Tests.{not-true, not-false}
 use Rattle.refusal.proofs.Checks.{tested}
+use Rattle.values.specs.Room.{wordBound}
 use Rattle.design.proofs.LegalLaws.{limits}
 use Rattle.checking.specs.declared.Checked.{Checked}
 use Rattle.tables.specs.Inputs.{SameInterval}
@@ -53,7 +54,7 @@ sub-pow2 : tie.Need-sub-pow2 Inv-loop μ-loop Inv-words μ-words
 sub-pow2 c = omega (arith, limits _ (c .before .before .before .pre .0 .legal) .alpha-below)
 
 pow2-requires-2 : tie.Need-pow2-requires-2 Inv-loop μ-loop Inv-words μ-words
-pow2-requires-2 c κs = omega (arith, limits _ (c .before .before .before .pre .0 .legal) .widths .w-high)
+pow2-requires-2 c κs = omega (arith, limits _ (c .before .before .before .pre .0 .legal) .widths .room .w-small)
 
 cast-rests : tie.Need-cast-rests Inv-loop μ-loop Inv-words μ-words
 cast-rests c = omega (arith, c .pow22 .ensures, rests-fit _ (limits _ (c .before .before .before .before .pre .0 .legal)))
@@ -75,7 +76,7 @@ mul-start c =
 -- an interval's number is that of its initial entry
 numbers : (c : tie.In-words Inv-loop μ-loop Inv-words μ-words) →
     let a = c .before .before .before .before .before .before .args in
-    (c .before .words .interval < length (a .initial .now)) × (c .before .words .interval < 2 ^ 16)
+    (c .before .words .interval < length (a .initial .now)) × (c .before .words .interval < wordBound)
 numbers c =
     let n = counted (c .before .before) in
     let long = c .before .before .before .before .before .before .pre .0 .initial-long in

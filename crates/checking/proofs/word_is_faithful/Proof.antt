@@ -1,48 +1,44 @@
--- `checking::word_is_faithful` meets its contract: a sum out of range settles it, and else the word, of at most 18 bits, is tried.
+-- `checking::word_is_faithful` meets its contract: a sum out of range settles it, and else the word, of at most q + 2 bits, is tried.
 use mathlib.Core.Path.{_≡_, _∙_}
 use mathlib.Core.Bool.{Bool, true, false}
 use mathlib.Core.List.{List}
-use Prim.Native.Nat.{ℕ, _+_, _^_, _<_, _≤_}
-use native.Mathlib.Nat.{lt-of-lt-of-le}
+use Prim.Native.Nat.{ℕ, _+_, _^_, _<_}
 use native.Mathlib.Omega.{arith}
 use lib.ListN.{getD}
 use lib.IntN.{ℤ, pos, _+ℤ_}
-use lib.Pow.{pow-mono, shr-lt}
+use lib.Pow.{shr-lt}
 use borrow.Author.Needs.{needs}
 use Rattle.refusal.proofs.Checks.{tested}
 use Rattle.values.specs.declared.TableUnits.{TableUnits}
 use Rattle.values.specs.declared.OutputUnits.{OutputUnits}
 use Rattle.values.specs.declared.rows.Row.{Row}
 use Rattle.values.specs.Inputs.{FloorInput}
+use Rattle.values.specs.Faithful.{isFaithful}
+use Rattle.values.proofs.Bounds.{coarser, words-few}
 use Rattle.design.specs.declared.Design.{Design}
 use Rattle.design.specs.Cut.{row, fractionBits, initialWord}
-use Rattle.design.proofs.LegalLaws.{Limits, limits, lawful}
+use Rattle.design.proofs.LegalLaws.{Limits, limits, lawful, room}
 use Rattle.general.specs.Below.{signedSum}
 use Rattle.tables.specs.Sum.{offsetFor, sumAt, sumOutside, wordOf, wordAt}
-use Rattle.tables.specs.Faithful.{isFaithful}
 use Rattle.checking.specs.Check.{faithfulAt}
 use Rattle.tables.proofs.SumLaws.{in-range}
 use Rattle.checking.proofs.word_is_faithful.Statement.{statement}
 use Rattle.checking.proofs.word_is_faithful.Tie as tie
 
 module _ (d : Design) (l : Limits d) where
-  width-small : 2 ^ d .w ≤ 2 ^ 16
-  width-small = pow-mono (l .widths .w-high)
-
-  exact-at : (x : ℕ) → x < 2 ^ d .w → FloorInput (row d) (d .w) (d .q) (2 ^ d .w + x)
+  exact-at : (x : ℕ) → x < 2 ^ d .w → FloorInput (row d) (d .w) (d .q + 2) (2 ^ d .w + x)
   exact-at x h =
       record {
         lawful = lawful d l;
-        w-small = l .widths .w-high;
-        P-small = omega (arith, l .widths);
+        room = coarser (d .q + 2) (omega (arith, l .widths .g-low)) (room d l);
         range = record { low = omega arith; high = omega arith };
       }
 
-  word-small : (Y : ℤ) → sumOutside d Y ≡ false → wordOf d Y < 2 ^ 18
+  word-small : (Y : ℤ) → sumOutside d Y ≡ false → wordOf d Y < 2 ^ (d .q + 2)
   unfolding wordOf
   word-small Y e =
       let places : fractionBits d + 2 ≡ d .q + 2 + d .g = omega arith in
-      lt-of-lt-of-le (shr-lt (d .q + 2) (d .g) (rw places at (in-range d Y e .1))) (pow-mono {j = 18} (omega (arith, l .widths)))
+      shr-lt (d .q + 2) (d .g) (rw places at (in-range d Y e .1))
 
 -- The answer, by what the calls promise
 module _ (d : Design) (entry : ℕ) (offsets : List ℤ) (x : ℕ) (sum : TableUnits) (outside : Bool)
@@ -75,12 +71,12 @@ returns c initial entry-is =
     (c .if1 .taken)
 
 pow2-requires : tie.Need-pow2-requires
-pow2-requires c κs = omega (arith, limits _ (c .before .before .before .pre .0 .0) .widths .w-high)
+pow2-requires c κs = omega (arith, limits _ (c .before .before .before .pre .0 .0) .widths .room .w-small)
 
 add-is-faithful : tie.Need-add-is-faithful
 add-is-faithful c =
     let p = c .before .before .before .before .pre in
-    omega (arith, width-small _ (limits _ (p .0 .0)), c .pow2 .ensures, p .1 .1 .1 .word)
+    omega (arith, words-few (room _ (limits _ (p .0 .0))), c .pow2 .ensures, p .1 .1 .1 .word)
 
 word-of-requires : tie.Need-word-of-requires
 word-of-requires c κs =

@@ -1,19 +1,20 @@
--- `entries::initial_at` meets its contract: both ends lie on the interval, and their values are below 2^21.
+-- `entries::initial_at` meets its contract: both ends lie on the interval, and their values are small.
 use mathlib.Core.Path.{_≡_}
-use Prim.Native.Nat.{ℕ, _+_, _-_, _/_, _^_, _≤_, _<_}
+use Prim.Native.Nat.{ℕ, _+_, _-_, _*_, _/_, _^_, _≤_, _<_}
 use native.Mathlib.Omega.{arith}
 use borrow.Author.Needs.{needs}
-use lib.Pow.{pow-mono}
+use Rattle.values.specs.Room.{floorBound, entryBound}
 use Rattle.values.specs.Inputs.{InRange, SegmentInput}
 use Rattle.values.specs.Slopes.{segmentStart, segmentEnd}
-use Rattle.values.proofs.Bounds.{start-input, end-input}
+use Rattle.values.proofs.Bounds.{segment-input, start-input, end-input}
 use Rattle.design.specs.declared.Design.{Design}
 use Rattle.design.specs.Stored.{initialCount}
 use Rattle.design.specs.Legal.{Legal}
 use Rattle.design.proofs.LegalLaws.{limits}
 use Rattle.entries.specs.Entries.{valueAt, endValues, initialAt}
-use Rattle.entries.proofs.EntryBounds.{interval-input, segment-input, half-sum-small}
+use Rattle.entries.proofs.EntryBounds.{interval-input, unit-small, half-sum-small}
 use Rattle.entries.proofs.initial_at.Statement.{statement}
+use Rattle.entries.proofs.initial_at.Tie as tie
 use Rattle.entries.proofs.initial_at.Tie as tie
 
 module _ (d : Design) (A : ℕ) (legal : Legal d) (A-lt : A < initialCount d) where
@@ -78,19 +79,17 @@ pow2-requires : tie.Need-pow2-requires
 pow2-requires c κs = omega (arith, limits _ (c .before .before .before .before .before .before .pre .0) .widths)
 
 -- the half unit
-unit-small : (c : tie.After-pow2) → c .pow2 .result ≤ 2 ^ 8
-unit-small c =
-    let l = limits _ (c .before .before .before .before .before .before .before .pre .0) in
-    rw (c .pow2 .ensures) (pow-mono {j = 8} (omega (arith, l .widths .g-high)))
+half-unit : (c : tie.After-pow2) → c .pow2 .result * 2 ≤ floorBound
+half-unit c = rw (c .pow2 .ensures) (unit-small _ (limits _ (c .before .before .before .before .before .before .before .pre .0)))
 
--- so the entry is below 2^22
+-- so the entry is small
 entry-small : (c : tie.After-pow2) → let values = c .before .before .before in
     (values .before .value-at .result + values .value-at2 .result + 1 + values .before .before .before .before .args .d .m) / 2
-    + c .pow2 .result < 2 ^ 22
+    + c .pow2 .result < entryBound
 entry-small c =
     let values = c .before .before .before in
     let l = limits _ (values .before .before .before .before .pre .0) in
-    half-sum-small _ _ _ _ (values .before .value-at .ensures .1) (values .value-at2 .ensures .1) (l .m-high) (unit-small c)
+    half-sum-small _ _ _ _ (values .before .value-at .ensures .1) (values .value-at2 .ensures .1) (l .m-high) (half-unit c)
 
 add-result-3 : tie.Need-add-result-3
 add-result-3 c = omega (arith, entry-small c)

@@ -1,5 +1,5 @@
--- `entries::offset_of` meets its contract: |j| is at most 2^b, so the product is at most 2^39 and T at most 2^21. What the
--- entry means is a law of its definition.
+-- `entries::offset_of` meets its contract: |j| is at most 2^b, so the product and T are small. What the entry means is
+-- a law of its definition.
 use mathlib.Core.Path.{_≡_, _∙_}
 use Prim.Native.Nat.{_^_, _≤_}
 use native.Mathlib.Omega.{arith}
@@ -26,7 +26,7 @@ absolute-requires : tie.Need-absolute-requires
 absolute-requires c κs =
     let a = c .before .args in
     let small = odd-small (a .slopes) (a .b) (a .p) (a .word) (c .before .pre .0 .small) (c .before .pre .1) in
-    rw (odd-is c) (omega (arith, small, pow-mono {i = a .b} {j = 16} (omega arith)))
+    rw (odd-is c) (omega (arith, small, pow-mono {i = a .b} {j = 31} (omega arith)))
 
 -- |j|
 absolute-is : (c : tie.After-absolute) → c .absolute .result ≡ natAbs (oddNumber (c .before .before .args .b) (c .before .before .args .word))

@@ -1,20 +1,22 @@
--- `entries::slope_sum` meets its contract: both ends lie on the segment, and neither slope is above 2^39.
+-- `entries::slope_sum` meets its contract: both ends lie on the segment, and their slopes are small.
 use mathlib.Core.Path.{_≡_}
 use Prim.Native.Nat.{ℕ, _+_, _^_, _≤_, _<_}
 use native.Mathlib.Omega.{arith}
 use Rattle.values.specs.declared.rows.Row.{Row}
+use Rattle.values.specs.Room.{productBound}
 use Rattle.values.specs.Inputs.{FloorInput, SegmentInput}
 use Rattle.values.specs.Slopes.{segmentStart, segmentEnd}
 use Rattle.values.specs.Slopes as Slopes
-use Rattle.values.proofs.Bounds.{start-input, end-input}
+use Rattle.values.proofs.Bounds.{segment-input, start-input, end-input}
 use Rattle.design.specs.declared.Pair.{Pair}
 use Rattle.design.specs.declared.Design.{Design}
 use Rattle.design.specs.Cut.{aOf, row, fractionBits, pairAt}
 use Rattle.design.specs.Legal.{Legal}
 use Rattle.design.proofs.LegalLaws.{limits, slopewise}
 use Rattle.entries.specs.Entries.{hiAt, loAt}
-use Rattle.entries.proofs.EntryBounds.{segment-input, slopes-fit}
+use Rattle.entries.proofs.EntryBounds.{slopes-fit}
 use Rattle.entries.proofs.slope_sum.Statement.{statement}
+use Rattle.entries.proofs.slope_sum.Tie as tie
 use Rattle.entries.proofs.slope_sum.Tie as tie
 
 -- the ends and the slopes that the calls give, as the definitions have them
@@ -35,14 +37,14 @@ module _ (d : Design) (i A : ℕ) (legal : Legal d) (at : (i < d .m) × (A < 2 ^
       unfolding hiAt loAt
       sum-is = rw (high-is, low-is, start-is, end-is, r-is, pair-is)
 
-      sum-small : high + low ≤ 2 ^ 39
+      sum-small : high + low ≤ productBound
       sum-small = rw sum-is (slopes-fit d (limits d legal) i A (at .0) (at .1))
 
 pair-at-requires : tie.Need-pair-at-requires
 pair-at-requires c κs = (c .pre .1 .0, limits _ (c .pre .0) .m-high)
 
 row-of-requires : tie.Need-row-of-requires
-row-of-requires c κs = omega (arith, limits _ (c .before .pre .0) .widths)
+row-of-requires c κs = limits _ (c .before .pre .0) .widths .kind-known
 
 add-p : tie.Need-add-p
 add-p c = omega (arith, limits _ (c .before .before .before .pre .0) .widths)

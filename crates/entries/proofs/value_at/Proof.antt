@@ -1,4 +1,4 @@
--- `entries::value_at` meets its contract: the floor value is not negative, and below 2^21.
+-- `entries::value_at` meets its contract: the floor value is not negative, and small.
 use mathlib.Core.Path.{ap, _∙_}
 use native.Mathlib.Omega.{arith}
 use lib.IntN.{natAbs}

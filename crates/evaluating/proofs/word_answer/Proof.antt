@@ -12,7 +12,7 @@ use Rattle.evaluating.proofs.word_answer.Statement.{statement}
 use Rattle.evaluating.proofs.word_answer.Tie as tie
 
 pow2-requires : tie.Need-pow2-requires
-pow2-requires c κs = omega (arith, limits _ (c .before .pre .0 .legal) .widths .w-high)
+pow2-requires c κs = omega (arith, limits _ (c .before .pre .0 .legal) .widths .room .w-small)
 
 returns : tie.Need-returns
 returns c =

@@ -29,7 +29,7 @@ abbrev μ-loop : tie.MeasureT-loop
 μ-loop d initial₀ row words word₀ initial word = words - word
 
 row-of-requires : tie.Need-row-of-requires Inv-loop μ-loop
-row-of-requires c κs = omega (arith, limits _ (c .before .pre .0) .widths)
+row-of-requires c κs = limits _ (c .before .pre .0) .widths .kind-known
 
 pow2-requires : tie.Need-pow2-requires Inv-loop μ-loop
 pow2-requires c κs = omega (arith, limits _ (c .before .before .pre .0))

@@ -43,7 +43,7 @@ add-p c =
     let turn = c .before .before .before .before .before in
     let l = limits _ (turn .before .before .pre .0) in
     rw (c .before .pair-at .ensures)
-    (omega (arith, turn .before .loop .inv .0 .bits, bits-end _ l _ (here turn), l .widths .w-high))
+    (omega (arith, turn .before .loop .inv .0 .bits, bits-end _ l _ (here turn), l .widths .room .w-small))
 
 add-i : tie.Need-add-i Inv-loop μ-loop
 add-i c =

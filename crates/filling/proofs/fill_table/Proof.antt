@@ -23,7 +23,7 @@ pair-at-requires : tie.Need-pair-at-requires Inv-loop μ-loop
 pair-at-requires c κs = (c .pre .0 .i-lt, limits _ (c .pre .0 .legal) .m-high)
 
 row-of-requires : tie.Need-row-of-requires Inv-loop μ-loop
-row-of-requires c κs = omega (arith, limits _ (c .before .pre .0 .legal) .widths)
+row-of-requires c κs = limits _ (c .before .pre .0 .legal) .widths .kind-known
 
 pow2-requires : tie.Need-pow2-requires Inv-loop μ-loop
 pow2-requires c κs =

@@ -5,7 +5,6 @@ use native.Mathlib.Omega.{arith}
 use borrow.Author.Needs.{needs}
 use borrow.Author.Tests.{le-leb, lt-leb}
 use lib.IntN.{pos}
-use lib.Pow.{pow-mono}
 use Rattle.refusal.specs.declared.Cause.{Cause}
 use Rattle.refusal.specs.declared.Verdict.{Verdict}
 use Rattle.refusal.specs.Checks.{verdict}
@@ -18,7 +17,8 @@ use Rattle.values.specs.Floor.{floorValue}
 use Rattle.values.specs.Inputs.{FloorInput}
 use Rattle.values.specs.Widths.{limitsOf, widthChecks}
 use Rattle.values.specs.Value.{valued, valueVerdict, valueOf, wordCheck, toldBy, valueTold}
-use Rattle.values.proofs.WidthLaws.{Widths, widths-of, row-lawful}
+use Rattle.values.proofs.Bounds.{words-few}
+use Rattle.values.proofs.WidthLaws.{Widths, widths-of}
 use Rattle.values.proofs.value.Statement.{statement}
 use Rattle.values.proofs.value.Tie as tie
 
@@ -54,9 +54,8 @@ module _ (kind w q g x : ℕ) where
     fits h =
         let widths = widths-of kind w q g passed in
         record {
-          lawful = row-lawful kind (widths .kind-high);
-          w-small = widths .w-high;
-          P-small = widths .P-high;
+          lawful = widths .lawful;
+          room = widths .room;
           range = record { low = omega arith; high = omega arith };
         }
 
@@ -95,13 +94,13 @@ returns-2 : tie.Need-returns-2
 returns-2 c = past _ _ _ _ _ (passed (c .before .before)) (omega (arith, c .before .pow2 .ensures))
 
 row-of-requires : tie.Need-row-of-requires
-row-of-requires c κs = omega (arith, limits (c .before .before))
+row-of-requires c κs = limits (c .before .before) .kind-known
 
 add-floor-value : tie.Need-add-floor-value
 add-floor-value c = omega (arith, limits (c .before .before .before))
 
 add-floor-value-2 : tie.Need-add-floor-value-2
-add-floor-value-2 c = omega (arith, pow-mono (limits (c .before .before .before) .w-high))
+add-floor-value-2 c = omega (arith, words-few (limits (c .before .before .before) .room))
 
 floor-value-requires : tie.Need-floor-value-requires
 floor-value-requires c κs =

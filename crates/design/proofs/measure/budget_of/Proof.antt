@@ -1,6 +1,6 @@
 -- `design::measure::budget_of` meets its contract: after n turns `sum` is the budget of the first n tables, and `position` is p_n.
 use mathlib.Core.Path.{_≡_, refl, sym, ap, ap₂, _∙_}
-use Prim.Native.Nat.{ℕ, _+_, _*_, _-_, _^_, _≤_}
+use Prim.Native.Nat.{ℕ, _+_, _*_, _-_, _≤_}
 use native.Mathlib.Omega.{arith}
 use borrow.Author.Needs.{needs}
 use Rattle.design.specs.declared.Pair.{Pair}
@@ -11,7 +11,7 @@ use Rattle.design.specs.Cut as Cut
 use Rattle.design.specs.Budget.{tableBudget, budget}
 use Rattle.general.proofs.Sums.{sum-next}
 use Rattle.design.proofs.LegalLaws.{limits, bits-end}
-use Rattle.design.proofs.BudgetLaws.{table-budget-small}
+use Rattle.design.proofs.BudgetLaws.{shareBound, table-budget-small}
 use Rattle.design.proofs.measure.budget_of.Statement.{statement}
 use Rattle.design.proofs.measure.budget_of.Tie as tie
 
@@ -19,7 +19,7 @@ record Inv (d : Design) (sum at i : ℕ) : Type 0 where
   sum-is : sum ≡ sumBelow i (tableBudget d)
   place : at ≡ Cut.position d i
   within : i ≤ d .m
-  small : sum ≤ i * 2 ^ 52
+  small : sum ≤ i * shareBound
 
 abbrev Inv-loop : tie.InvT-loop
 Inv-loop d m sum₀ position₀ i₀ sum position i =
@@ -52,7 +52,7 @@ add-position c =
     let b = c .before .before .before in
     let l = limits _ (b .before .before .pre) in
     rw (c .before .pair-at .ensures, b .before .loop .inv .place)
-    (omega (arith, bits-end _ l _ (b .loop-test .taken), l .table _ (b .loop-test .taken), l .alpha-high, l .widths .w-high))
+    (omega (arith, bits-end _ l _ (b .loop-test .taken), l .table _ (b .loop-test .taken), l .alpha-high, l .widths .room .w-small))
 
 add-i : tie.Need-add-i Inv-loop μ-loop
 add-i c = omega (arith, limits _ (c .before .before .before .before .before .pre) .m-high)

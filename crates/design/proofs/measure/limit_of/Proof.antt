@@ -1,4 +1,4 @@
--- `design::measure::limit_of` meets its contract: g is at most 6.
+-- `design::measure::limit_of` meets its contract: g is at most P, which is small.
 use native.Mathlib.Omega.{arith}
 use Rattle.design.specs.Budget.{limit}
 use Rattle.design.proofs.LegalLaws.{limits}

@@ -1,5 +1,5 @@
--- `design::measure::table_budget` meets its contract. The product of the two powers is D_i, below 2^14, and the slopes spread by at
--- most 2^38.
+-- `design::measure::table_budget` meets its contract. The product of the two powers is D_i, below 2^w, and there is room for its product
+-- with the largest spread.
 use mathlib.Core.Path.{_≡_}
 use Prim.Native.Nat.{ℕ, _-_, _*_, _^_}
 use native.Mathlib.Nat.{lt-trans, lt-of-le-of-lt}
@@ -33,7 +33,7 @@ pair-at-requires : tie.Need-pair-at-requires
 pair-at-requires c κs = (c .pre .1 .0, limits _ (c .pre .0) .m-high)
 
 row-of-requires : tie.Need-row-of-requires
-row-of-requires c κs = omega (arith, limits _ (c .before .pre .0) .widths)
+row-of-requires c κs = limits _ (c .before .pre .0) .widths .kind-known
 
 pow2-requires : tie.Need-pow2-requires
 pow2-requires c κs =

@@ -7,6 +7,7 @@ use native.Mathlib.Omega.{arith}
 use borrow.Author.Needs.{needs}
 use borrow.Author.Tests.{not-true}
 use lib.Pow.{pow-mono}
+use Rattle.values.specs.Room.{finestUnit, entryBound}
 use Rattle.design.specs.declared.Design.{Design}
 use Rattle.design.specs.Stored.{initialCount}
 use Rattle.design.proofs.LegalLaws.{Limits, limits}
@@ -18,8 +19,8 @@ module _ (d : Design) (l : Limits d) where
   reach-small : (size : ℕ) → d .m * size ≤ 4 * size
   reach-small size = mul-le-mul-right size (l .m-high)
 
-  limit-small : 2 ^ (d .q + d .g + 2) ≤ 2 ^ 22
-  limit-small = pow-mono {j = 22} (omega (arith, l .widths .P-high))
+  limit-small : 2 ^ (d .q + d .g + 2) ≤ entryBound
+  limit-small = pow-mono {j = finestUnit + 2} (omega (arith, l .widths .room .s-small))
 
 offset-total-requires : tie.Need-offset-total-requires
 offset-total-requires c κs = search needs

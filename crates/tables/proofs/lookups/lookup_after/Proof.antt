@@ -10,7 +10,7 @@ sub-count : tie.Need-sub-count
 sub-count c = let p = c .before .before .pre in shift-within _ (limits _ (p .0)) _ _ (p .1 .1)
 
 shl-count : tie.Need-shl-count
-shl-count c = omega (arith, limits _ (c .before .before .pre .0) .widths .w-high)
+shl-count c = omega (arith, limits _ (c .before .before .pre .0) .widths .room .w-small)
 
 add-lookup-of : tie.Need-add-lookup-of
 add-lookup-of c = search needs

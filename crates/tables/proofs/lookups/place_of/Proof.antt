@@ -6,6 +6,7 @@ use native.Mathlib.Omega.{arith}
 use borrow.Author.Needs.{needs}
 use lib.Pow.{pow-pos, shr-le}
 use Rattle.design.specs.Limits.{mostOffsets}
+use Rattle.values.specs.Room.{wordBound}
 use Rattle.tables.specs.declared.lookups.Lookup.{Lookup}
 use Rattle.tables.specs.Inputs.{Small}
 use Rattle.tables.specs.Lookup.{placeAt}
@@ -17,11 +18,11 @@ size-pos : (n : ℕ) → n < 32 → 0 < 1 * 2 ^ n % 2 ^ 32
 size-pos n h = rw (shl-one n h) (pow-pos n)
 
 -- two parts of two words, however they are cut, and the start of a table before them
-parts-small : (near x s p cut size : ℕ) → near < 2 ^ 16 → x < 2 ^ 16 → near / 2 ^ s - cut + x / 2 ^ p % size < 2 ^ 17
+parts-small : (near x s p cut size : ℕ) → near < wordBound → x < wordBound → near / 2 ^ s - cut + x / 2 ^ p % size < wordBound * 2
 parts-small near x s p cut size near-word word = omega (arith, shr-le near s, shr-le x p, mod-le (x / 2 ^ p) size)
 
-place-small : (start near x s p cut size : ℕ) → start ≤ mostOffsets → near < 2 ^ 16 → x < 2 ^ 16
-    → start + (near / 2 ^ s - cut + x / 2 ^ p % size) < 2 ^ 18
+place-small : (start near x s p cut size : ℕ) → start ≤ mostOffsets → near < wordBound → x < wordBound
+    → start + (near / 2 ^ s - cut + x / 2 ^ p % size) < wordBound * 2 + mostOffsets + 1
 place-small start near x s p cut size h near-word word = omega (arith, parts-small near x s p cut size near-word word)
 
 -- the place, where the remainders are by what the shift makes

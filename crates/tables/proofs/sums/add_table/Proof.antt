@@ -6,8 +6,9 @@ use native.Mathlib.Nat.{lt-of-lt-of-le}
 use native.Mathlib.Omega.{arith}
 use lib.ListN.{length, getD}
 use lib.IntN.{ℤ, pos, _+ℤ_}
-use lib.Pow.{pow-mono}
 use lib.Signed.{mag}
+use Rattle.values.proofs.Bounds.{words-few}
+use Rattle.values.specs.Room.{wordBound}
 use Rattle.values.specs.declared.TableUnits.{TableUnits}
 use Rattle.design.specs.declared.Design.{Design}
 use Rattle.design.specs.Stored.{offsetFrom, offsetTotal}
@@ -26,10 +27,10 @@ use Rattle.tables.proofs.sums.add_table.Tie as tie
 module _ {d : Design} (offsets : List ℤ) {near x i : ℕ} (usable : Legal d × (offsetTotal d ≤ length offsets)) (more : i < d .m)
     {lookup : Lookup} (e : lookup ≡ lookupOf d i) (words : SameInterval d near x) (sum : ℤ) where
   asked : mag sum ≤ 2 ^ 40
-      → Small lookup × (((near < 2 ^ 16) × (x < 2 ^ 16)) × ((placeAt lookup near x < length offsets) × (mag sum ≤ 2 ^ 40)))
+      → Small lookup × (((near < wordBound) × (x < wordBound)) × ((placeAt lookup near x < length offsets) × (mag sum ≤ 2 ^ 40)))
   asked small =
       let l = limits d (usable .0) in
-      let width = pow-mono {j = 16} (l .widths .w-high) in (
+      let width = words-few (l .widths .room) in (
         lookup-small d l i lookup e (omega (arith, l .m-high)),
         (
           (lt-of-lt-of-le (words .near-word) width, lt-of-lt-of-le (words .word) width),

@@ -1,6 +1,5 @@
 -- `tables::sums::sum_from` meets its contract: after i tables the sum is `Summed .. i`, and after four it has all of them.
-use mathlib.Core.Path.{_≡_, ap}
-use Prim.Native.Nat.{ℕ, _+_, _^_, _≤_, _<_}
+use mathlib.Core.Path.{ap}
 use native.Mathlib.Omega.{arith}
 use borrow.Author.Needs.{needs}
 use lib.IntN.{ℤ}

@@ -14,7 +14,7 @@ sub-entry : tie.Need-sub-entry
 sub-entry c = omega (arith, limits _ (c .before .before .pre .0 .legal))
 
 shr-entry : tie.Need-shr-entry
-shr-entry c = omega (arith, limits _ (c .before .before .pre .0 .legal) .widths .w-high)
+shr-entry c = omega (arith, limits _ (c .before .before .pre .0 .legal) .widths .room .w-small)
 
 cast-entry : tie.Need-cast-entry
 cast-entry c = record { fits = lt-of-le-of-lt (shr-le _ _) (omega arith) }

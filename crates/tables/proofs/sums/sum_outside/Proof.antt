@@ -8,6 +8,7 @@ use lib.Pow.{pow-mono}
 use lib.Signed.{ltZ, leZ}
 use mir.Syntax.{w64}
 use mir.ValLaws.{toZ-pos, toZ-ofZ}
+use Rattle.values.specs.Room.{finestUnit, entryBound}
 use Rattle.design.specs.declared.Design.{Design}
 use Rattle.design.specs.Cut.{fractionBits}
 use Rattle.design.proofs.LegalLaws.{limits}
@@ -35,18 +36,18 @@ module _ (d : Design) (Y held : ℤ) (same : held ≡ Y) where
       subst (λ (z : ℤ). leZ limit held ≡ sumOutside d z) same (ap (λ (z : ℤ). leZ z held) limit-is ∙ second _ _ e)
 
 add-pow2 : tie.Need-add-pow2
-add-pow2 c = omega (arith, limits _ (c .before .pre) .widths .P-high)
+add-pow2 c = omega (arith, limits _ (c .before .pre) .widths .room .s-small)
 
 add-pow2-2 : tie.Need-add-pow2-2
-add-pow2-2 c = omega (arith, limits _ (c .before .pre) .widths .P-high)
+add-pow2-2 c = omega (arith, limits _ (c .before .pre) .widths .room .s-small)
 
 pow2-requires : tie.Need-pow2-requires
-pow2-requires c κs = omega (arith, limits _ (c .before .pre) .widths .P-high)
+pow2-requires c κs = omega (arith, limits _ (c .before .pre) .widths .room .s-small)
 
-limit-small : (c : tie.After-pow2) → c .pow2 .result ≤ 2 ^ 22
+limit-small : (c : tie.After-pow2) → c .pow2 .result ≤ entryBound
 limit-small c =
-    let few = limits _ (c .before .before .pre) .widths .P-high in
-    rw (c .pow2 .ensures) (pow-mono {j = 22} (omega arith))
+    let few = limits _ (c .before .before .pre) .widths .room .s-small in
+    rw (c .pow2 .ensures) (pow-mono {j = finestUnit + 2} (omega arith))
 
 cast-limit : tie.Need-cast-limit
 cast-limit c = record { sfits = omega (arith, limit-small c) }

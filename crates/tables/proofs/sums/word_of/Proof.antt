@@ -1,12 +1,13 @@
--- `tables::sums::word_of` meets its contract: a sum in range is a number of at most 22 bits.
+-- `tables::sums::word_of` meets its contract: a sum in range is small.
 use mathlib.Core.Path.{_≡_}
-use Prim.Native.Nat.{ℕ, _/_, _^_, _<_}
+use Prim.Native.Nat.{ℕ, _+_, _/_, _^_, _<_}
 use native.Mathlib.Nat.{lt-of-lt-of-le}
 use native.Mathlib.Omega.{arith}
 use borrow.Author.Needs.{needs}
 use lib.IntN.{ℤ, natAbs}
 use lib.Pow.{pow-mono, shr-le}
 use Rattle.values.specs.declared.OutputUnits.{OutputUnits}
+use Rattle.values.specs.Room.{finestUnit, entryBound}
 use Rattle.design.specs.declared.Design.{Design}
 use Rattle.design.proofs.LegalLaws.{limits}
 use Rattle.tables.specs.Sum.{wordOf}
@@ -30,12 +31,12 @@ cast-word c = search needs
 shr-word : tie.Need-shr-word
 shr-word c = omega (arith, limits _ (c .before .pre .0) .widths)
 
-small : (c : tie.After-count) → c .count .result < 2 ^ 22
+small : (c : tie.After-count) → c .count .result < entryBound
 small c =
     let s = c .before in
-    let few = limits _ (s .pre .0) .widths .P-high in
+    let few = limits _ (s .pre .0) .widths .room .s-small in
     rw (c .count .ensures)
-    (lt-of-lt-of-le (in-range (s .args .d) (s .args .sum .0) (s .pre .1) .1) (pow-mono {j = 22} (omega arith)))
+    (lt-of-lt-of-le (in-range (s .args .d) (s .args .sum .0) (s .pre .1) .1) (pow-mono {j = finestUnit + 2} (omega arith)))
 
 cast-word-2 : tie.Need-cast-word-2
 cast-word-2 c = omega (arith, small c, shr-le (c .count .result) (c .before .args .d .g), limits _ (c .before .pre .0) .widths)

@@ -1,18 +1,18 @@
--- `values::floor::floor_value` meets its contract: the root has at most 21 binary digits, so its count fits a signed number.
+-- `values::floor::floor_value` meets its contract: the root is small, so its count fits a signed number.
 use mathlib.Core.Path.{_≡_, ap, _∙_}
-use Prim.Native.Nat.{ℕ, _^_, _<_}
-use native.Mathlib.Nat.{lt-of-lt-of-le}
+use Prim.Native.Nat.{ℕ, _<_}
 use native.Mathlib.Omega.{arith}
 use borrow.Author.Needs.{needs}
 use lib.IntN.{ℤ, pos}
-use lib.Pow.{pow-mono}
 use mir.Syntax.{w64}
 use mir.ValLaws.{toZ-pos}
 use Rattle.values.specs.declared.rows.Row.{Row}
 use Rattle.values.specs.declared.TableUnits.{TableUnits}
 use Rattle.values.specs.Inputs.{FloorInput, RootInput}
+use Rattle.values.specs.Room.{floorBound}
 use Rattle.values.specs.Floor.{scaled, floorValue}
-use Rattle.values.proofs.FloorLaws.{scaled-high, floor-high}
+use Rattle.values.proofs.FloorLaws.{scaled-high}
+use Rattle.values.proofs.Bounds.{floor-small}
 use Rattle.values.proofs.floor.floor_value.Statement.{statement}
 use Rattle.values.proofs.floor.floor_value.Tie as tie
 
@@ -23,13 +23,13 @@ module _ (row : Row) (w P X : ℕ) (input : FloorInput row w P X) where
   root-input : RootInput (row .k) P (scaled row w P X)
   root-input = record {
     k-pos = input .lawful .k-pos;
-    k-small = input .lawful .k-small;
-    p-small = input .P-small;
+    k-small = input .room .degree;
+    p-small = input .room .s-small;
     limit-small = scaled-high row (input .lawful) w P X (input .range);
   }
 
-  few : {r : ℕ} → r ≡ floorValue row w P X → r < 2 ^ 21
-  few e = rw e (lt-of-lt-of-le (floor-high row (input .lawful) w P X (input .range)) (pow-mono {j = 21} (omega (arith, input .P-small))))
+  few : {r : ℕ} → r ≡ floorValue row w P X → r < floorBound
+  few e = rw e (floor-small row w P X input)
 
 scaled-requires : tie.Need-scaled-requires
 scaled-requires c κs = search needs

@@ -1,34 +1,50 @@
--- `values::floor::scaled` meets its contract: the value's side over den, which is not 0, and 2^w where the function rises.
+-- `values::floor::scaled` meets its contract: the value's part over the divisor's, which is not 0, and a power of two where the function rises.
 use borrow.Author.Needs.{needs}
-use Rattle.values.specs.Exact as Exact
-use Rattle.values.specs.Floor as Floor
-use Rattle.values.proofs.ExactLaws.{den-pos}
-use Rattle.values.proofs.Bounds.{exact-input}
+use Rattle.values.specs.Parts.{divisorPart}
+use Rattle.values.proofs.PartLaws.{scaled-parts, divisor-part-pos}
 use Rattle.values.proofs.floor.scaled.Statement.{statement}
 use Rattle.values.proofs.floor.scaled.Tie as tie
 
-value-side-requires : tie.Need-value-side-requires
-value-side-requires c κs = search needs
+value-part-requires : tie.Need-value-part-requires
+value-part-requires c κs = search needs
+
+mul-excess : tie.Need-mul-excess
+mul-excess c = search needs
+
+excess-requires : tie.Need-excess-requires
+excess-requires c κs = search needs
+
+cast-result : tie.Need-cast-result
+cast-result c = search needs
 
 shr-result : tie.Need-shr-result
 shr-result c = search needs
 
-den-requires : tie.Need-den-requires
-den-requires c κs = exact-input _ _ _ _ (c .before .before .pre)
+divisor-part-requires : tie.Need-divisor-part-requires
+divisor-part-requires c κs = search needs
 
 div-result : tie.Need-div-result
 div-result c =
     let p = c .before .before .before .pre in
-    rw (c .den .ensures) (den-pos _ (p .lawful) _ _ (p .range))
+    rw (c .divisor-part .ensures) (divisor-part-pos _ _ _ _ (p .lawful) (p .range))
 
 returns : tie.Need-returns
-unfolding Floor.scaled Exact.den
-returns c = simp (c .before .value-side .ensures, c .if1 .taken)
+unfolding divisorPart
+returns c = simp (scaled-parts, c .before .before .before .value-part .ensures, c .excess .ensures, c .before .before .if1 .taken)
 
 returns-2 : tie.Need-returns-2
-unfolding Floor.scaled
-returns-2 c = simp (c .before .before .value-side .ensures, c .den .ensures)
+returns-2 c = simp (scaled-parts, c .before .before .value-part .ensures, c .divisor-part .ensures)
 
 pub scaled-spec : {M : Type 1} → statement M
 scaled-spec =
-    tie.close (tie.spec value-side-requires shr-result den-requires div-result returns returns-2)
+    tie.close
+    (tie.spec
+    value-part-requires
+    mul-excess
+    excess-requires
+    cast-result
+    shr-result
+    divisor-part-requires
+    div-result
+    returns
+    returns-2)

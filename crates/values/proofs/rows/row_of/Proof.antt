@@ -1,7 +1,7 @@
 -- `values::rows::row_of` meets its contract: the constant table is the list of the definition.
 use mathlib.Core.Path.{refl}
 use borrow.Author.Needs.{needs}
-use Rattle.values.specs.Rows.{rowOf}
+use Rattle.values.specs.Rows.{rows, kinds, rowOf}
 use Rattle.values.proofs.rows.row_of.Statement.{statement}
 use Rattle.values.proofs.rows.row_of.Tie as tie
 
@@ -9,6 +9,7 @@ mul-result : tie.Need-mul-result
 mul-result c = search needs
 
 array-copy-out-result : tie.Need-array-copy-out-result
+unfolding rows kinds
 array-copy-out-result c = search needs
 
 returns : tie.Need-returns

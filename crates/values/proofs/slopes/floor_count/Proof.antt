@@ -1,4 +1,4 @@
--- `values::slopes::floor_count` meets its contract: the floor value is not negative, and below 2^21.
+-- `values::slopes::floor_count` meets its contract: the floor value is not negative, and small.
 use mathlib.Core.Path.{ap, _∙_}
 use borrow.Author.Needs.{needs}
 use lib.IntN.{natAbs}

@@ -1,4 +1,4 @@
--- `values::slopes::hi` meets its contract: a floor value has at most 21 binary digits, so nothing wraps.
+-- `values::slopes::hi` meets its contract: a floor value is small, so nothing wraps.
 use native.Mathlib.Omega.{arith}
 use borrow.Author.Needs.{needs}
 use Rattle.values.specs.Slopes as Slopes

@@ -7,6 +7,7 @@ use native.Mathlib.Omega.{arith}
 use lib.Pow.{pow-mono}
 use Rattle.values.specs.Slopes.{spread, largestSpread}
 use Rattle.general.specs.Below.{largest}
+use Rattle.values.specs.Room.{widestWord, wordBound}
 use Rattle.values.proofs.slopes.largest_spread.Statement.{statement}
 use Rattle.values.proofs.slopes.largest_spread.Tie as tie
 
@@ -28,8 +29,8 @@ spread-requires : tie.Need-spread-requires Inv-loop μ-loop
 spread-requires c κs = (c .before .before .before .pre, omega arith)
 
 -- the number of segments fits, with room for the last step
-room : (c : tie.Joined1 Inv-loop μ-loop) → 2 ^ c .before .before .before .before .before .args .a ≤ 2 ^ 16
-room c = pow-mono {j = 16} (omega (arith, c .before .before .before .before .before .pre))
+room : (c : tie.Joined1 Inv-loop μ-loop) → 2 ^ c .before .before .before .before .before .args .a ≤ wordBound
+room c = pow-mono {j = widestWord} (omega (arith, c .before .before .before .before .before .pre))
 
 add-segment : tie.Need-add-segment Inv-loop μ-loop
 add-segment c = omega (arith, room c)

@@ -1,0 +1,138 @@
+-- `values::newton::floor_root` meets its contract, for every degree. The invariant: the root, rounded down, is not above what the steps have
+-- come to.
+use mathlib.Core.Path.{_≡_}
+use Prim.Native.Nat.{ℕ, zero, suc, _+_, _^_, _<_}
+use native.Mathlib.Nat.{pow-suc, mul-zero, mul-le-mul, div-le-self, lt-of-le-of-lt}
+use native.Mathlib.Omega.{arith}
+use borrow.Author.Tests.{ltb-true, ltb-false}
+use lib.Pow.{pow-mono, pow-pos}
+use Rattle.values.specs.Room.{highestDegree, finestUnit}
+use Rattle.values.specs.Inputs.{RootInput, StepInput}
+use Rattle.values.specs.Newton.{newtonSum, newtonStep}
+use Rattle.refusal.proofs.Checks.{tested}
+use Rattle.values.proofs.ExactLaws.{degree}
+use Rattle.values.proofs.FloorLaws.{root-found}
+use Rattle.values.proofs.NewtonLaws.{step-above, sum-below, step-closer, first-sum}
+use Rattle.values.proofs.newton.floor_root.Statement.{statement}
+use Rattle.values.proofs.newton.floor_root.Tie as tie
+
+record Inv (k limit root : ℕ) : Type 0 where
+  high : limit < (root + 1) ^ k
+  small : root < 2 ^ 32
+
+abbrev Inv-loop : tie.InvT-loop
+Inv-loop k p limit root₀ root = Inv k limit root
+
+abbrev μ-loop : tie.MeasureT-loop
+μ-loop k p limit root₀ root = root
+
+module _ (k p limit : ℕ) (input : RootInput k p limit) where
+  -- The first step, from 2^p
+  sum-small : newtonSum k limit (2 ^ p) < 2 ^ 32
+  sum-small =
+      lt-of-le-of-lt (first-sum k p limit (input .k-pos) (input .limit-small))
+      (omega (
+        arith,
+        mul-le-mul (pow-mono {j = finestUnit} (input .p-small)) (input .k-small),
+        mul-le-mul (pow-mono {j = finestUnit} (input .p-small)) (pow-mono {j = highestDegree} (input .k-small)),
+      ))
+
+  first-input : StepInput k limit (2 ^ p)
+  first-input =
+      record {
+        k-pos = input .k-pos;
+        k-small = input .k-small;
+        r-pos = pow-pos p;
+        r-small = omega (arith, pow-mono {j = finestUnit} (input .p-small));
+        sum-small = omega (arith, sum-small);
+      }
+
+  begun : (first : ℕ) → first ≡ newtonStep k limit (2 ^ p) → Inv k limit first
+  unfolding newtonStep
+  begun first e =
+      rw e
+      record {
+        high = step-above k limit (2 ^ p) (input .k-pos) (pow-pos p);
+        small = lt-of-le-of-lt (div-le-self (newtonSum k limit (2 ^ p)) k) sum-small;
+      }
+
+  -- A step from above the root
+  module _ (root : ℕ) (inv : Inv k limit root) (above : limit < root ^ k) where
+    root-pos : 0 < root
+    root-pos = go root above
+      where
+        go : (r : ℕ) → limit < r ^ k → 0 < r
+        go zero h = let d = degree k (input .k-pos) in absurd (omega (arith, rw (d .1, pow-suc, mul-zero) at h))
+        go (suc r) h = omega arith
+
+    next-input : StepInput k limit root
+    next-input =
+        record {
+          k-pos = input .k-pos;
+          k-small = input .k-small;
+          r-pos = root-pos;
+          r-small = inv .small;
+          sum-small = omega (
+            arith,
+            sum-below k limit root (input .k-pos) root-pos above,
+            mul-le-mul (input .k-small) (inv .small),
+          );
+        }
+
+    closer : newtonStep k limit root < root
+    closer = step-closer k limit root (input .k-pos) root-pos above
+
+    again : (next : ℕ) → next ≡ newtonStep k limit root → Inv k limit next
+    again next e = rw e record { high = step-above k limit root (input .k-pos) root-pos; small = omega (arith, closer, inv .small) }
+
+pow2-requires : tie.Need-pow2-requires Inv-loop μ-loop
+pow2-requires c κs = omega arith
+
+step-requires : tie.Need-step-requires Inv-loop μ-loop
+step-requires c κs = rw (c .pow2 .ensures) (first-input _ _ _ (c .before .pre))
+
+loop-holds : tie.Need-loop-holds Inv-loop μ-loop
+loop-holds c = begun _ _ _ (c .before .before .pre) _ (rw (c .before .pow2 .ensures) at (c .step .ensures))
+
+is-above-requires : tie.Need-is-above-requires Inv-loop μ-loop
+is-above-requires c κs = let p = c .before .before .before .pre in ((p .k-pos, p .k-small), c .loop .inv .small)
+
+-- the root is passed
+above : (c : tie.Then1 Inv-loop μ-loop) → let a = c .before .before .before .before .before .args in
+    a .limit < c .before .before .loop .root ^ a .k
+above c = ltb-true _ _ (tested (c .before .is-above .ensures) (c .if1 .taken))
+
+step-requires-2 : tie.Need-step-requires-2 Inv-loop μ-loop
+step-requires-2 c κs = let l = c .before .before in next-input _ _ _ (l .before .before .before .pre) _ (l .loop .inv) (above c)
+
+loop-less : tie.Need-loop-less Inv-loop μ-loop
+loop-less c =
+    let l = c .before .before .before in
+    rw (c .step2 .ensures) (closer _ _ _ (l .before .before .before .pre) _ (l .loop .inv) (above (c .before)))
+
+loop-again : tie.Need-loop-again Inv-loop μ-loop
+loop-again c =
+    let l = c .before .before .before in
+    again _ _ _ (l .before .before .before .pre) _ (l .loop .inv) (above (c .before)) _ (c .step2 .ensures)
+
+returns : tie.Need-returns Inv-loop μ-loop
+returns c =
+    let l = c .before .before in
+    let pre = l .before .before .before .pre in
+    root-found _ _ (pre .k-pos) _ (pre .limit-small)
+    record { low = ltb-false _ _ (tested (c .before .is-above .ensures) (c .if1 .left)); high = l .loop .inv .high }
+
+pub floor-root-spec : {M : Type 1} → statement M
+floor-root-spec =
+    tie.close
+    (tie.spec
+    Inv-loop
+    μ-loop
+    pow2-requires
+    step-requires
+    loop-holds
+    is-above-requires
+    step-requires-2
+    loop-less
+    loop-again
+    returns)

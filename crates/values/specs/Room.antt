@@ -1,0 +1,49 @@
+-- What the machine's 64 bits can hold, apart from the mathematics: how wide input words may be, and how fine units, for a row.
+use mathlib.Core.Bool.{false}
+use mathlib.Core.Path.{_≡_}
+use Prim.Native.Nat.{ℕ, _+_, _*_, _/_, _^_, _≤_}
+use Rattle.values.specs.declared.rows.Row.{Row}
+
+-- The highest degree whose power and whose Newton step the code has
+abbrev pub highestDegree : ℕ
+highestDegree = 2
+
+abbrev pub widestWord : ℕ
+widestWord = 20
+
+abbrev pub finestUnit : ℕ
+finestUnit = 21
+
+-- Input words of w bits and s fraction bits. A k-th power of a value has fewer than k·(s+1) bits; where the function falls, it is
+-- multiplied by the argument, or the power of 2^w by it, which adds w bits.
+pub record Room (row : Row) (w s : ℕ) : Type 0 where
+  pub degree : row .k ≤ highestDegree
+  pub w-small : w ≤ widestWord
+  pub s-small : s ≤ finestUnit
+  pub power : row .k * (s + 1) ≤ 63
+  pub falls : row .rising ≡ false → row .k * (s + 1) + w ≤ 64
+
+-- What follows in numbers, for everything that counts in table units: 2^w is at most `wordBound`,
+abbrev pub wordBound : ℕ
+wordBound = 2 ^ widestWord
+
+-- X is below `inputBound`, and L below `floorBound`;
+abbrev pub inputBound : ℕ
+inputBound = wordBound * 2
+
+abbrev pub floorBound : ℕ
+floorBound = 2 ^ (finestUnit + 1)
+
+-- Hi, Lo and Hi - Lo are at most `slopeBound`, and (Hi + Lo)·2^w is at most `productBound`;
+abbrev pub slopeBound : ℕ
+slopeBound = floorBound * 65536 * 2
+
+abbrev pub productBound : ℕ
+productBound = slopeBound * 2
+
+-- so T of an offset is at most `offsetBound`, and initial entries and sums in range are below `entryBound`.
+abbrev pub offsetBound : ℕ
+offsetBound = productBound / 2 ^ 18
+
+abbrev pub entryBound : ℕ
+entryBound = floorBound * 2

@@ -1,0 +1,64 @@
+// The two sides of the one inequality between a whole number and the exact value, without their common power of two. No division.
+ghost use mathlib.Core.Path.{_≡_};
+ghost use Prim.Native.Nat.{_+_, _-_, _^_, _≤_};
+ghost use Rattle.values.specs.Parts.{divisorPart, numberPart, valuePart};
+ghost use Rattle.values.specs.Inputs.{FloorInput};
+use crate::rows::Row;
+use general::pow2;
+
+// How far a exceeds b, 0 where it does not.
+pub(crate) fn excess(a: u32, b: u32) -> u32
+    ensures { λ r. ⌜ r ≡ a - b ⌝ }
+{
+    if b < a { a - b } else { 0 }
+}
+
+// What a number's power is multiplied by: what is left of 2^w where the function rises, and c·X where it falls.
+pub(crate) fn divisor_part(row: Row, w: u32, s: u32, x: u64) -> u64
+    requires { ⌜ FloorInput row w s x ⌝ }
+    ensures { λ r. ⌜ r ≡ divisorPart row w s x ⌝ }
+{
+    if row.rising {
+        pow2(excess(w, row.k * s))
+    } else {
+        row.c * x
+    }
+}
+
+// The value's part, for s fraction bits.
+pub(crate) fn value_part(row: Row, w: u32, s: u32, x: u64) -> u64
+    requires { ⌜ FloorInput row w s x ⌝ }
+    ensures { λ r. ⌜ r ≡ valuePart row w s x ⌝ }
+{
+    let bits = row.k * s;
+    if row.rising {
+        row.c * x * pow2(excess(bits, w))
+    } else {
+        pow2(bits + w)
+    }
+}
+
+// The parts of two numbers.
+pub(crate) struct Parts {
+    pub low: u64,
+    pub high: u64,
+}
+
+// The numbers' parts, n^k times the divisor, for numbers of s + 2 bits, with one look at the degree for both.
+pub(crate) fn number_parts(row: Row, w: u32, s: u32, x: u64, low: u64, high: u64) -> Parts
+    requires { ⌜ FloorInput row w (s + 2) x ⌝ }
+    requires { ⌜ (low ≤ 2 ^ (s + 2)) × (high ≤ 2 ^ (s + 2)) ⌝ }
+    ensures { λ r. ⌜ r ≡ record { low = numberPart row w s x low; high = numberPart row w s x high } ⌝ }
+{
+    let divisor = divisor_part(row, w, s, x);
+    if row.k == 1 {
+        return Parts {
+            low: low * divisor,
+            high: high * divisor,
+        };
+    }
+    Parts {
+        low: low * low * divisor,
+        high: high * high * divisor,
+    }
+}
