@@ -1,2 +1,3 @@
--- Laws of checks.
+-- Laws of checks, and of what a verdict leads to.
 pub mod Checks
+pub mod Answers
