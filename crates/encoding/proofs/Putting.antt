@@ -10,7 +10,7 @@ use lib.Seq.{length-take-le, take-suc}
 use Rattle.general.specs.Lists.{total, over}
 use Rattle.general.proofs.WritingLaws.{over-none, over-length, over-more, over-one}
 use Rattle.encoding.specs.Encode.{digitOf, hexOf, sumByte, withSum, lineOf}
-use Rattle.encoding.specs.Inputs.{LineInput}
+use Rattle.encoding.specs.Inputs.{PutInput}
 use Rattle.encoding.proofs.HexBack.{hex-length}
 use Rattle.general.proofs.ListLaws.{total-append}
 
@@ -42,7 +42,7 @@ byte-put line at byte first second room first-is second-is =
 
 -- A line while it is put together: the digits of the first i bytes stand at its start, in front of what it held, and they are summed.
 pub record Put (before line bytes : List ℕ) (count sum i : ℕ) : Type 0 where
-  pub input : LineInput count (length before)
+  pub input : PutInput count (length before)
   pub full : length bytes ≡ 16
   pub within : i ≤ count
   pub so-far : line ≡ over before 0 (hexOf (take i bytes))
@@ -50,7 +50,7 @@ pub record Put (before line bytes : List ℕ) (count sum i : ℕ) : Type 0 where
   pub small : sum ≤ 255 * i
 
 -- Nothing is put yet.
-pub put-none : {before bytes : List ℕ} {count : ℕ} → LineInput count (length before) → length bytes ≡ 16 → Put before before bytes count 0 0
+pub put-none : {before bytes : List ℕ} {count : ℕ} → PutInput count (length before) → length bytes ≡ 16 → Put before before bytes count 0 0
 unfolding hexOf total
 put-none {before} input full =
     record { input = input; full = full; within = omega arith; so-far = over-none before 0; summed = refl; small = omega arith }

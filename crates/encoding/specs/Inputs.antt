@@ -14,6 +14,6 @@ pub record Room (count width : ℕ) : Type 0 where
   pub room : count + width ≤ 16
 
 -- A frame of so many bytes, without its sum byte, and a line buffer that is long enough for it
-pub record LineInput (count buffer : ℕ) : Type 0 where
+pub record PutInput (count buffer : ℕ) : Type 0 where
   pub short : count ≤ 15
   pub long : 2 * (count + 1) ≤ buffer

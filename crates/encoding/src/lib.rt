@@ -8,7 +8,7 @@ ghost use Rattle.general.specs.Lists.{over};
 ghost use Rattle.encoding.specs.Bytes.{bigEndian};
 ghost use Rattle.encoding.specs.Encode.{digitOf, hexOf, lineOf};
 ghost use Rattle.encoding.specs.DesignBytes.{designBytes};
-ghost use Rattle.encoding.specs.Inputs.{held, Room, LineInput};
+ghost use Rattle.encoding.specs.Inputs.{held, Room, PutInput};
 
 pub mod numbers;
 
@@ -103,7 +103,7 @@ fn put_byte(byte: u8, at: usize, line: &mut [u8])
 // inner: puts the line of a frame, which is given without its sum byte, at the start of the line buffer. The sum of 15 bytes is far
 // below 2^32, so it is reduced only once, at the end.
 pub fn put_line(frame: Frame, line: &mut [u8])
-    requires { ⌜ LineInput (frame .count) (length (now line)) ⌝ }
+    requires { ⌜ PutInput (frame .count) (length (now line)) ⌝ }
     ensures { λ _. ⌜ now (line .exit) ≡ over (now (line .entry)) 0 (lineOf (held frame)) ⌝ }
 {
     let bytes = frame.bytes;

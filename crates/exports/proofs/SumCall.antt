@@ -8,7 +8,7 @@ use borrow.Author.Tests.{le-leb, lt-leb}
 use Rattle.refusal.specs.declared.Cause.{Cause}
 use Rattle.refusal.specs.declared.Verdict.{Verdict}
 use Rattle.refusal.specs.Checks.{verdict}
-use Rattle.refusal.specs.Told.{told, numberIn}
+use Rattle.refusal.specs.Told.{told, numberTold}
 use Rattle.refusal.proofs.Checks.{verdict-append}
 use Rattle.values.specs.Value.{wordCheck}
 use Rattle.design.specs.declared.Design.{Design}
@@ -33,8 +33,8 @@ module _ (d : Design) (initial : List ℕ) (offsets : List ℤ) (x : ℕ) where
 
   -- the number that is returned, and what stands behind the pointer, by the verdict
   pub by-verdict : (v : Verdict) → sumVerdict d initial offsets x ≡ v
-      → (n : ℕ) → n ≡ numberIn (told v (sumAt d initial offsets x)) → (before left : ℤ)
+      → (n : ℕ) → n ≡ numberTold (told v (sumAt d initial offsets x)) → (before left : ℤ)
       → left ≡ behind (told v (sumAt d initial offsets x)) before
-      → (n ≡ numberIn (sumTold d initial offsets x)) × (left ≡ behind (sumTold d initial offsets x) before)
+      → (n ≡ numberTold (sumTold d initial offsets x)) × (left ≡ behind (sumTold d initial offsets x) before)
   unfolding sumTold
   by-verdict v e n n-is before left left-is = (rw e n-is, rw e left-is)

@@ -7,7 +7,7 @@ ghost use Prim.Native.Nat.{_^_};
 ghost use lib.Dec.{leb};
 ghost use lib.ListN.{length};
 ghost use Rattle.refusal.specs.Numbers.{verdictNumber};
-ghost use Rattle.refusal.specs.Told.{numberIn};
+ghost use Rattle.refusal.specs.Told.{numberTold};
 ghost use Rattle.values.specs.Value.{valueTold};
 ghost use Rattle.design.specs.Answers.{toldBy, budgetTold, sizeTold};
 ghost use Rattle.filling.specs.Fill.{fillVerdict, initialAfter, offsetsAfter};
@@ -44,7 +44,7 @@ use values::value;
 // The value, in table units.
 #[no_mangle]
 pub extern "C" fn dorykleth_value(kind: u32, w: u32, q: u32, g: u32, x: u32, units: &mut i64) -> u8
-    ensures number { λ r. ⌜ r ≡ numberIn (valueTold kind w q g x) ⌝ }
+    ensures number { λ r. ⌜ r ≡ numberTold (valueTold kind w q g x) ⌝ }
     ensures units { λ _. ⌜ now (units .exit) ≡ behind (valueTold kind w q g x) (now (units .entry)) ⌝ }
 {
     match value(kind, w, q, g, x) {
@@ -59,7 +59,7 @@ pub extern "C" fn dorykleth_value(kind: u32, w: u32, q: u32, g: u32, x: u32, uni
 
 // A budget or a size behind a pointer.
 fn put_measure(measured: Measured, place: &mut u64) -> u8
-    ensures { λ r. ⌜ r ≡ numberIn (toldBy measured) ⌝ }
+    ensures { λ r. ⌜ r ≡ numberTold (toldBy measured) ⌝ }
     ensures { λ _. ⌜ now (place .exit) ≡ behind (toldBy measured) (now (place .entry)) ⌝ }
 {
     match measured {
@@ -73,7 +73,7 @@ fn put_measure(measured: Measured, place: &mut u64) -> u8
 
 #[no_mangle]
 pub extern "C" fn dorykleth_budget(design: &[u32; 14], budget: &mut u64) -> u8
-    ensures number { λ r. ⌜ r ≡ numberIn (budgetTold (designOf (now (design .entry)))) ⌝ }
+    ensures number { λ r. ⌜ r ≡ numberTold (budgetTold (designOf (now (design .entry)))) ⌝ }
     ensures budget { λ _. ⌜ now (budget .exit) ≡ behind (budgetTold (designOf (now (design .entry)))) (now (budget .entry)) ⌝ }
 {
     put_measure(design::budget(design_of(design)), budget)
@@ -81,7 +81,7 @@ pub extern "C" fn dorykleth_budget(design: &[u32; 14], budget: &mut u64) -> u8
 
 #[no_mangle]
 pub extern "C" fn dorykleth_size(design: &[u32; 14], bits: &mut u64) -> u8
-    ensures number { λ r. ⌜ r ≡ numberIn (sizeTold (designOf (now (design .entry)))) ⌝ }
+    ensures number { λ r. ⌜ r ≡ numberTold (sizeTold (designOf (now (design .entry)))) ⌝ }
     ensures bits { λ _. ⌜ now (bits .exit) ≡ behind (sizeTold (designOf (now (design .entry)))) (now (bits .entry)) ⌝ }
 {
     put_measure(design::size(design_of(design)), bits)
@@ -121,7 +121,7 @@ pub extern "C" fn dorykleth_sum(
     sum: &mut i64,
 ) -> u8
     ensures number { λ r.
-        ⌜ r ≡ numberIn (sumTold (designOf (now (design .entry))) (now (initial .entry)) (now (offsets .entry)) x) ⌝ }
+        ⌜ r ≡ numberTold (sumTold (designOf (now (design .entry))) (now (initial .entry)) (now (offsets .entry)) x) ⌝ }
     ensures sum { λ _.
         ⌜ now (sum .exit) ≡ behind (sumTold (designOf (now (design .entry))) (now (initial .entry)) (now (offsets .entry)) x)
         (now (sum .entry)) ⌝ }
@@ -148,7 +148,7 @@ pub extern "C" fn dorykleth_evaluate(
     word: &mut u32,
 ) -> u8
     ensures number { λ r.
-        ⌜ r ≡ numberIn (evaluateTold (designOf (now (design .entry))) (now (initial .entry)) (now (offsets .entry)) x) ⌝ }
+        ⌜ r ≡ numberTold (evaluateTold (designOf (now (design .entry))) (now (initial .entry)) (now (offsets .entry)) x) ⌝ }
     ensures word { λ _.
         ⌜ now (word .exit)
         ≡ behind (evaluateTold (designOf (now (design .entry))) (now (initial .entry)) (now (offsets .entry)) x)
@@ -174,7 +174,7 @@ pub extern "C" fn dorykleth_evaluate_batch(
     place: &mut usize,
 ) -> u8
     ensures number { λ r.
-        ⌜ r ≡ numberIn
+        ⌜ r ≡ numberTold
         (batchTold (designOf (now (design .entry))) (now (initial .entry)) (now (offsets .entry)) (now (words .entry))
         (length (now (output .entry)))) ⌝ }
     ensures contents { λ _.
@@ -207,7 +207,7 @@ pub extern "C" fn dorykleth_check(
     first: &mut u64,
 ) -> u8
     ensures number { λ r.
-        ⌜ r ≡ numberIn (checkTold (designOf (now (design .entry))) (now (initial .entry)) (now (offsets .entry))) ⌝ }
+        ⌜ r ≡ numberTold (checkTold (designOf (now (design .entry))) (now (initial .entry)) (now (offsets .entry))) ⌝ }
     ensures first { λ _.
         ⌜ now (first .exit) ≡ firstAfter (designOf (now (design .entry)) .w)
         (checkTold (designOf (now (design .entry))) (now (initial .entry)) (now (offsets .entry)))

@@ -2,7 +2,7 @@
 ghost use mathlib.Core.Path.{_≡_};
 ghost use lib.ListN.{length};
 ghost use Rattle.refusal.specs.Numbers.{verdictNumber};
-ghost use Rattle.refusal.specs.Told.{numberIn};
+ghost use Rattle.refusal.specs.Told.{numberTold};
 ghost use Rattle.writing.specs.Write.{bufferAfter, writeTold};
 ghost use Rattle.reading.specs.ReadLine.{after, verdictOn, finished};
 ghost use Rattle.report_text.specs.Report.{reportOf};
@@ -27,7 +27,7 @@ pub extern "C" fn dorykleth_write_line(
     digits: &mut usize,
 ) -> u8
     ensures number { λ r.
-        ⌜ r ≡ numberIn
+        ⌜ r ≡ numberTold
         (writeTold (designOf (now (design .entry))) (now (initial .entry)) (now (offsets .entry)) «line_number»
         (length (now (line .entry)))) ⌝ }
     ensures line_buffer { λ _.

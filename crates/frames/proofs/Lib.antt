@@ -1,5 +1,5 @@
 -- Laws of lines and frames, one file a subject.
 pub mod HexLaws
-pub mod Reading
+pub mod Decoding
 pub mod LineLaws
 pub mod FrameLaws

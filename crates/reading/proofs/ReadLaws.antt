@@ -1,5 +1,5 @@
 -- What is tried on a first line and on a later one, and what a line that passes tells.
-use mathlib.Core.Path.{_≡_, refl, sym, ap, _∙_}
+use mathlib.Core.Path.{_≡_, sym, ap, _∙_}
 use mathlib.Core.Bool.{Bool, true, false, _||_, _&&_, true≢false}
 use mathlib.Core.List.{List, [], _∷_}
 use Prim.Native.Nat.{ℕ, _<_}
@@ -11,6 +11,7 @@ use Rattle.refusal.specs.declared.Cause.{Cause}
 use Rattle.refusal.specs.declared.Verdict.{Verdict}
 use Rattle.refusal.specs.Checks.{Check, _↝_, verdict, passes}
 use Rattle.refusal.proofs.Checks.{neither, none-fails, passed-append, both}
+use Rattle.refusal.proofs.Answers.{only-passed}
 use Rattle.design.specs.Legal.{designVerdict}
 use Rattle.tables.specs.Inputs.{Usable}
 use Rattle.tables.specs.Set.{tablesCheck, setChecks}
@@ -22,7 +23,7 @@ use Rattle.lines.specs.Slots.{lineCount, slotOf}
 use Rattle.lines.specs.Lines.{frameHead, entryWidth}
 use Rattle.reading.specs.declared.Reading.{Reading}
 use Rattle.reading.specs.Inputs.{Begun}
-use Rattle.reading.specs.ReadLine.{possible, finished, stateCheck, designOf, headFails, dueFails, dueChecks, readVerdict}
+use Rattle.reading.specs.ReadLine.{possible, finished, stateCheck, designAfter, headFails, dueFails, dueChecks, readVerdict}
 
 -- A later frame is not the one due, by its bytes and their number.
 abbrev pub notDue : Reading → List ℕ → ℕ → Bool
@@ -32,12 +33,12 @@ notDue state bytes count =
 
 module _ (state : Reading) where
   -- the design that counts
-  pub first-design : (bytes : List ℕ) → state .taken ≡ 0 → designOf state bytes ≡ frameDesign bytes
-  unfolding designOf
+  pub first-design : (bytes : List ℕ) → state .taken ≡ 0 → designAfter state bytes ≡ frameDesign bytes
+  unfolding designAfter
   first-design bytes e = rw e
 
-  pub later-design : (bytes : List ℕ) → 0 < state .taken → designOf state bytes ≡ state .design
-  unfolding designOf
+  pub later-design : (bytes : List ℕ) → 0 < state .taken → designAfter state bytes ≡ state .design
+  unfolding designAfter
   later-design bytes h = rw (ne-eqb (state .taken) 0 (λ z. omega arith))
 
   -- the checks on a sound line
@@ -67,8 +68,7 @@ module _ (state : Reading) where
   later-possible h = rw (ne-eqb (state .taken) 0 (λ z. omega arith))
 
 passes-passed : (v : Verdict) → passes v ≡ true → v ≡ Verdict.Passed
-passes-passed Verdict.Passed e = refl
-passes-passed (Verdict.Refused cause) e = absurd (true≢false (sym e))
+passes-passed v e = only-passed (λ (answer : Bool). answer ≡ true) v true (λ cause. false) (λ cause f. true≢false (sym f)) e
 
 -- A possible state in which a line is taken
 module _ (state : Reading) where

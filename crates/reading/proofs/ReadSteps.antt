@@ -9,9 +9,10 @@ use lib.ListN.{length, take, replicate}
 use lib.Seq.{take-append-seam}
 use Rattle.refusal.specs.declared.Cause.{Cause}
 use Rattle.refusal.specs.declared.Verdict.{Verdict}
-use Rattle.refusal.specs.Checks.{verdict}
+use Rattle.refusal.specs.Checks.{verdict, ifPassed}
 use Rattle.refusal.specs.Numbers.{verdictNumber}
 use Rattle.refusal.proofs.Checks.{verdict-append, neither, none-fails}
+use Rattle.refusal.proofs.Answers.{if-passed-part}
 use Rattle.frames.specs.declared.Decoded.{Decoded}
 use Rattle.frames.specs.Hex.{bytesOf}
 use Rattle.frames.specs.Line.{lengthFails, lineFails, lineChecks, padded, decoded}
@@ -26,17 +27,18 @@ use Rattle.reading.specs.Inputs.{Sound}
 use Rattle.reading.specs.ReadLine.{
   possible,
   stateCheck,
-  designOf,
+  designAfter,
   dueChecks,
   dueVerdict,
   readVerdict,
-  stateIf,
+  nextState,
   answerIf,
   Session,
   readAnswer,
   initialStored,
   offsetsStored,
   session,
+  moved,
   movedIf,
   afterFrame,
   verdictOn,
@@ -87,9 +89,9 @@ LineOutcome state initial offsets line answer initial-after offsets-after =
     × ((initial-after ≡ next .initial) × (offsets-after ≡ next .offsets)))
 
 -- The state after a line is the one beside the verdict.
-moved-state : (v : Verdict) (s : Session) (bytes : List ℕ) → movedIf v s bytes .state ≡ stateIf v (s .state) bytes
-moved-state Verdict.Passed s bytes = refl
-moved-state (Verdict.Refused cause) s bytes = refl
+moved-state : (v : Verdict) (s : Session) (bytes : List ℕ)
+    → movedIf v s bytes .state ≡ ifPassed v (nextState (s .state) bytes) (λ cause. s .state)
+moved-state v s bytes = if-passed-part (λ (t : Session). t .state) v (moved s bytes) (λ cause. s)
 
 module _ (state : Reading) (initial : List ℕ) (offsets : List ℤ) (line : List ℕ) where
   line-refused : (cause : Cause) (answer : Read) → answer ≡ refusedAnswer state cause
@@ -135,21 +137,16 @@ module _ (state : Reading) (initial : List ℕ) (offsets : List ℤ) (line : Lis
 
 -- The first line stores nothing.
 module _ (state : Reading) (none : state .taken ≡ 0) (initial : List ℕ) (offsets : List ℤ) (frame : List ℕ) where
-  no-entry : slotOf (designOf state frame) (state .taken) ≡ Slot.Design
-  no-entry = ap (slotOf (designOf state frame)) none ∙ slot-first (designOf state frame)
+  no-entry : slotOf (designAfter state frame) (state .taken) ≡ Slot.Design
+  no-entry = ap (slotOf (designAfter state frame)) none ∙ slot-first (designAfter state frame)
 
-  initial-kept : (v : Verdict) → initial ≡ movedIf v (session state initial offsets) frame .initial
-  unfolding initialStored
-  initial-kept Verdict.Passed = rw no-entry
-  initial-kept (Verdict.Refused cause) = refl
-
-  offsets-kept : (v : Verdict) → offsets ≡ movedIf v (session state initial offsets) frame .offsets
-  unfolding offsetsStored
-  offsets-kept Verdict.Passed = rw no-entry
-  offsets-kept (Verdict.Refused cause) = refl
+  tables-kept : (v : Verdict) → let next = movedIf v (session state initial offsets) frame in
+      (initial ≡ next .initial) × (offsets ≡ next .offsets)
+  unfolding initialStored offsetsStored
+  tables-kept Verdict.Passed = rw no-entry (refl, refl)
+  tables-kept (Verdict.Refused cause) = (refl, refl)
 
   pub first-outcome : (answer : Read) → answer ≡ answerIf (dueVerdict state (length initial) (length offsets) frame) state frame
       → Outcome state initial offsets frame answer initial offsets
   unfolding afterFrame
-  first-outcome answer is =
-      let v = dueVerdict state (length initial) (length offsets) frame in (is, (initial-kept v, offsets-kept v))
+  first-outcome answer is = (is, tables-kept (dueVerdict state (length initial) (length offsets) frame))

@@ -7,7 +7,7 @@ use lib.ListN.{length, take, drop, set}
 use lib.IntN.{ℤ}
 use Rattle.refusal.specs.declared.Cause.{Cause}
 use Rattle.refusal.specs.declared.Verdict.{Verdict}
-use Rattle.refusal.specs.Checks.{Check, _↝_, verdict, passes}
+use Rattle.refusal.specs.Checks.{Check, _↝_, verdict, ifPassed, passes}
 use Rattle.design.specs.declared.Design.{Design}
 use Rattle.design.specs.Legal.{designChecks, designVerdict}
 use Rattle.tables.specs.Set.{tablesCheck}
@@ -34,8 +34,8 @@ unfoldable pub finished : Reading → Bool
 finished state = possible state && eqb (state .taken) (lineCount (state .design))
 
 -- "with 0 taken the design is not read": the design is then that of the line, which is given as its bytes.
-unfoldable pub designOf : Reading → List ℕ → Design
-designOf state bytes = cond (eqb (state .taken) 0) (frameDesign bytes) (state .design)
+unfoldable pub designAfter : Reading → List ℕ → Design
+designAfter state bytes = cond (eqb (state .taken) 0) (frameDesign bytes) (state .design)
 
 -- Whether the bytes begin with these
 unfoldable pub begins : List ℕ → List ℕ → Bool
@@ -59,7 +59,7 @@ dueFails state bytes =
 -- "16, on an 01 line 1 to 9, then 10", of a sound line's bytes, for tables of these lengths
 unfoldable pub dueChecks : Reading → ℕ → ℕ → List ℕ → List Check
 dueChecks state initial offsets bytes =
-    let d = designOf state bytes in
+    let d = designAfter state bytes in
     dueFails state bytes ↝ Cause.Frame
     ∷ cond (eqb (state .taken) 0) (designChecks d) [] ++ tablesCheck d initial offsets ∷ []
 
@@ -72,14 +72,13 @@ readVerdict state initial offsets line =
     verdict (stateCheck state ∷ lineChecks line ++ dueChecks state initial offsets (bytesOf line))
 
 -- "Each accepted line moves the reading state on by one". Pairs beyond m are those of the design: zeros from an 01 line, as they came
--- later. A refusal "gives back the state that came in".
-abbrev pub stateIf : Verdict → Reading → List ℕ → Reading
-stateIf Verdict.Passed state bytes = record { design = designOf state bytes; taken = state .taken + 1 }
-stateIf (Verdict.Refused cause) state bytes = state
+-- later.
+abbrev pub nextState : Reading → List ℕ → Reading
+nextState state bytes = record { design = designAfter state bytes; taken = state .taken + 1 }
 
--- The verdict on a sound line, which is given as its bytes, and the state beside it
+-- The verdict on a sound line, which is given as its bytes, and the state beside it; a refusal "gives back the state that came in".
 abbrev pub answerIf : Verdict → Reading → List ℕ → Read
-answerIf v state bytes = record { verdict = v; state = stateIf v state bytes }
+answerIf v state bytes = record { verdict = v; state = ifPassed v (nextState state bytes) (λ cause. state) }
 
 -- The number in the entry's bytes
 unfoldable pub entryIn : Design → Slot → List ℕ → ℕ
@@ -107,18 +106,20 @@ pub record Session : Type 0 where
 abbrev pub session : Reading → List ℕ → List ℤ → Session
 session state initial offsets = record { state = state; initial = initial; offsets = offsets }
 
--- "Each accepted line moves the reading state on by one and stores at most one entry"; a refusal "leaves every buffer untouched and
--- gives back the state that came in".
-abbrev pub movedIf : Verdict → Session → List ℕ → Session
-movedIf Verdict.Passed s bytes =
-    let d = designOf (s .state) bytes in
+-- "Each accepted line moves the reading state on by one and stores at most one entry"
+abbrev pub moved : Session → List ℕ → Session
+moved s bytes =
+    let d = designAfter (s .state) bytes in
     let slot = slotOf d (s .state .taken) in
     record {
-      state = stateIf Verdict.Passed (s .state) bytes;
+      state = nextState (s .state) bytes;
       initial = initialStored slot (entryIn d slot bytes) (s .initial);
       offsets = offsetsStored slot (entryIn d slot bytes) (s .offsets);
     }
-movedIf (Verdict.Refused cause) s bytes = s
+
+-- a refusal "leaves every buffer untouched and gives back the state that came in"
+abbrev pub movedIf : Verdict → Session → List ℕ → Session
+movedIf v s bytes = ifPassed v (moved s bytes) (λ cause. s)
 
 -- The reading after a sound line, which is given as its bytes
 unfoldable pub afterFrame : Session → List ℕ → Session

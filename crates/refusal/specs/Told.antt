@@ -20,6 +20,6 @@ abbrev pub told : {Values : Type 0} → Verdict → Values → Told Values
 told verdict values = toldAt verdict 0 values
 
 -- The number that is told; 0 where nothing is turned down
-abbrev pub numberIn : {Values : Type 0} → Told Values → ℕ
-numberIn (accepted values) = 0
-numberIn (refused number place) = number
+abbrev pub numberTold : {Values : Type 0} → Told Values → ℕ
+numberTold (accepted values) = 0
+numberTold (refused number place) = number

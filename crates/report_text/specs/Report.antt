@@ -6,7 +6,7 @@ use lib.ListN.{length}
 use Rattle.refusal.specs.declared.Cause.{Cause}
 use Rattle.refusal.specs.declared.Verdict.{Verdict}
 use Rattle.refusal.specs.Numbers.{numberOf}
-use Rattle.refusal.specs.Checks.{verdict}
+use Rattle.refusal.specs.Checks.{verdict, ifPassed}
 use Rattle.design.specs.declared.Design.{Design}
 use Rattle.design.specs.Legal.{designChecks}
 use Rattle.design.specs.Budget.{budget, limit, withinLimit, size}
@@ -30,14 +30,10 @@ designText d = lineText (budget d) (limit d) (size d) (withinLimit d)
 unfoldable pub refusedText : Cause → List ℕ
 refusedText cause = ascii "REFUSED " ++ decimal (numberOf cause) ++ ascii "\n"
 
-abbrev pub verdictText : Verdict → Design → List ℕ
-verdictText Verdict.Passed d = designText d
-verdictText (Verdict.Refused cause) d = refusedText cause
-
 -- "report 15, 16, 1 to 9"
 unfoldable pub reportVerdict : List ℕ → Verdict
 reportVerdict line =
     verdict (lineChecks line ++ frameChecks (bytesOf line) (length (bytesOf line)) ++ designChecks (frameDesign (bytesOf line)))
 
 unfoldable pub reportOf : List ℕ → Text
-reportOf line = textOf (verdictText (reportVerdict line) (frameDesign (bytesOf line)))
+reportOf line = textOf (ifPassed (reportVerdict line) (designText (frameDesign (bytesOf line))) refusedText)

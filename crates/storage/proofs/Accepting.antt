@@ -33,7 +33,7 @@ use Rattle.reading.specs.ReadLine.{
   Session,
   begins,
   headFails,
-  designOf,
+  designAfter,
   entryIn,
   initialStored,
   offsetsStored,
@@ -120,7 +120,7 @@ pub record Accepted (s : Session) (line : List ℕ) (design : Design) (number : 
 
 -- A line that passes, the frame it is the line of, and the design that counts after it
 module _ (s : Session) (line f : List ℕ) (d : Design) (small : Bytes f) (is-line : lineOf f ≡ line) (bytes : bytesOf line ≡ withSum f)
-    (passes : verdictOn s line ≡ Verdict.Passed) (counts : designOf (s .state) (withSum f) ≡ d)
+    (passes : verdictOn s line ≡ Verdict.Passed) (counts : designAfter (s .state) (withSum f) ≡ d)
     (tables : Usable d (length (s .initial)) (length (s .offsets))) (within : s .state .taken < lineCount d) where
   abbrev slot : Slot
   slot = slotOf d (s .state .taken)

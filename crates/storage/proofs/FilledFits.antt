@@ -20,6 +20,7 @@ use Rattle.entries.proofs.EntryBounds.{initial-small, magnitude-small, slopes-r
 use Rattle.filling.proofs.EntryLaws as EntryLaws
 use Rattle.encoding.specs.Bytes.{fits, fitsSigned}
 use Rattle.storage.specs.Sets.{TableSet, Storable}
+use Rattle.storage.proofs.Fitting.{lines-fit}
 
 -- T and -1 - T fit alike.
 either-fits : (n T : ℕ) → T < 2 ^ (8 * n - 1) → (same : Bool) → fitsSigned n (cond same (pos T) (negsuc T)) ≡ true
@@ -46,14 +47,16 @@ filled-storable t legal filled =
     let d = t .design in
     record {
       usable = record { legal = legal; initial-long = filled .initial-long; offsets-long = filled .offsets-long };
-      initial-fits = λ index h. rw (filled .initial-entry index h) (initial-fits d (limits d legal) index h);
-      offset-fits = λ place h.
+      fits =
+          lines-fit d (t .initial) (t .offsets)
+          (λ index h. rw (filled .initial-entry index h) (initial-fits d (limits d legal) index h))
+          (λ place h.
           let at = entry-at d (d .m) place h in
           rw (
             ← at .place,
             filled .offset-entry (at .i) (at .A) (at .index) (at .i-lt) (at .entry .A-lt) (at .entry .index-lt),
           )
-          (offset-fits d (limits d legal) (at .i) (at .A) (at .index) (at .i-lt) (at .entry .A-lt) (at .entry .index-lt));
+          (offset-fits d (limits d legal) (at .i) (at .A) (at .index) (at .i-lt) (at .entry .A-lt) (at .entry .index-lt)));
     }
 
 -- "an accepted fill leaves such tables"

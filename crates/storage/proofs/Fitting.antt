@@ -1,11 +1,13 @@
--- A set can be written exactly when each of its lines has an entry that fits.
-use mathlib.Core.Path.{_≡_, refl}
+-- The entry of each line fits where each initial entry and each offset does.
+use mathlib.Core.Path.{_≡_}
 use mathlib.Core.Bool.{true}
-use Prim.Native.Nat.{ℕ, _+_, _<_}
-use native.Mathlib.Omega.{arith}
-use lib.ListN.{length}
-use Rattle.design.specs.Stored.{initialCount}
-use Rattle.tables.specs.Inputs.{Usable}
+use Prim.Native.Nat.{ℕ, _<_}
+use lib.ListN.{getD}
+use Rattle.design.specs.Stored.{initialCount, offsetTotal}
+use mathlib.Core.List.{List}
+use lib.IntN.{ℤ, pos}
+use Rattle.design.specs.declared.Design.{Design}
+use Rattle.encoding.specs.Bytes.{fits, fitsSigned}
 use Rattle.lines.specs.Slots.{lineCount, offsetSlot, slotOf}
 use Rattle.lines.specs.Lines.{entryFits}
 use Rattle.lines.proofs.SlotLaws.{
@@ -19,31 +21,16 @@ use Rattle.lines.proofs.SlotLaws.{
   slot-offset,
   slot-last,
 }
-use Rattle.storage.specs.Sets.{TableSet, Storable}
 
-module _ (t : TableSet) where
-  abbrev pub AllFit : Type 0
-  AllFit = (n : ℕ) → n < lineCount (t .design) → entryFits (slotOf (t .design) n) (t .initial) (t .offsets) ≡ true
-
-  pub storable-fits : Storable t → AllFit
-  unfolding entryFits offsetSlot
-  storable-fits ok n h =
-      elim (line-is (t .design) n h) [
-        | first-line e ↦ rw (e, slot-first (t .design))
-        | initial-line index e k ↦ rw (slot-initial (t .design) n index e k) (ok .initial-fits index k)
-        | offset-line place e k ↦ rw (slot-offset (t .design) n place e k) (ok .offset-fits place k)
-        | last-line e ↦ rw (slot-last (t .design) n e)
-      ]
-
-  pub fits-storable : Usable (t .design) (length (t .initial)) (length (t .offsets)) → AllFit → Storable t
-  unfolding entryFits offsetSlot lineCount
-  fits-storable usable fit =
-      let d = t .design in
-      record {
-        usable = usable;
-        initial-fits = λ index h. rw (slot-initial d (index + 1) index refl h) at (fit (index + 1) (omega arith));
-        offset-fits =
-            λ place h.
-            let n = initialCount d + 1 + place in
-            rw (slot-offset d n place refl h) at (fit n (omega arith));
-      }
+pub lines-fit : (d : Design) (initial : List ℕ) (offsets : List ℤ)
+    → ((index : ℕ) → index < initialCount d → fits 3 (getD initial index 0) ≡ true)
+    → ((place : ℕ) → place < offsetTotal d → fitsSigned 3 (getD offsets place (pos 0)) ≡ true)
+    → (n : ℕ) → n < lineCount d → entryFits (slotOf d n) initial offsets ≡ true
+unfolding entryFits offsetSlot
+lines-fit d initial offsets initial-fits offset-fits n h =
+    elim (line-is d n h) [
+      | first-line e ↦ rw (e, slot-first d)
+      | initial-line index e k ↦ rw (slot-initial d n index e k) (initial-fits index k)
+      | offset-line place e k ↦ rw (slot-offset d n place e k) (offset-fits place k)
+      | last-line e ↦ rw (slot-last d n e)
+    ]

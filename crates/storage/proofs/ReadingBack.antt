@@ -32,7 +32,6 @@ use Rattle.storage.specs.Feeding.{Begins, Finished, feed, keptIf, accept
 use Rattle.storage.specs.Sets.{TableSet, Storable, linesIn}
 use Rattle.storage.specs.Storage.{ReadsBack}
 use Rattle.storage.proofs.SameDesigns.{initial-count-same, offset-total-same, line-count-same, slot-same, line-same}
-use Rattle.storage.proofs.Fitting.{storable-fits}
 use Rattle.storage.proofs.Taking.{given-usable, first-passes, first-taken, later-passes, later-taken}
 
 -- One line more
@@ -103,7 +102,7 @@ module _ (t : TableSet) (ok : Storable t) (s : Session) (begins : Begins s) (ini
 
   fits-given : (n : ℕ) → n < lineCount e → entryFits (slotOf e n) (t .initial) (t .offsets) ≡ true
   fits-given n h =
-      rw (slot-same e (t .design) same n) (storable-fits t ok n (rw (line-count-same e (t .design) same) at h))
+      rw (slot-same e (t .design) same n) (ok .fits n (rw (line-count-same e (t .design) same) at h))
 
   -- One later line
   module _ (n : ℕ) (initial : List ℕ) (offsets : List ℤ) (some : 0 < n) (within : n < lineCount e)
@@ -166,11 +165,12 @@ module _ (t : TableSet) (ok : Storable t) (s : Session) (begins : Begins s) (ini
   offset-more : (p : ℕ) → p < offsetTotal e → let slot = slotOf e (initialCount e + 1 + p) in
       offsetsStored slot (entryNumber slot (t .initial) (t .offsets)) (over (s .offsets) 0 (take p offset-entries))
       ≡ over (s .offsets) 0 (take (suc p) offset-entries)
-  unfolding offsetsStored entryNumber offsetSlot
+  unfolding offsetsStored entryNumber offsetSlot entryFits lineCount
   offset-more p h =
+      let slot = slot-offset e (initialCount e + 1 + p) p refl h in
       rw (
-        slot-offset e (initialCount e + 1 + p) p refl h,
-        complement-back 3 (getD (t .offsets) p (pos 0)) (omega arith) (ok .offset-fits p (rw (offset-total-same e (t .design) same) at h)),
+        slot,
+        complement-back 3 (getD (t .offsets) p (pos 0)) (omega arith) (rw slot at (fits-given (initialCount e + 1 + p) (omega arith))),
         ← getD-take (offsetTotal e) (t .offsets) p (pos 0) h,
       )
       (over-next (s .offsets) offset-entries p (pos 0) (rw offset-count h) offset-room ∙ rw add-one)

@@ -1,25 +1,20 @@
 -- Demand 2's last sentence and what the fill writes, put together.
-use mathlib.Core.Path.{_≡_, refl}
-use mathlib.Core.Bool.{true}
-use mathlib.Core.List.{List, _∷_}
+use mathlib.Core.Path.{_≡_}
+use mathlib.Core.List.{List}
 use Prim.Native.Nat.{ℕ, _≤_, _<_}
 use native.Mathlib.Omega.{arith}
 use lib.ListN.{length}
-use borrow.Author.Tests.{lt-leb, le-ltb, not-false}
+use borrow.Author.Tests.{lt-leb, le-ltb}
 use Rattle.refusal.specs.declared.Verdict.{Verdict}
-use Rattle.refusal.specs.Checks.{Check, verdict}
-use Rattle.refusal.proofs.Checks.{verdict-append, passed-append, none-fails}
-use Rattle.tables.specs.Inputs.{Usable}
-use Rattle.tables.specs.Set.{setChecks}
+use Rattle.refusal.proofs.Checks.{verdict-append}
 use Rattle.tables.proofs.SetLaws.{set-passed, usable}
-use Rattle.lines.specs.Slots.{lineCount, slotOf}
-use Rattle.lines.specs.Lines.{entryFits, lineAt}
-use Rattle.writing.specs.declared.Written.{Written}
-use Rattle.writing.specs.Write.{numberCheck, lineChecks, writeVerdict, written, writeAnswer, bufferAfter}
-use Rattle.storage.specs.Sets.{TableSet, Storable, lineIn}
+use Rattle.lines.specs.Slots.{lineCount}
+use Rattle.lines.specs.Lines.{lineAt}
+use Rattle.writing.specs.Write.{numberCheck, writeVerdict, writeAnswer, bufferAfter, askedChecks}
+use Rattle.storage.specs.Sets.{TableSet, Storable}
+use Rattle.writing.proofs.WriteLaws.{Given, line-given, given}
 use Rattle.storage.specs.Storage.{Gives, Storage}
 use Rattle.storage.proofs.InOrder.{in-order}
-use Rattle.storage.proofs.Fitting.{storable-fits, fits-storable}
 use Rattle.storage.proofs.ReadingBack.{read-back}
 use Rattle.storage.proofs.Uniqueness.{unique, refused-skipped}
 use Rattle.storage.proofs.FilledFits.{filled-storable, fill-storable}
@@ -28,42 +23,22 @@ use Rattle.storage.proofs.FilledFits.{filled-storable, fill-storable}
 module _ (t : TableSet) (n : ℕ) (buffer : List ℕ) (ok : Storable t) (within : n < lineCount (t .design))
     (room : length (lineAt (t .design) (t .initial) (t .offsets) n) ≤ length buffer) where
   passes : writeVerdict (t .design) (t .initial) (t .offsets) n (length buffer) ≡ Verdict.Passed
-  unfolding writeVerdict numberCheck lineChecks
+  unfolding writeVerdict numberCheck askedChecks
   passes =
-      rw (verdict-append, set-passed _ _ _ (ok .usable), lt-leb _ _ within, storable-fits t ok n within, le-ltb _ _ room)
+      rw (verdict-append, set-passed _ _ _ (ok .usable), lt-leb _ _ within, ok .fits n within, le-ltb _ _ room)
 
   gives : Gives t n buffer
   unfolding writeAnswer bufferAfter
   gives = record { answer = rw passes; line = rw passes }
 
--- What the writer's answer tells: a length means that every check passed.
-answered : (v : Verdict) (n length : ℕ) → written v n ≡ Written.Length length → v ≡ Verdict.Passed
-answered Verdict.Passed n length e = refl
-answered (Verdict.Refused cause) n length e = let z : _≡_ {A = ℕ} 0 1 = cc in absurd (omega arith)
-
-module _ (t : TableSet) (buffer : List ℕ) (n : ℕ) (given : Gives t n buffer) where
-  abbrev rest : List Check
-  rest =
-      numberCheck (t .design) n
-      ∷ lineChecks (entryFits (slotOf (t .design) n) (t .initial) (t .offsets)) (length (lineIn t n)) (length buffer)
-
-  passed : (verdict (setChecks (t .design) (length (t .initial)) (length (t .offsets))) ≡ Verdict.Passed) × (verdict rest ≡ Verdict.Passed)
-  unfolding writeAnswer writeVerdict
-  passed =
-      passed-append (setChecks (t .design) (length (t .initial)) (length (t .offsets))) rest (answered _ _ _ (given .answer))
-
-  given-usable : Usable (t .design) (length (t .initial)) (length (t .offsets))
-  given-usable = usable (t .design) (length (t .initial)) (length (t .offsets)) (passed .0)
-
-  given-fits : entryFits (slotOf (t .design) n) (t .initial) (t .offsets) ≡ true
-  unfolding lineChecks
-  given-fits = not-false _ (none-fails rest (passed .1) .1 .0)
-
 -- A set of which the writer gives every line can be written.
-all-given : (t : TableSet) (buffer : List ℕ) → ((n : ℕ) → n < lineCount (t .design) → Gives t n buffer) → Storable t
-unfolding lineCount
-all-given t buffer given =
-    fits-storable t (given-usable t buffer 0 (given 0 (omega arith))) (λ n h. given-fits t buffer n (given n h))
+module _ (t : TableSet) (buffer : List ℕ) where
+  told : (n : ℕ) → Gives t n buffer → Given (t .design) (t .initial) (t .offsets) n (length buffer)
+  told n g = given _ _ _ _ _ (line-given _ _ _ _ _ (g .answer))
+
+  all-given : ((n : ℕ) → n < lineCount (t .design) → Gives t n buffer) → Storable t
+  unfolding lineCount
+  all-given gives = record { usable = told 0 (gives 0 (omega arith)) .usable; fits = λ n h. told n (gives n h) .fits }
 
 -- Demand 2, its last sentence, and what the fill writes
 pub storage : Storage

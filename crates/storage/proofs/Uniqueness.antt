@@ -22,7 +22,6 @@ use Rattle.reading.specs.ReadLine.{Session, session, initialStored, offsetsStor
 use Rattle.reading.proofs.ReadLaws.{all-taken}
 use Rattle.storage.specs.Feeding.{Begins, Finished, feed, keptIf, accepted}
 use Rattle.storage.specs.Storage.{CameFrom, setIn}
-use Rattle.storage.proofs.Fitting.{fits-storable}
 use Rattle.storage.proofs.Accepting.{SomeAccepted, accepted-line}
 use Rattle.storage.proofs.Standing.{earlier-line, earlier-fits}
 
@@ -157,7 +156,7 @@ module _ (s : Session) (came : List (List ℕ)) (so-far : SoFar s came) (at-end 
   unfolding setLines lineCount
   came-from =
       record {
-        storable = fits-storable (setIn s) (so-far .tables (omega (arith, finished))) all-fit;
+        storable = record { usable = so-far .tables (omega (arith, finished)); fits = all-fit };
         lines = so-far .lines ∙ rw finished;
       }
 

@@ -17,7 +17,7 @@ use Rattle.reading.specs.declared.Reading.{Reading}
 use Rattle.reading.specs.ReadLine.{
   stateCheck,
   finished,
-  designOf,
+  designAfter,
   readVerdict,
   entryIn,
   Session,
@@ -91,8 +91,8 @@ finished-same d e zero same = not-begun (at d 0) refl ∙ sym (not-begun (at e 0
 finished-same d e (suc n) same = later-finished d e (same (omega arith)) (suc n) (omega arith)
 
 -- The design that counts, the line's or the state's
-design-same : (d e : Design) (n : ℕ) → (0 < n → Same d e) → (bytes : List ℕ) → Same (designOf (at d n) bytes) (designOf (at e n) bytes)
-unfolding designOf
+design-same : (d e : Design) (n : ℕ) → (0 < n → Same d e) → (bytes : List ℕ) → Same (designAfter (at d n) bytes) (designAfter (at e n) bytes)
+unfolding designAfter
 design-same d e zero same bytes = search
 design-same d e (suc n) same bytes =
     rw (later-design (at d (suc n)) bytes (omega arith), later-design (at e (suc n)) bytes (omega arith)) (same (omega arith))
@@ -104,7 +104,7 @@ module _ (d e : Design) (n : ℕ) (same : 0 < n → Same d e) (initial : List �
   moved-same Verdict.Passed bytes =
       let counts = design-same d e n same bytes in
       let slot = slot-same _ _ counts n in
-      let head = head-same _ _ counts (slotOf (designOf (at e n) bytes) n) in
+      let head = head-same _ _ counts (slotOf (designAfter (at e n) bytes) n) in
       record {
         taken = refl;
         design = λ some. counts;

@@ -5,6 +5,7 @@ use mathlib.Core.Path.{_≡_}
 use mathlib.Core.Bool.{true}
 use Prim.Native.Nat.{ℕ}
 use Rattle.refusal.specs.declared.Verdict.{Verdict}
+use Rattle.refusal.specs.Checks.{ifPassed}
 use Rattle.reading.specs.ReadLine.{finished, Session, verdictOn, after}
 
 -- "a reading begun with no line taken"
@@ -22,8 +23,7 @@ feed s (line ∷ lines) = feed (after s line) lines
 
 -- "refused lines do not count": those of the lines that are accepted, in order
 abbrev pub keptIf : Verdict → List ℕ → List (List ℕ) → List (List ℕ)
-keptIf Verdict.Passed line lines = line ∷ lines
-keptIf (Verdict.Refused cause) line lines = lines
+keptIf v line lines = ifPassed v (line ∷ lines) (λ cause. lines)
 
 unfoldable pub accepted : Session → List (List ℕ) → List (List ℕ)
 accepted s [] = []

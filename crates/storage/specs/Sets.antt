@@ -3,14 +3,14 @@ use mathlib.Core.Path.{_≡_}
 use mathlib.Core.Bool.{true}
 use mathlib.Core.List.{List}
 use Prim.Native.Nat.{ℕ, _<_}
-use lib.ListN.{length, getD, take}
-use lib.IntN.{ℤ, pos}
+use lib.ListN.{length, take}
+use lib.IntN.{ℤ}
 use Rattle.design.specs.declared.Design.{Design}
 use Rattle.design.specs.Stored.{initialCount, offsetTotal}
 use Rattle.design.specs.Same.{Same}
 use Rattle.tables.specs.Inputs.{Usable}
-use Rattle.encoding.specs.Bytes.{fits, fitsSigned}
-use Rattle.lines.specs.Lines.{lineAt, setLines}
+use Rattle.lines.specs.Slots.{lineCount, slotOf}
+use Rattle.lines.specs.Lines.{entryFits, lineAt, setLines}
 
 -- A design, and tables that begin with a set of it
 pub record TableSet : Type 0 where
@@ -24,11 +24,11 @@ pub record SameSet (a b : TableSet) : Type 0 where
   pub initial : take (initialCount (b .design)) (a .initial) ≡ take (initialCount (b .design)) (b .initial)
   pub offsets : take (offsetTotal (b .design)) (a .offsets) ≡ take (offsetTotal (b .design)) (b .offsets)
 
--- A set that can be written: its design is legal, its tables are long enough, and each of its entries fits its 3 bytes.
+-- A set that can be written: its design is legal, its tables are long enough, and the entry of each of its lines fits, as the writer tests
+-- it (18).
 pub record Storable (t : TableSet) : Type 0 where
   pub usable : Usable (t .design) (length (t .initial)) (length (t .offsets))
-  pub initial-fits : (index : ℕ) → index < initialCount (t .design) → fits 3 (getD (t .initial) index 0) ≡ true
-  pub offset-fits : (place : ℕ) → place < offsetTotal (t .design) → fitsSigned 3 (getD (t .offsets) place (pos 0)) ≡ true
+  pub fits : (n : ℕ) → n < lineCount (t .design) → entryFits (slotOf (t .design) n) (t .initial) (t .offsets) ≡ true
 
 -- Line n of a set, and all its lines in order
 abbrev pub lineIn : TableSet → ℕ → List ℕ

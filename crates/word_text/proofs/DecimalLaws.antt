@@ -12,23 +12,23 @@ use lib.Dec.{ltb, leb, eqb}
 use lib.ListN.{length, length-append}
 use Rattle.refusal.specs.Checks.{outside}
 use Rattle.word_text.specs.declared.ReadWord.{ReadWord}
-use Rattle.word_text.specs.Decimal.{allDigits, isDecimal, numberIn, wordIn, atMostLimit, readingOf, afterCharacter, wordOf}
+use Rattle.word_text.specs.Decimal.{allDecimal, isDecimal, decimalNumber, wordIn, atMostLimit, readingOf, afterCharacter, wordOf}
 
 -- A number of a digit d in front of n, one place further up
 one-place-up : (d p n c : ℕ) → d * (p * 10) + (10 * n + c) ≡ 10 * (d * p + n) + c
 one-place-up d p n c = omega arith
 
 module _ (c : ℕ) where
-  number-next : (t : List ℕ) → numberIn (t ++ c ∷ []) ≡ 10 * numberIn t + (c - 48)
-  unfolding numberIn
+  number-next : (t : List ℕ) → decimalNumber (t ++ c ∷ []) ≡ 10 * decimalNumber t + (c - 48)
+  unfolding decimalNumber
   number-next [] = omega arith
   number-next (d ∷ t) =
       rw (length-append t (c ∷ []), number-next t, add-one (length t), pow-suc 10 (length t)) (one-place-up (d - 48) _ _ _)
 
-  digits-next : (t : List ℕ) → allDigits (t ++ c ∷ []) ≡ allDigits t && not (outside 48 57 c)
-  unfolding allDigits
+  digits-next : (t : List ℕ) → allDecimal (t ++ c ∷ []) ≡ allDecimal t && not (outside 48 57 c)
+  unfolding allDecimal
   digits-next [] = and-true (not (outside 48 57 c))
-  digits-next (d ∷ t) = rw (digits-next t) (sym (and-assoc (not (outside 48 57 d)) (allDigits t) (not (outside 48 57 c))))
+  digits-next (d ∷ t) = rw (digits-next t) (sym (and-assoc (not (outside 48 57 d)) (allDecimal t) (not (outside 48 57 c))))
 
 pub below-limit : (n : ℕ) → n < 2 ^ 32 → atMostLimit n ≡ n
 unfolding atMostLimit
@@ -71,7 +71,7 @@ kept-other true n = refl
 
 module _ (t : List ℕ) (c : ℕ) where
   reading-next : readingOf (t ++ c ∷ [])
-      ≡ record { value = kept (allDigits t && not (outside 48 57 c)) (10 * numberIn t + (c - 48)); begun = true }
+      ≡ record { value = kept (allDecimal t && not (outside 48 57 c)) (10 * decimalNumber t + (c - 48)); begun = true }
   unfolding readingOf
   reading-next =
       rw (digits-next c t, number-next c t, length-append t (c ∷ []), ne-eqb (length t + 1) 0 (λ none. omega arith))
@@ -79,17 +79,17 @@ module _ (t : List ℕ) (c : ℕ) where
   -- No word so far: no word.
   no-word-yet : 2 ^ 32 ≤ readingOf t .value → record { value = 2 ^ 32; begun = true } ≡ readingOf (t ++ c ∷ [])
   unfolding readingOf
-  no-word-yet h = rw (reading-next, kept-at-limit (allDigits t) (not (outside 48 57 c)) (numberIn t) (c - 48) h)
+  no-word-yet h = rw (reading-next, kept-at-limit (allDecimal t) (not (outside 48 57 c)) (decimalNumber t) (c - 48) h)
 
   -- A character that is no digit
   other-character : outside 48 57 c ≡ true → record { value = 2 ^ 32; begun = true } ≡ readingOf (t ++ c ∷ [])
-  other-character e = rw (reading-next, e, kept-other (allDigits t))
+  other-character e = rw (reading-next, e, kept-other (allDecimal t))
 
   -- One digit more
   digit-more : readingOf t .value < 2 ^ 32 → outside 48 57 c ≡ false
       → record { value = atMostLimit (10 * readingOf t .value + (c - 48)); begun = true } ≡ readingOf (t ++ c ∷ [])
   unfolding readingOf
-  digit-more h e = rw (reading-next, e, kept-growing (allDigits t) (numberIn t) (c - 48) h)
+  digit-more h e = rw (reading-next, e, kept-growing (allDecimal t) (decimalNumber t) (c - 48) h)
 
   by-tests : (full other : Bool) → leb (2 ^ 32) (readingOf t .value) ≡ full → outside 48 57 c ≡ other
       → afterCharacter (readingOf t) c ≡ readingOf (t ++ c ∷ [])
@@ -122,7 +122,7 @@ none-kept true true n h = rw (le-ltb n (2 ^ 32) (still-from n h))
 module _ (t : List ℕ) where
   is-word : readingOf t .begun ≡ true → readingOf t .value < 2 ^ 32 → ReadWord.Word (readingOf t .value) ≡ wordIn t
   unfolding readingOf wordIn isDecimal word-if
-  is-word e h = word-kept (not (eqb (length t) 0)) (allDigits t) (numberIn t) e h
+  is-word e h = word-kept (not (eqb (length t) 0)) (allDecimal t) (decimalNumber t) e h
 
   no-character : readingOf t .begun ≡ false → ReadWord.NotAWord ≡ wordIn t
   unfolding readingOf wordIn isDecimal
@@ -130,7 +130,7 @@ module _ (t : List ℕ) where
 
   no-word : 2 ^ 32 ≤ readingOf t .value → ReadWord.NotAWord ≡ wordIn t
   unfolding readingOf wordIn isDecimal word-if
-  no-word h = none-kept (not (eqb (length t) 0)) (allDigits t) (numberIn t) h
+  no-word h = none-kept (not (eqb (length t) 0)) (allDecimal t) (decimalNumber t) h
 
   by-kept : (begun below : Bool) → readingOf t .begun ≡ begun → ltb (readingOf t .value) (2 ^ 32) ≡ below → wordOf (readingOf t) ≡ wordIn t
   unfolding wordOf

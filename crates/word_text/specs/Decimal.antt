@@ -9,22 +9,22 @@ use Rattle.word_text.specs.declared.ReadWord.{ReadWord}
 use Rattle.word_text.specs.declared.WordText.{WordText}
 
 -- Digits 0-9 and nothing else: 48 is '0', 57 is '9'. No sign, no space, no carriage return.
-unfoldable pub allDigits : List ℕ → Bool
-allDigits [] = true
-allDigits (c ∷ cs) = not (outside 48 57 c) && allDigits cs
+unfoldable pub allDecimal : List ℕ → Bool
+allDecimal [] = true
+allDecimal (c ∷ cs) = not (outside 48 57 c) && allDecimal cs
 
 -- One digit or more. Leading zeros are fine.
 unfoldable pub isDecimal : List ℕ → Bool
-isDecimal t = not (eqb (length t) 0) && allDigits t
+isDecimal t = not (eqb (length t) 0) && allDecimal t
 
 -- The number that digits stand for
-unfoldable pub numberIn : List ℕ → ℕ
-numberIn [] = 0
-numberIn (c ∷ cs) = (c - 48) * 10 ^ length cs + numberIn cs
+unfoldable pub decimalNumber : List ℕ → ℕ
+decimalNumber [] = 0
+decimalNumber (c ∷ cs) = (c - 48) * 10 ^ length cs + decimalNumber cs
 
 -- What a line is: an input word has 32 bits.
 unfoldable pub wordIn : List ℕ → ReadWord
-wordIn t = cond (isDecimal t && ltb (numberIn t) (2 ^ 32)) (ReadWord.Word (numberIn t)) ReadWord.NotAWord
+wordIn t = cond (isDecimal t && ltb (decimalNumber t) (2 ^ 32)) (ReadWord.Word (decimalNumber t)) ReadWord.NotAWord
 
 -- A number of 2^32 or more is no word, whatever digits follow; it needs to be known no better than that.
 unfoldable pub atMostLimit : ℕ → ℕ
@@ -33,7 +33,7 @@ atMostLimit n = cond (ltb n (2 ^ 32)) n (2 ^ 32)
 -- What is kept of a line while it is read: the number, where there are digits alone, 2^32 where another character came, and whether any
 -- character came. The proofs show that the two definitions below lead from there to what the whole line is.
 unfoldable pub readingOf : List ℕ → WordText
-readingOf t = record { value = cond (allDigits t) (atMostLimit (numberIn t)) (2 ^ 32); begun = not (eqb (length t) 0) }
+readingOf t = record { value = cond (allDecimal t) (atMostLimit (decimalNumber t)) (2 ^ 32); begun = not (eqb (length t) 0) }
 
 -- What is kept with one character more: once no word, it stays none.
 unfoldable pub afterCharacter : WordText → ℕ → WordText

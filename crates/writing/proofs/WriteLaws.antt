@@ -1,20 +1,22 @@
 -- What the checks of the writer come to, what it finds out about the asked line, and what its answer promises of the line buffer.
 use mathlib.Core.Path.{_≡_, refl, ap, _∙_}
 use mathlib.Core.Bool.{Bool, true}
-use mathlib.Core.List.{List, _++_}
+use mathlib.Core.List.{List, _∷_, _++_}
 use Prim.Native.Nat.{ℕ, _+_, _*_, _≤_, _<_}
+use native.Mathlib.Omega.{arith}
 use lib.IntN.{ℤ}
 use lib.ListN.{length}
-use borrow.Author.Tests.{le-leb, lt-leb, ltb-false, not-false}
+use borrow.Author.Tests.{le-leb, lt-leb, leb-false, ltb-false, not-false}
 use Rattle.refusal.specs.declared.Cause.{Cause}
 use Rattle.refusal.specs.declared.Verdict.{Verdict}
 use Rattle.refusal.specs.Checks.{verdict}
-use Rattle.refusal.proofs.Checks.{verdict-append, none-fails}
+use Rattle.refusal.proofs.Checks.{verdict-append, passed-append, none-fails}
+use Rattle.refusal.proofs.Answers.{only-passed}
 use Rattle.design.specs.declared.Design.{Design}
 use Rattle.tables.specs.Inputs.{Usable}
 use Rattle.tables.specs.Set.{setChecks}
 use Rattle.general.specs.Lists.{over}
-use Rattle.tables.proofs.SetLaws.{set-passed}
+use Rattle.tables.proofs.SetLaws.{usable, set-passed}
 use Rattle.general.proofs.WritingLaws.{over-start}
 use Rattle.encoding.specs.declared.Frame.{Frame}
 use Rattle.encoding.specs.Bytes.{bigEndian}
@@ -28,7 +30,7 @@ use Rattle.lines.specs.Inputs.{SlotIn}
 use Rattle.lines.proofs.SlotLaws.{slot-in}
 use Rattle.lines.proofs.FrameLaws.{frame-length, frame-short, entry-short}
 use Rattle.writing.specs.declared.Written.{Written}
-use Rattle.writing.specs.Write.{numberCheck, lineChecks, writeVerdict, writeAnswer, bufferAfter, toldBy, writeTold}
+use Rattle.writing.specs.Write.{numberCheck, askedChecks, writeVerdict, writeAnswer, bufferAfter, toldBy, writeTold}
 
 -- "writer 1 to 10, 19, 18, 14"
 module _ (d : Design) (initial : List ℕ) (offsets : List ℤ) (n buffer : ℕ) where
@@ -47,17 +49,44 @@ module _ (d : Design) (initial : List ℕ) (offsets : List ℤ) (n buffer : ℕ)
     -- and for one within it 18 and 14 are left.
     pub within-set : n < lineCount d
         → writeVerdict d initial offsets n buffer
-        ≡ verdict (lineChecks (entryFits (slotOf d n) initial offsets) (length (lineAt d initial offsets n)) buffer)
+        ≡ verdict (askedChecks (entryFits (slotOf d n) initial offsets) (length (lineAt d initial offsets n)) buffer)
     unfolding writeVerdict numberCheck
     within-set h = rw (verdict-append, set-passed _ _ _ u, lt-leb _ _ h)
 
 -- What a line that passes 18 and 14 tells: its entry fits, and the line buffer is long enough.
-pub line-passed : (fits : Bool) (line buffer : ℕ) → verdict (lineChecks fits line buffer) ≡ Verdict.Passed
+pub line-passed : (fits : Bool) (line buffer : ℕ) → verdict (askedChecks fits line buffer) ≡ Verdict.Passed
     → (fits ≡ true) × (line ≤ buffer)
-unfolding lineChecks
+unfolding askedChecks
 line-passed fits line buffer e =
-    let tests = none-fails (lineChecks fits line buffer) e in
+    let tests = none-fails (askedChecks fits line buffer) e in
     (not-false fits (tests .0), ltb-false buffer line (tests .1 .0))
+
+-- The writer gives a line only where nothing turned it down:
+module _ (d : Design) (initial : List ℕ) (offsets : List ℤ) (n buffer : ℕ) where
+  pub line-given : {digits : ℕ} → writeAnswer d initial offsets n buffer ≡ Written.Length digits
+      → writeVerdict d initial offsets n buffer ≡ Verdict.Passed
+  unfolding writeAnswer
+  line-given {digits} e =
+      only-passed (λ (answer : Written). answer ≡ Written.Length digits) _ _ Written.Refused
+      (λ cause f. let z : _≡_ {A = ℕ} 0 1 = cc in omega arith) e
+
+  -- then the set passes 1 to 10, the line is one of its lines, and the entry fits.
+  pub record Given : Type 0 where
+    pub usable : Usable d (length initial) (length offsets)
+    pub within : n < lineCount d
+    pub fits : entryFits (slotOf d n) initial offsets ≡ true
+
+  pub given : writeVerdict d initial offsets n buffer ≡ Verdict.Passed → Given
+  unfolding writeVerdict numberCheck askedChecks
+  given e =
+      let later = numberCheck d n ∷ askedChecks (entryFits (slotOf d n) initial offsets) (length (lineAt d initial offsets n)) buffer in
+      let lists = passed-append (setChecks d (length initial) (length offsets)) later e in
+      let tests = none-fails later (lists .1) in
+      record {
+        usable = usable _ _ _ (lists .0);
+        within = leb-false _ _ (tests .0);
+        fits = not-false _ (tests .1 .0);
+      }
 
 -- The asked line of a set whose tables are long enough: what it holds, its frame up to the entry, and how many bytes the entry takes
 pub record Asked (d : Design) (initial : List ℕ) (offsets : List ℤ) (n : ℕ) (slot : Slot) (head : Frame) (width : ℕ) : Type 0 where
@@ -92,7 +121,7 @@ module _ {d : Design} {initial : List ℕ} {offsets : List ℤ} {n : ℕ} {slot 
 
   -- The writer's verdict is that of 18 and 14,
   pub asked-verdict : (fits : Bool) (buffer : ℕ) → fits ≡ entryFits slot initial offsets
-      → writeVerdict d initial offsets n buffer ≡ verdict (lineChecks fits (2 * (head .count + width + 1)) buffer)
+      → writeVerdict d initial offsets n buffer ≡ verdict (askedChecks fits (2 * (head .count + width + 1)) buffer)
   asked-verdict fits buffer fits-is =
       rw (fits-is, ← asked-length, asked .slot-is) (within-set d initial offsets n buffer (asked .set) (asked .within))
 

@@ -8,7 +8,7 @@ use lib.IntN.{ℤ}
 use Rattle.refusal.specs.declared.Cause.{Cause}
 use Rattle.refusal.specs.declared.Verdict.{Verdict}
 use Rattle.refusal.specs.Numbers.{numberOf}
-use Rattle.refusal.specs.Checks.{Check, _↝_, verdict}
+use Rattle.refusal.specs.Checks.{Check, _↝_, verdict, ifPassed}
 use Rattle.refusal.specs.Told.{Told, accepted, refused, told}
 use Rattle.design.specs.declared.Design.{Design}
 use Rattle.tables.specs.Set.{setChecks}
@@ -22,21 +22,18 @@ unfoldable pub numberCheck : Design → ℕ → Check
 numberCheck d n = leb (lineCount d) n ↝ Cause.LineNumber
 
 -- 18, "entry does not fit its 3 bytes", then 14, "line buffer shorter than the line"; both concern the asked line only
-unfoldable pub lineChecks : Bool → ℕ → ℕ → List Check
-lineChecks fits line buffer = not fits ↝ Cause.EntryWidth ∷ ltb buffer line ↝ Cause.OutputShort ∷ []
+unfoldable pub askedChecks : Bool → ℕ → ℕ → List Check
+askedChecks fits line buffer = not fits ↝ Cause.EntryWidth ∷ ltb buffer line ↝ Cause.OutputShort ∷ []
 
 unfoldable pub writeVerdict : Design → List ℕ → List ℤ → ℕ → ℕ → Verdict
 writeVerdict d initial offsets n buffer =
     verdict (setChecks d (length initial) (length offsets) ++ numberCheck d n
-    ∷ lineChecks (entryFits (slotOf d n) initial offsets) (length (lineAt d initial offsets n)) buffer)
-
-abbrev pub written : Verdict → ℕ → Written
-written Verdict.Passed digits = Written.Length digits
-written (Verdict.Refused cause) digits = Written.Refused cause
+    ∷ askedChecks (entryFits (slotOf d n) initial offsets) (length (lineAt d initial offsets n)) buffer)
 
 -- The writer "returns its length"; n is the asked number, `buffer` the length of the line buffer.
 unfoldable pub writeAnswer : Design → List ℕ → List ℤ → ℕ → ℕ → Written
-writeAnswer d initial offsets n buffer = written (writeVerdict d initial offsets n buffer) (length (lineAt d initial offsets n))
+writeAnswer d initial offsets n buffer =
+    ifPassed (writeVerdict d initial offsets n buffer) (Written.Length (length (lineAt d initial offsets n))) Written.Refused
 
 -- "puts the line with the asked number at the start of the line buffer .. and leaves the rest untouched"; a refusal "leaves every
 -- buffer untouched".

@@ -5,7 +5,7 @@ ghost use lib.ListN.{length};
 ghost use Rattle.refusal.specs.Checks.{verdict};
 ghost use Rattle.lines.specs.Lines.{entryFits, entryNumber};
 ghost use Rattle.lines.specs.Inputs.{SlotIn};
-ghost use Rattle.writing.specs.Write.{lineChecks, writeAnswer, bufferAfter, toldBy, writeTold};
+ghost use Rattle.writing.specs.Write.{askedChecks, writeAnswer, bufferAfter, toldBy, writeTold};
 use design::Design;
 use encoding::numbers::complement;
 use encoding::numbers::fits_signed;
@@ -62,7 +62,7 @@ fn entry_number(slot: Slot, initial: &[u32], offsets: &[i32]) -> u32
 
 // 18 and 14 of the asked line, by its length and that of the line buffer.
 fn line_verdict(fits: bool, line: usize, buffer: usize) -> Verdict
-    ensures { λ r. ⌜ r ≡ verdict (lineChecks fits line buffer) ⌝ }
+    ensures { λ r. ⌜ r ≡ verdict (askedChecks fits line buffer) ⌝ }
 {
     if !fits {
         return Verdict::Refused(Cause::EntryWidth);

@@ -1,4 +1,4 @@
--- `frames::decode` meets its contract: the loop keeps `Reading`, and each way out cites the law that refuses or accepts the line.
+-- `frames::decode` meets its contract: the loop keeps `BytesRead`, and each way out cites the law that refuses or accepts the line.
 use mathlib.Core.Path.{_≡_, sym, _∙_}
 use mathlib.Core.Bool.{false}
 use mathlib.Core.Logic.{⊎-elim, inl, inr}
@@ -10,12 +10,12 @@ use borrow.Author.Tests.{leb-true, leb-false}
 use Rattle.frames.specs.Line.{lengthFails}
 use Rattle.frames.proofs.HexLaws.{Digits}
 use Rattle.frames.proofs.LineLaws.{sound-length, length-refused, digits-refused, sum-refused}
-use Rattle.frames.proofs.Reading.{Reading, start, step, broken, sum-wrong, finished}
+use Rattle.frames.proofs.Decoding.{BytesRead, start, step, broken, sum-wrong, finished}
 use Rattle.frames.proofs.decode.Statement.{statement}
 use Rattle.frames.proofs.decode.Tie as tie
 
 abbrev Inv-loop : tie.InvT-loop
-Inv-loop line count bytes₀ sum₀ i₀ bytes sum i = Reading line bytes sum i
+Inv-loop line count bytes₀ sum₀ i₀ bytes sum i = BytesRead line bytes sum i
 
 abbrev μ-loop : tie.MeasureT-loop
 μ-loop line count bytes₀ sum₀ i₀ bytes sum i = count - i

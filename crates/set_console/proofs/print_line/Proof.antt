@@ -2,8 +2,7 @@
 use mathlib.Core.Path.{sym, _∙_}
 use mathlib.Core.Bool.{true≢false}
 use borrow.Author.Needs.{needs}
-use Rattle.writing.specs.Write.{writeAnswer}
-use Rattle.set_console.proofs.LineLaws.{given}
+use Rattle.writing.proofs.WriteLaws.{line-given}
 use Rattle.set_console.proofs.print_line.Statement.{statement}
 use Rattle.set_console.proofs.print_line.Tie as tie
 
@@ -26,10 +25,9 @@ enum-told : tie.Need-enum-told
 enum-told c = search needs
 
 returns : tie.Need-returns
-unfolding writeAnswer
 returns c told =
     let m = c .before .before .before .before in
-    given _ _ _ (sym (m .before .before .before .write-line .ensures .0) ∙ m .digits .given .1)
+    line-given _ _ _ _ _ (sym (m .before .before .before .write-line .ensures .0) ∙ m .digits .given .1)
 
 returns-2 : tie.Need-returns-2
 returns-2 c told = absurd (true≢false (sym told))

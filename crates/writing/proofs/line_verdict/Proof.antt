@@ -6,22 +6,22 @@ use borrow.Author.Tests.{lt-ltb, le-ltb}
 use Rattle.refusal.specs.declared.Cause.{Cause}
 use Rattle.refusal.specs.declared.Verdict.{Verdict}
 use Rattle.refusal.specs.Checks.{verdict}
-use Rattle.writing.specs.Write.{lineChecks}
+use Rattle.writing.specs.Write.{askedChecks}
 use Rattle.writing.proofs.line_verdict.Statement.{statement}
 use Rattle.writing.proofs.line_verdict.Tie as tie
 
 -- The verdict by the two tests: whether the entry fits, then whether there is room for the line.
 module _ (fits : Bool) (line buffer : ℕ) where
-  too-wide : not fits ≡ true → Verdict.Refused Cause.EntryWidth ≡ verdict (lineChecks fits line buffer)
-  unfolding lineChecks
+  too-wide : not fits ≡ true → Verdict.Refused Cause.EntryWidth ≡ verdict (askedChecks fits line buffer)
+  unfolding askedChecks
   too-wide wide = rw wide
 
-  no-room : not fits ≡ false → buffer < line → Verdict.Refused Cause.OutputShort ≡ verdict (lineChecks fits line buffer)
-  unfolding lineChecks
+  no-room : not fits ≡ false → buffer < line → Verdict.Refused Cause.OutputShort ≡ verdict (askedChecks fits line buffer)
+  unfolding askedChecks
   no-room narrow short = rw (narrow, lt-ltb _ _ short)
 
-  writable : not fits ≡ false → line ≤ buffer → Verdict.Passed ≡ verdict (lineChecks fits line buffer)
-  unfolding lineChecks
+  writable : not fits ≡ false → line ≤ buffer → Verdict.Passed ≡ verdict (askedChecks fits line buffer)
+  unfolding askedChecks
   writable narrow long = rw (narrow, le-ltb _ _ long)
 
 returns : tie.Need-returns

@@ -17,7 +17,7 @@ use Rattle.frames.proofs.HexLaws.{Digits, next-byte, next-sound, high-u
 use Rattle.frames.proofs.LineLaws.{SoundLength, accepted}
 
 -- The first i bytes, made of sound digits, are stored and summed; the rest of the line has the rest of what the line holds.
-pub record Reading (line bytes : List ℕ) (sum i : ℕ) : Type 0 where
+pub record BytesRead (line bytes : List ℕ) (sum i : ℕ) : Type 0 where
   pub line-length : SoundLength (length line)
   pub within : 2 * i ≤ length line
   pub long : length bytes ≡ 16
@@ -27,7 +27,7 @@ pub record Reading (line bytes : List ℕ) (sum i : ℕ) : Type 0 where
   pub summed : total (bytesOf line) ≡ sum + total (bytesOf (drop (2 * i) line))
   pub small : sum ≤ 255 * i
 
-pub start : (line : List ℕ) → SoundLength (length line) → Reading line (replicate 16 0) 0 0
+pub start : (line : List ℕ) → SoundLength (length line) → BytesRead line (replicate 16 0) 0 0
 start line fits =
     record {
       line-length = fits;
@@ -50,9 +50,9 @@ module _ (bytes : List ℕ) (i byte : ℕ) where
       let one-less : 16 - i ≡ suc (16 - (i + 1)) = omega arith in
       drop-set-lt (i + 1) bytes i byte (omega arith) ∙ sym (drop-drop 1 i bytes) ∙ ap (drop 1) e ∙ rw one-less
 
-module _ {line bytes : List ℕ} {sum i : ℕ} (so-far : Reading line bytes sum i) where
+module _ {line bytes : List ℕ} {sum i : ℕ} (so-far : BytesRead line bytes sum i) where
   module _ {high low : ℕ} (next : Digits line i high low) where
-    pub step : high < 16 → low < 16 → Reading line (set bytes i (16 * high + low)) (sum + (16 * high + low)) (i + 1)
+    pub step : high < 16 → low < 16 → BytesRead line (set bytes i (16 * high + low)) (sum + (16 * high + low)) (i + 1)
     unfolding total
     step h l =
         record {
