@@ -9,7 +9,7 @@ use native.Mathlib.Omega.{arith}
 use lib.IntN.{ℤ}
 use borrow.Author.Tests.{not-true}
 use Rattle.refusal.specs.declared.Verdict.{Verdict}
-use Rattle.refusal.specs.Told.{told}
+use Rattle.refusal.specs.Told.{accepted}
 use Rattle.refusal.proofs.Checks.{both, both-so}
 use Rattle.values.proofs.FaithfulLaws.{faithful-test, faithful-tested}
 use Rattle.design.specs.declared.Design.{Design}
@@ -20,8 +20,8 @@ use Rattle.checking.specs.Check.{
   all-faithful,
   lowest-unfaithful,
   faithfulAt,
-  wordsBelow,
-  checked,
+  findingBelow,
+  found,
   checkVerdict,
   checkAnswer,
   toldBy,
@@ -30,15 +30,15 @@ use Rattle.checking.specs.Check.{
 }
 
 -- All words below n are faithful,
-pub check-all : (n : ℕ) (test : ℕ → Bool) → ((x : ℕ) → x < n → test x ≡ true) → wordsBelow n test ≡ all-faithful
-unfolding wordsBelow
+pub check-all : (n : ℕ) (test : ℕ → Bool) → ((x : ℕ) → x < n → test x ≡ true) → findingBelow n test ≡ all-faithful
+unfolding findingBelow
 check-all zero test all = refl
 check-all (suc n) test all = rw (check-all n test (λ x h. all x (le-step h)), all n (le-refl _)) refl
 
 -- or x is the lowest that is not.
 pub check-bad : (n x : ℕ) (test : ℕ → Bool) → x < n → ((i : ℕ) → i < x → test i ≡ true) → test x ≡ false
-    → wordsBelow n test ≡ lowest-unfaithful x
-unfolding wordsBelow
+    → findingBelow n test ≡ lowest-unfaithful x
+unfolding findingBelow
 check-bad zero x test h below bad = absurd (not-suc-le-zero h)
 check-bad (suc n) x test h below bad =
     below-suc h (λ at. rw (← at, check-all x test below, bad) refl) (λ before. rw (check-bad n x test before below bad) refl)
@@ -73,32 +73,31 @@ module _ {x : ℕ} where
   same-word e = cc
 
 -- and each answer tells its own.
-found-all : (finding : Finding) → checked Verdict.Passed finding ≡ Checked.Faithful → finding ≡ all-faithful
+found-all : (finding : Finding) → found finding ≡ Checked.Faithful → finding ≡ all-faithful
 found-all all-faithful e = refl
 found-all (lowest-unfaithful lowest) e = let z : _≡_ {A = ℕ} 0 1 = cc in absurd (omega arith)
 
-found-lowest : (finding : Finding) {x : ℕ} → checked Verdict.Passed finding ≡ Checked.Unfaithful x → finding ≡ lowest-unfaithful x
+found-lowest : (finding : Finding) {x : ℕ} → found finding ≡ Checked.Unfaithful x → finding ≡ lowest-unfaithful x
 found-lowest all-faithful e = let z : _≡_ {A = ℕ} 0 1 = cc in absurd (omega arith)
 found-lowest (lowest-unfaithful lowest) e = cc
 
 -- Read back from what is found among the words below n
 module _ (n : ℕ) (test : ℕ → Bool) where
-  pub all-told : wordsBelow n test ≡ all-faithful → (x : ℕ) → x < n → test x ≡ true
+  pub all-told : findingBelow n test ≡ all-faithful → (x : ℕ) → x < n → test x ≡ true
   all-told e =
       ⊎-elim (λ all. all) (λ l. absurd (not-both (sym e ∙ check-bad n (l .0) test (l .1 .inside) (l .1 .below) (l .1 .fails))))
       (all-or-lowest n test)
 
-  pub lowest-told : (x : ℕ) → wordsBelow n test ≡ lowest-unfaithful x → Lowest n test x
+  pub lowest-told : (x : ℕ) → findingBelow n test ≡ lowest-unfaithful x → Lowest n test x
   lowest-told x e =
       ⊎-elim (λ all. absurd (not-both (sym (check-all n test all) ∙ e)))
       (λ l. rw (← same-word (sym (check-bad n (l .0) test (l .1 .inside) (l .1 .below) (l .1 .fails)) ∙ e)) (l .1))
       (all-or-lowest n test)
 
 -- The answer tells its verdict and what was found.
-pub checked-told : (v : Verdict) (finding : Finding) → toldBy (checked v finding) ≡ told v finding
-checked-told Verdict.Passed all-faithful = refl
-checked-told Verdict.Passed (lowest-unfaithful lowest) = refl
-checked-told (Verdict.Refused cause) finding = refl
+pub found-told : (finding : Finding) → toldBy (found finding) ≡ accepted finding
+found-told all-faithful = refl
+found-told (lowest-unfaithful lowest) = refl
 
 module _ (d : Design) (initial : List ℕ) (offsets : List ℤ) (x : ℕ) where
   pub word-test : faithfulAt d initial offsets x ≡ true → FaithfulWord d initial offsets x
@@ -117,7 +116,7 @@ module _ (d : Design) (initial : List ℕ) (offsets : List ℤ) (x : ℕ) where
 
 -- Where the refusals pass, the answer is that of the search.
 pub check-searches : (d : Design) (initial : List ℕ) (offsets : List ℤ) → checkVerdict d initial offsets ≡ Verdict.Passed
-    → checkAnswer d initial offsets ≡ checked Verdict.Passed (wordsBelow (2 ^ d .w) (faithfulAt d initial offsets))
+    → checkAnswer d initial offsets ≡ found (findingBelow (2 ^ d .w) (faithfulAt d initial offsets))
 unfolding checkAnswer
 check-searches d initial offsets passed = rw passed refl
 
@@ -148,8 +147,8 @@ check-means d initial offsets passed =
     test : ℕ → Bool
     test = faithfulAt d initial offsets
 
-    answer : checkAnswer d initial offsets ≡ checked Verdict.Passed (wordsBelow n test)
+    answer : checkAnswer d initial offsets ≡ found (findingBelow n test)
     answer = check-searches d initial offsets passed
 
-    said : {finding : Finding} → wordsBelow n test ≡ finding → checkAnswer d initial offsets ≡ checked Verdict.Passed finding
-    said e = answer ∙ ap (checked Verdict.Passed) e
+    said : {finding : Finding} → findingBelow n test ≡ finding → checkAnswer d initial offsets ≡ found finding
+    said e = answer ∙ ap found e

@@ -6,7 +6,6 @@ use native.Mathlib.Nat.{add-sub-of-le, add-zero, le-of-lt, mul-le-mul-right, not
 use native.Mathlib.Numerals.{add-one}
 use native.Mathlib.Omega.{arith}
 use lib.Pow.{high, pow-add, pow-mono}
-use Rattle.refusal.specs.declared.Verdict.{Verdict}
 use Rattle.values.specs.Room.{widestWord, wordBound}
 use Rattle.design.specs.declared.Design.{Design}
 use Rattle.design.specs.Cut.{initialWord}
@@ -15,7 +14,7 @@ use Rattle.design.proofs.LegalLaws.{Limits}
 use Rattle.general.proofs.Sums.{below-suc}
 use Rattle.checking.specs.declared.Checked.{Checked}
 use Rattle.tables.specs.Inputs.{SameInterval}
-use Rattle.checking.specs.Check.{wordsBelow, checked}
+use Rattle.checking.specs.Check.{findingBelow, found}
 use Rattle.checking.proofs.CheckLaws.{check-all, check-bad}
 
 -- Every word below x is faithful, and the answer says so.
@@ -31,12 +30,12 @@ module _ (test : ℕ → Bool) where
     pub searched-more : {x : ℕ} → Searched test answer x → test x ≡ true → Searched test answer (x + 1)
     searched-more s e = record { answer-is = s .answer-is; all = λ i h. below-suc (rw add-one at h) (λ at. rw at e) (s .all i) }
 
-    pub searched-all : {n : ℕ} → Searched test answer n → answer ≡ checked Verdict.Passed (wordsBelow n test)
-    searched-all s = s .answer-is ∙ ap (checked Verdict.Passed) (sym (check-all _ test (s .all)))
+    pub searched-all : {n : ℕ} → Searched test answer n → answer ≡ found (findingBelow n test)
+    searched-all s = s .answer-is ∙ ap found (sym (check-all _ test (s .all)))
 
     pub searched-found : {n x : ℕ} → Searched test answer x → x < n → test x ≡ false
-        → Checked.Unfaithful x ≡ checked Verdict.Passed (wordsBelow n test)
-    searched-found s h e = ap (checked Verdict.Passed) (sym (check-bad _ _ test h (s .all) e))
+        → Checked.Unfaithful x ≡ found (findingBelow n test)
+    searched-found s h e = ap found (sym (check-bad _ _ test h (s .all) e))
 
     -- an interval that is searched to its end leads to the next
     pub next-interval : (interval rests rest : ℕ) → Searched test answer (interval * rests + rest) → rest ≡ rests

@@ -8,7 +8,7 @@ use lib.ListN.{length}
 use lib.IntN.{ℤ}
 use Rattle.refusal.specs.declared.Verdict.{Verdict}
 use Rattle.refusal.specs.Numbers.{numberOf}
-use Rattle.refusal.specs.Checks.{verdict}
+use Rattle.refusal.specs.Checks.{verdict, ifPassed}
 use Rattle.refusal.specs.Told.{Told, accepted, refused, told}
 use Rattle.values.specs.Faithful.{Faithful, isFaithful}
 use Rattle.design.specs.declared.Design.{Design}
@@ -28,27 +28,26 @@ pub data Finding : Type 0 where
   lowest-unfaithful : ℕ → Finding
 
 -- "From 0 upwards": what is found up to the word x, and with x
-abbrev pub oneMore : Finding → Bool → ℕ → Finding
-oneMore all-faithful true x = all-faithful
-oneMore all-faithful false x = lowest-unfaithful x
-oneMore (lowest-unfaithful lowest) faithful x = lowest-unfaithful lowest
+abbrev pub withInput : Finding → Bool → ℕ → Finding
+withInput all-faithful true x = all-faithful
+withInput all-faithful false x = lowest-unfaithful x
+withInput (lowest-unfaithful lowest) faithful x = lowest-unfaithful lowest
 
 -- What is found among the words below n, by whether each is faithful
-unfoldable pub wordsBelow : ℕ → (ℕ → Bool) → Finding
-wordsBelow zero faithful = all-faithful
-wordsBelow (suc n) faithful = oneMore (wordsBelow n faithful) (faithful n) n
+unfoldable pub findingBelow : ℕ → (ℕ → Bool) → Finding
+findingBelow zero faithful = all-faithful
+findingBelow (suc n) faithful = withInput (findingBelow n faithful) (faithful n) n
 
-abbrev pub checked : Verdict → Finding → Checked
-checked Verdict.Passed all-faithful = Checked.Faithful
-checked Verdict.Passed (lowest-unfaithful lowest) = Checked.Unfaithful lowest
-checked (Verdict.Refused cause) finding = Checked.Refused cause
+abbrev pub found : Finding → Checked
+found all-faithful = Checked.Faithful
+found (lowest-unfaithful lowest) = Checked.Unfaithful lowest
 
 unfoldable pub checkVerdict : Design → List ℕ → List ℤ → Verdict
 checkVerdict d initial offsets = verdict (setChecks d (length initial) (length offsets))
 
 unfoldable pub checkAnswer : Design → List ℕ → List ℤ → Checked
 checkAnswer d initial offsets =
-    checked (checkVerdict d initial offsets) (wordsBelow (2 ^ d .w) (faithfulAt d initial offsets))
+    ifPassed (checkVerdict d initial offsets) (found (findingBelow (2 ^ d .w) (faithfulAt d initial offsets))) Checked.Refused
 
 -- What each answer tells: faithful, the lowest unfaithful word, or the refusal's number
 abbrev pub toldBy : Checked → Told Finding
@@ -58,7 +57,7 @@ toldBy (Checked.Refused cause) = refused (numberOf cause) 0
 
 -- What is to be told: "check 1 to 10", else what is found among all words
 unfoldable pub checkTold : Design → List ℕ → List ℤ → Told Finding
-checkTold d initial offsets = told (checkVerdict d initial offsets) (wordsBelow (2 ^ d .w) (faithfulAt d initial offsets))
+checkTold d initial offsets = told (checkVerdict d initial offsets) (findingBelow (2 ^ d .w) (faithfulAt d initial offsets))
 
 -- An input "has a word, less than one output unit from the exact value".
 pub record FaithfulWord (d : Design) (initial : List ℕ) (offsets : List ℤ) (x : ℕ) : Type 0 where

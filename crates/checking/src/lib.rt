@@ -9,7 +9,7 @@ ghost use Rattle.design.specs.Stored.{offsetTotal};
 ghost use Rattle.design.specs.Legal.{Legal};
 ghost use Rattle.tables.specs.Inputs.{Usable, SameInterval};
 ghost use Rattle.tables.specs.Lookup.{lookupsOf};
-ghost use Rattle.checking.specs.Check.{faithfulAt, wordsBelow, checked, checkAnswer, toldBy, checkTold};
+ghost use Rattle.checking.specs.Check.{faithfulAt, findingBelow, found, checkAnswer, toldBy, checkTold};
 use design::Design;
 use general::pow2;
 use refusal::Cause;
@@ -60,7 +60,7 @@ fn search(d: Design, lookups: Lookups, row: Row, initial: &[u32], offsets: &[i32
     requires { ⌜ Usable d (length (now initial)) (length (now offsets)) ⌝ }
     requires { ⌜ lookups ≡ lookupsOf d ⌝ }
     requires { ⌜ row ≡ Cut.row d ⌝ }
-    ensures { λ r. ⌜ r ≡ checked Verdict.Passed (wordsBelow (2 ^ d .w) (faithfulAt d (now (initial .entry)) (now (offsets .entry)))) ⌝ }
+    ensures { λ r. ⌜ r ≡ found (findingBelow (2 ^ d .w) (faithfulAt d (now (initial .entry)) (now (offsets .entry)))) ⌝ }
 {
     let intervals = pow2(d.alpha) as u32;
     let rests = pow2(d.w - d.alpha) as u32;

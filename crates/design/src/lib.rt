@@ -1,7 +1,7 @@
 // A design: how the input word is cut up, how many entries that takes, its error budget and whether that is below the limit.
 
 ghost use mathlib.Core.Path.{_≡_};
-ghost use Rattle.design.specs.Answers.{budgetAnswer, sizeAnswer, toldBy, budgetTold, sizeTold};
+ghost use Rattle.design.specs.Answers.{budgetAnswer, sizeAnswer, toldBy, budgetTold, sizeTold, answerTo, toldOf};
 
 pub mod legal;
 pub mod limits;
@@ -36,22 +36,34 @@ pub enum Measured {
     Refused(Cause),
 }
 
-pub fn budget(d: Design) -> Measured
-    ensures answer { λ r. ⌜ r ≡ budgetAnswer d ⌝ }
-    ensures told { λ r. ⌜ toldBy r ≡ budgetTold d ⌝ }
+// What is asked of a design.
+enum Quantity {
+    Budget,
+    Size,
+}
+
+fn answer(d: Design, quantity: Quantity) -> Measured
+    ensures { λ r. ⌜ (r ≡ answerTo quantity d) × (toldBy r ≡ toldOf quantity d) ⌝ }
 {
     if let Verdict::Refused(cause) = design_verdict(d) {
         return Measured::Refused(cause);
     }
-    Measured::Is(budget_of(d))
+    match quantity {
+        Quantity::Budget => Measured::Is(budget_of(d)),
+        Quantity::Size => Measured::Is(size_of(d)),
+    }
+}
+
+pub fn budget(d: Design) -> Measured
+    ensures answer { λ r. ⌜ r ≡ budgetAnswer d ⌝ }
+    ensures told { λ r. ⌜ toldBy r ≡ budgetTold d ⌝ }
+{
+    answer(d, Quantity::Budget)
 }
 
 pub fn size(d: Design) -> Measured
     ensures answer { λ r. ⌜ r ≡ sizeAnswer d ⌝ }
     ensures told { λ r. ⌜ toldBy r ≡ sizeTold d ⌝ }
 {
-    if let Verdict::Refused(cause) = design_verdict(d) {
-        return Measured::Refused(cause);
-    }
-    Measured::Is(size_of(d))
+    answer(d, Quantity::Size)
 }

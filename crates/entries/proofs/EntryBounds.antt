@@ -1,13 +1,15 @@
 -- How large the entries that the fill writes get, and the numbers that they are made of.
 use mathlib.Core.Path.{_≡_}
 use Prim.Native.Nat.{ℕ, suc, _+_, _-_, _*_, _/_, _^_, _≤_, _<_}
-use native.Mathlib.Nat.{le-refl, le-trans, le-of-lt, mul-le-mul-left, mul-le-mul-right, mul-assoc, pow-suc}
+use native.Mathlib.Nat.{le-refl, le-trans, le-of-lt, lt-of-lt-of-le, mul-le-mul-left, mul-le-mul-right, mul-assoc, pow-suc}
 use native.Mathlib.Omega.{arith}
 use lib.IntN.{natAbs}
 use lib.Pow.{pow-add, pow-mono, pow-pos, shr-mono}
+use Rattle.values.proofs.FloorLaws.{floor-high}
+use Rattle.design.specs.Limits.{mostTables}
 use Rattle.values.specs.Room.{finestUnit, floorBound, productBound, offsetBound, entryBound}
 use Rattle.values.specs.Inputs.{InRange, FloorInput, SlopeInput}
-use Rattle.values.proofs.Bounds.{floor-small, start-input, end-input, slopes-scaled, slopes-small}
+use Rattle.values.proofs.Bounds.{start-input, end-input, slopes-scaled, slopes-small}
 use Rattle.design.specs.declared.Design.{Design}
 use Rattle.design.specs.Cut.{aOf, bOf, row, fractionBits, position}
 use Rattle.design.specs.Stored.{initialCount}
@@ -25,27 +27,38 @@ module _ (d : Design) (l : Limits d) where
   pub interval-input : SlopeInput (row d) (d .w) (fractionBits d) (d .alpha)
   interval-input = record { lawful = lawful d l; room = room d l; a-small = le-of-lt (l .alpha-below) }
 
--- An initial entry, by the values at both ends of its interval, m and the half unit
-pub half-sum-small : (first last m unit : ℕ) → first < floorBound → last < floorBound → m ≤ 4 → unit * 2 ≤ floorBound
-    → (first + last + 1 + m) / 2 + unit < entryBound
-half-sum-small first last m unit first-small last-small m-small unit-small = omega arith
-
--- the half unit
-pub half-unit-small : {P : ℕ} (g : ℕ) → 1 ≤ g → g ≤ P → P ≤ finestUnit → 2 ^ (g - 1) * 2 ≤ floorBound
-half-unit-small g g-pos g-high P-small =
-    let e : suc (g - 1) ≡ g = omega arith in
-    omega (arith, rw e at (pow-suc 2 (g - 1)), pow-mono {i = g} {j = finestUnit + 1} (omega arith))
+-- An initial entry, by the values at both ends of its interval, which lie below bound, m and the half unit
+pub half-sum-below : (bound first last m unit : ℕ) → first < bound → last < bound → m ≤ mostTables → unit * 2 ≤ bound → 4 ≤ bound
+    → (first + last + 1 + m) / 2 + unit < bound * 2
+half-sum-below bound first last m unit first-lt last-lt few half wide = omega arith
 
 module _ (d : Design) (l : Limits d) where
-  pub unit-small : 2 ^ (d .g - 1) * 2 ≤ floorBound
-  unit-small = half-unit-small {P = fractionBits d} (d .g) (omega (arith, l .widths .g-low)) (omega arith) (l .widths .room .s-small)
+  abbrev P : ℕ
+  P = fractionBits d
 
-  pub initial-small : (A : ℕ) → A < initialCount d → initialAt d A < entryBound
+  half-unit : 2 ^ (d .g - 1) * 2 ≤ 2 ^ (P + 1)
+  half-unit =
+      let e : suc (d .g - 1) ≡ d .g = omega (arith, l .widths .g-low) in
+      omega (arith, rw e at (pow-suc 2 (d .g - 1)), pow-mono {i = d .g} {j = P + 1} (omega arith))
+
+  pub unit-small : 2 ^ (d .g - 1) * 2 ≤ floorBound
+  unit-small = le-trans half-unit (pow-mono {j = finestUnit + 1} (omega (arith, l .widths .room .s-small)))
+
+  -- Every initial entry is a sum in range, "0 ≤ Y < 2^(P+2)", by itself,
+  pub initial-in-range : (A : ℕ) → A < initialCount d → initialAt d A < 2 ^ (P + 2)
   unfolding initialAt endValues valueAt initialCount
-  initial-small A A-lt =
+  initial-in-range A A-lt =
       let fit = interval-input d l in
-      half-sum-small _ _ (d .m) _ (floor-small _ _ _ _ (start-input _ _ _ _ A fit A-lt))
-      (floor-small _ _ _ _ (end-input _ _ _ _ A fit A-lt)) (l .m-high) unit-small
+      let one : P + 2 ≡ suc (P + 1) = omega arith in
+      rw (one, pow-suc 2 (P + 1))
+      (half-sum-below (2 ^ (P + 1)) _ _ (d .m) _ (floor-high _ (lawful d l) _ _ _ (start-input _ _ _ _ A fit A-lt .range))
+      (floor-high _ (lawful d l) _ _ _ (end-input _ _ _ _ A fit A-lt .range)) (l .m-high) half-unit
+      (pow-mono {i = 2} (omega (arith, l .widths .g-low))))
+
+  -- and so it is small.
+  pub initial-small : (A : ℕ) → A < initialCount d → initialAt d A < entryBound
+  initial-small A A-lt =
+      lt-of-lt-of-le (initial-in-range A A-lt) (pow-mono {j = finestUnit + 2} (omega (arith, l .widths .room .s-small)))
 
 -- T of an offset: |j| is at most 2^b, so the bound on slopes·2^(b+p) is one on the product, and T is small.
 module _ (slopes b p B : ℕ) (small : slopes * 2 ^ (b + p) ≤ productBound) (B-lt : B < 2 ^ b) where

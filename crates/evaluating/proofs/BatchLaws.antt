@@ -16,21 +16,21 @@ use Rattle.general.proofs.Sums.{below-suc}
 use Rattle.evaluating.specs.declared.Batched.{Batched}
 use Rattle.tables.specs.Inputs.{Usable}
 use Rattle.tables.specs.Set.{setChecks}
-use Rattle.evaluating.specs.Batch.{outputCheck, roomVerdict, oneMore, wordsBelow}
+use Rattle.evaluating.specs.Batch.{outputCheck, roomVerdict, withWord, batchBelow}
 use Rattle.general.specs.Lists.{over}
 use Rattle.tables.proofs.SetLaws.{usable}
 use Rattle.general.proofs.WritingLaws.{over-start, over-length, over-next}
 
 -- Words that all pass are counted,
-pub batch-all : (n : ℕ) (word : ℕ → Verdict) → ((i : ℕ) → i < n → word i ≡ Verdict.Passed) → wordsBelow n word ≡ Batched.Count n
-unfolding wordsBelow
+pub batch-all : (n : ℕ) (word : ℕ → Verdict) → ((i : ℕ) → i < n → word i ≡ Verdict.Passed) → batchBelow n word ≡ Batched.Count n
+unfolding batchBelow
 batch-all zero word all = refl
 batch-all (suc n) word all = rw (batch-all n word (λ i h. all i (le-step h)), all n (le-refl _))
 
 -- and the lowest that does not refuses the batch, whatever follows.
 pub batch-bad : (n i : ℕ) (word : ℕ → Verdict) (cause : Cause) → i < n → ((j : ℕ) → j < i → word j ≡ Verdict.Passed)
-    → word i ≡ Verdict.Refused cause → wordsBelow n word ≡ Batched.Refused cause i
-unfolding wordsBelow
+    → word i ≡ Verdict.Refused cause → batchBelow n word ≡ Batched.Refused cause i
+unfolding batchBelow
 batch-bad zero i word cause h all bad = absurd (not-suc-le-zero h)
 batch-bad (suc n) i word cause h all bad =
     below-suc h
@@ -42,20 +42,20 @@ abbrev Counted : Batched → Type 0
 Counted (Batched.Count count) = Unit {0}
 Counted (Batched.Refused cause place) = ⊥
 
-both-counted : (before : Batched) (word : Verdict) (n : ℕ) → Counted (oneMore before word n)
+both-counted : (before : Batched) (word : Verdict) (n : ℕ) → Counted (withWord before word n)
     → Counted before × (word ≡ Verdict.Passed)
 both-counted (Batched.Count count) Verdict.Passed n c = (tt, refl)
 both-counted (Batched.Count count) (Verdict.Refused cause) n c = absurd c
 both-counted (Batched.Refused cause place) word n c = absurd c
 
-each-passed : (n : ℕ) (word : ℕ → Verdict) → Counted (wordsBelow n word) → (i : ℕ) → i < n → word i ≡ Verdict.Passed
-unfolding wordsBelow
+each-passed : (n : ℕ) (word : ℕ → Verdict) → Counted (batchBelow n word) → (i : ℕ) → i < n → word i ≡ Verdict.Passed
+unfolding batchBelow
 each-passed zero word c i h = absurd (not-suc-le-zero h)
 each-passed (suc n) word c i h =
-    let both = both-counted (wordsBelow n word) (word n) n c in
+    let both = both-counted (batchBelow n word) (word n) n c in
     below-suc h (λ (at : i ≡ n). rw at (both .1)) (each-passed n word (both .0) i)
 
-pub batch-passed : (n count : ℕ) (word : ℕ → Verdict) → wordsBelow n word ≡ Batched.Count count
+pub batch-passed : (n count : ℕ) (word : ℕ → Verdict) → batchBelow n word ≡ Batched.Count count
     → (i : ℕ) → i < n → word i ≡ Verdict.Passed
 batch-passed n count word e = each-passed n word (subst Counted (sym e) tt)
 

@@ -22,8 +22,8 @@ use Rattle.evaluating.specs.Evaluate.{wordChecks}
 use Rattle.evaluating.specs.Batch.{
   outputCheck,
   roomVerdict,
-  oneMore,
-  wordsBelow,
+  withWord,
+  batchBelow,
   placeVerdict,
   afterRoom,
   batchAnswer,
@@ -40,17 +40,17 @@ abbrev refusal : Batched → Verdict
 refusal (Batched.Count count) = Verdict.Passed
 refusal (Batched.Refused cause place) = Verdict.Refused cause
 
-more-refusal : (before : Batched) (word : Verdict) (n : ℕ) → refusal (oneMore before word n) ≡ after (refusal before) word
+more-refusal : (before : Batched) (word : Verdict) (n : ℕ) → refusal (withWord before word n) ≡ after (refusal before) word
 more-refusal (Batched.Count count) Verdict.Passed n = refl
 more-refusal (Batched.Count count) (Verdict.Refused cause) n = refl
 more-refusal (Batched.Refused cause place) word n = refl
 
 -- It is that of all checks in their order.
-words-refusal : (n : ℕ) (word : ℕ → List Check) → refusal (wordsBelow n (λ i. verdict (word i))) ≡ verdict (checksBelow n word)
-unfolding wordsBelow checksBelow
+words-refusal : (n : ℕ) (word : ℕ → List Check) → refusal (batchBelow n (λ i. verdict (word i))) ≡ verdict (checksBelow n word)
+unfolding batchBelow checksBelow
 words-refusal zero word = refl
 words-refusal (suc n) word =
-    more-refusal (wordsBelow n (λ i. verdict (word i))) (verdict (word n)) n
+    more-refusal (batchBelow n (λ i. verdict (word i))) (verdict (word n)) n
     ∙ ap (λ (v : Verdict). after v (verdict (word n))) (words-refusal n word)
     ∙ sym (verdict-append (checksBelow n word) (word n))
 
@@ -60,15 +60,15 @@ Placed n before (Batched.Count count) = (count ≡ n) × (before ≡ n)
 Placed n before (Batched.Refused cause place) = (place ≡ before) × (before < n)
 
 more-placed : (n before : ℕ) (answer : Batched) (word : Verdict) → Placed n before answer
-    → Placed (suc n) (cond (eqb before n && passes word) (suc n) before) (oneMore answer word n)
+    → Placed (suc n) (cond (eqb before n && passes word) (suc n) before) (withWord answer word n)
 more-placed n before (Batched.Count count) Verdict.Passed p = rw (eq-eqb before n (p .1)) (refl, refl)
 more-placed n before (Batched.Count count) (Verdict.Refused cause) p = rw (eq-eqb before n (p .1)) (sym (p .1), rw (p .1) (le-refl _))
 more-placed n before (Batched.Refused cause place) word p = rw (ne-eqb before n (λ e. omega (arith, p .1))) (p .0, le-step (p .1))
 
-words-placed : (n : ℕ) (word : ℕ → Verdict) → Placed n (passing n word) (wordsBelow n word)
-unfolding wordsBelow passing
+words-placed : (n : ℕ) (word : ℕ → Verdict) → Placed n (passing n word) (batchBelow n word)
+unfolding batchBelow passing
 words-placed zero word = (refl, refl)
-words-placed (suc n) word = more-placed n (passing n word) (wordsBelow n word) (word n) (words-placed n word)
+words-placed (suc n) word = more-placed n (passing n word) (batchBelow n word) (word n) (words-placed n word)
 
 placed-told : (n before : ℕ) (room : Verdict) (answer : Batched) → Placed n before answer
     → toldBy (afterRoom room answer) ≡ toldAt (after room (refusal answer)) (placeIf room before) n

@@ -23,7 +23,7 @@ use Rattle.design.proofs.StoredLaws.{place-in-total, from-size}
 use Rattle.design.proofs.CutLaws.{segment-word-lt, offset-word-lt, initial-word-lt}
 use Rattle.tables.specs.Sum.{offsetFor, sumAt, sumOutside}
 use Rattle.evaluating.specs.Evaluate.{wordChecks}
-use Rattle.evaluating.specs.Batch.{wordsBelow, placeVerdict}
+use Rattle.evaluating.specs.Batch.{batchBelow, placeVerdict}
 use Rattle.evaluating.specs.Range.{SumsInRange, widthAnswer}
 
 -- n + z for an n that z cannot take below 0
@@ -95,6 +95,6 @@ module _ (d : Design) (initial : List ℕ) (offsets : List ℤ) (stay : SumsInRa
   width-decides x true e = rw e
   width-decides x false e = rw (e, stay x (leb-false _ _ e))
 
-  pub width-answers : (words : List ℕ) → widthAnswer (d .w) words ≡ wordsBelow (length words) (placeVerdict d initial offsets words)
+  pub width-answers : (words : List ℕ) → widthAnswer (d .w) words ≡ batchBelow (length words) (placeVerdict d initial offsets words)
   unfolding widthAnswer placeVerdict
-  width-answers words = ap (wordsBelow (length words)) (fun-ext (λ n. width-decides (getD words n 0) _ refl))
+  width-answers words = ap (batchBelow (length words)) (fun-ext (λ n. width-decides (getD words n 0) _ refl))

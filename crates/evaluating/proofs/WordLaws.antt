@@ -8,7 +8,6 @@ use lib.IntN.{ℤ}
 use borrow.Author.Tests.{leb-false, le-leb, lt-leb}
 use Rattle.refusal.specs.declared.Cause.{Cause}
 use Rattle.refusal.specs.declared.Verdict.{Verdict}
-use Rattle.refusal.specs.Told.{told}
 use Rattle.refusal.specs.Checks.{verdict}
 use Rattle.refusal.proofs.Checks.{none-fails}
 use Rattle.values.specs.declared.OutputUnits.{OutputUnits}
@@ -16,7 +15,7 @@ use Rattle.values.specs.Value.{wordCheck}
 use Rattle.design.specs.declared.Design.{Design}
 use Rattle.evaluating.specs.declared.Evaluated.{Evaluated}
 use Rattle.tables.specs.Sum.{sumAt, sumOutside}
-use Rattle.evaluating.specs.Evaluate.{wordChecks, evaluated, toldBy}
+use Rattle.evaluating.specs.Evaluate.{wordChecks, evaluated}
 
 module _ (d : Design) (initial : List ℕ) (offsets : List ℤ) (x : ℕ) where
   pub word-past : 2 ^ d .w ≤ x → verdict (wordChecks d initial offsets x) ≡ Verdict.Refused Cause.WordRange
@@ -40,11 +39,7 @@ module _ (d : Design) (initial : List ℕ) (offsets : List ℤ) (x : ℕ) where
       let none = none-fails (wordChecks d initial offsets x) e in
       (leb-false _ _ (none .0), none .1 .0)
 
--- The answer for a word tells its verdict and the word.
-pub evaluated-told : (v : Verdict) (word : ℕ) → toldBy (evaluated v word) ≡ told v word
-evaluated-told Verdict.Passed word = refl
-evaluated-told (Verdict.Refused cause) word = refl
-
+-- The answer for a word tells its verdict.
 pub evaluated-refused : (v : Verdict) (word : ℕ) {cause : Cause} → evaluated v word ≡ Evaluated.Refused cause → v ≡ Verdict.Refused cause
 evaluated-refused Verdict.Passed word e = let z : _≡_ {A = ℕ} 0 1 = cc in absurd (omega arith)
 evaluated-refused (Verdict.Refused cause) word e = cc

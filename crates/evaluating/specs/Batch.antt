@@ -8,7 +8,7 @@ use lib.IntN.{ℤ}
 use Rattle.refusal.specs.declared.Cause.{Cause}
 use Rattle.refusal.specs.declared.Verdict.{Verdict}
 use Rattle.refusal.specs.Numbers.{numberOf}
-use Rattle.refusal.specs.Checks.{Check, _↝_, verdict, passes}
+use Rattle.refusal.specs.Checks.{Check, _↝_, verdict, ifPassed, passes}
 use Rattle.refusal.specs.Told.{Told, accepted, refused, toldAt}
 use Rattle.design.specs.declared.Design.{Design}
 use Rattle.evaluating.specs.declared.Batched.{Batched}
@@ -26,27 +26,26 @@ roomVerdict d initial offsets words output =
     verdict (setChecks d (length initial) (length offsets) ++ outputCheck words output ∷ [])
 
 -- "all evaluated or all refused, at its lowest bad place": the answer for n words, then for one more
-abbrev pub oneMore : Batched → Verdict → ℕ → Batched
-oneMore (Batched.Refused cause place) word n = Batched.Refused cause place
-oneMore (Batched.Count count) (Verdict.Refused cause) n = Batched.Refused cause n
-oneMore (Batched.Count count) Verdict.Passed n = Batched.Count (suc n)
+abbrev pub withWord : Batched → Verdict → ℕ → Batched
+withWord (Batched.Refused cause place) word n = Batched.Refused cause place
+withWord (Batched.Count count) (Verdict.Refused cause) n = Batched.Refused cause n
+withWord (Batched.Count count) Verdict.Passed n = Batched.Count (suc n)
 
 -- The answer for the first n words, by each word's verdict. ".. an accepted batch returns its number of words, 0 for an empty one."
-unfoldable pub wordsBelow : ℕ → (ℕ → Verdict) → Batched
-wordsBelow zero word = Batched.Count 0
-wordsBelow (suc n) word = oneMore (wordsBelow n word) (word n) n
+unfoldable pub batchBelow : ℕ → (ℕ → Verdict) → Batched
+batchBelow zero word = Batched.Count 0
+batchBelow (suc n) word = withWord (batchBelow n word) (word n) n
 
 unfoldable pub placeVerdict : Design → List ℕ → List ℤ → List ℕ → ℕ → Verdict
 placeVerdict d initial offsets words n = verdict (wordChecks d initial offsets (getD words n 0))
 
 -- "for a batch also the place of the word (0 for all other causes)"
 abbrev pub afterRoom : Verdict → Batched → Batched
-afterRoom Verdict.Passed answer = answer
-afterRoom (Verdict.Refused cause) answer = Batched.Refused cause 0
+afterRoom room answer = ifPassed room answer (λ cause. Batched.Refused cause 0)
 
 unfoldable pub batchAnswer : Design → List ℕ → List ℤ → List ℕ → ℕ → Batched
 batchAnswer d initial offsets words output =
-    afterRoom (roomVerdict d initial offsets (length words) output) (wordsBelow (length words) (placeVerdict d initial offsets words))
+    afterRoom (roomVerdict d initial offsets (length words) output) (batchBelow (length words) (placeVerdict d initial offsets words))
 
 -- All checks of a batch in their order, "for a batch 14, then 12 and 13 word by word": those of the first n words,
 unfoldable pub checksBelow : ℕ → (ℕ → List Check) → List Check
@@ -81,8 +80,7 @@ passing (suc n) word = cond (eqb (passing n word) n && passes (word n)) (suc n) 
 
 -- "for a batch also the place of the word (0 for all other causes)"
 abbrev pub placeIf : Verdict → ℕ → ℕ
-placeIf Verdict.Passed place = place
-placeIf (Verdict.Refused cause) place = 0
+placeIf room place = ifPassed room place (λ cause. 0)
 
 -- What is to be told: the refusal's number, by all checks in their order, and the place of the lowest bad word; else how many words
 unfoldable pub batchTold : Design → List ℕ → List ℤ → List ℕ → ℕ → Told ℕ

@@ -6,7 +6,7 @@ use lib.IntN.{ℤ}
 use Rattle.refusal.specs.declared.Cause.{Cause}
 use Rattle.refusal.specs.declared.Verdict.{Verdict}
 use Rattle.refusal.specs.Numbers.{numberOf}
-use Rattle.refusal.specs.Checks.{Check, _↝_, verdict}
+use Rattle.refusal.specs.Checks.{Check, _↝_, verdict, ifPassed}
 use Rattle.refusal.specs.Told.{Told, accepted, refused, told}
 use Rattle.values.specs.Value.{wordCheck}
 use Rattle.design.specs.declared.Design.{Design}
@@ -22,8 +22,7 @@ unfoldable pub evaluateVerdict : Design → List ℕ → List ℤ → ℕ → Ve
 evaluateVerdict d initial offsets x = verdict (setChecks d (length initial) (length offsets) ++ wordChecks d initial offsets x)
 
 abbrev pub evaluated : Verdict → ℕ → Evaluated
-evaluated Verdict.Passed word = Evaluated.Word (record { 0 = word })
-evaluated (Verdict.Refused cause) word = Evaluated.Refused cause
+evaluated v word = ifPassed v (Evaluated.Word (record { 0 = word })) Evaluated.Refused
 
 unfoldable pub evaluateAnswer : Design → List ℕ → List ℤ → ℕ → Evaluated
 evaluateAnswer d initial offsets x = evaluated (evaluateVerdict d initial offsets x) (wordAt d initial offsets x)

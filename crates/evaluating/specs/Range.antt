@@ -10,7 +10,7 @@ use Rattle.values.specs.Value.{wordCheck}
 use Rattle.design.specs.declared.Design.{Design}
 use Rattle.evaluating.specs.declared.Batched.{Batched}
 use Rattle.tables.specs.Sum.{sumAt, sumOutside}
-use Rattle.evaluating.specs.Batch.{wordsBelow}
+use Rattle.evaluating.specs.Batch.{batchBelow}
 
 -- Every word's sum is in range, "0 ≤ Y < 2^(P+2)".
 abbrev pub SumsInRange : Design → List ℕ → List ℤ → Type 0
@@ -18,4 +18,4 @@ SumsInRange d initial offsets = (x : ℕ) → x < 2 ^ d .w → sumOutside d (sum
 
 -- The answer for a batch then: 12 is all that can turn a word down.
 unfoldable pub widthAnswer : ℕ → List ℕ → Batched
-widthAnswer w words = wordsBelow (length words) (λ n. verdict (wordCheck w (getD words n 0) ∷ []))
+widthAnswer w words = batchBelow (length words) (λ n. verdict (wordCheck w (getD words n 0) ∷ []))

@@ -9,7 +9,7 @@ ghost use Rattle.tables.specs.Lookup.{lookupsOf};
 ghost use Rattle.tables.specs.Sum.{wordAt};
 ghost use Rattle.evaluating.specs.Evaluate.{wordChecks, evaluated, evaluateAnswer, evaluateTold};
 ghost use Rattle.evaluating.specs.Evaluate as Evaluate;
-ghost use Rattle.evaluating.specs.Batch.{roomVerdict, placeVerdict, wordsBelow, batchAnswer, batchTold, outputAfter};
+ghost use Rattle.evaluating.specs.Batch.{roomVerdict, placeVerdict, batchBelow, batchAnswer, batchTold, outputAfter};
 ghost use Rattle.evaluating.specs.Batch as Batch;
 
 mod range;
@@ -92,7 +92,7 @@ fn summed_verdict(
 ) -> Batched
     requires { ⌜ Usable d (length (now initial)) (length (now offsets)) ⌝ }
     requires { ⌜ lookups ≡ lookupsOf d ⌝ }
-    ensures { λ r. ⌜ r ≡ wordsBelow (length (now (words .entry)))
+    ensures { λ r. ⌜ r ≡ batchBelow (length (now (words .entry)))
         (placeVerdict d (now (initial .entry)) (now (offsets .entry)) (now (words .entry))) ⌝ }
 {
     for i in 0..words.len() {
@@ -114,7 +114,7 @@ fn words_verdict(
 ) -> Batched
     requires { ⌜ Usable d (length (now initial)) (length (now offsets)) ⌝ }
     requires { ⌜ lookups ≡ lookupsOf d ⌝ }
-    ensures { λ r. ⌜ r ≡ wordsBelow (length (now (words .entry)))
+    ensures { λ r. ⌜ r ≡ batchBelow (length (now (words .entry)))
         (placeVerdict d (now (initial .entry)) (now (offsets .entry)) (now (words .entry))) ⌝ }
 {
     let entries = pow2(d.alpha) + offset_total(d);

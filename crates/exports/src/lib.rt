@@ -2,9 +2,6 @@
 // the answer behind a pointer; where it is refused, what is behind the pointer stands, but for a batch's place. Here are those on designs
 // and tables.
 ghost use mathlib.Core.Path.{_≡_};
-ghost use mathlib.Core.Bool.{cond};
-ghost use Prim.Native.Nat.{_^_};
-ghost use lib.Dec.{leb};
 ghost use lib.ListN.{length};
 ghost use Rattle.refusal.specs.Numbers.{verdictNumber};
 ghost use Rattle.refusal.specs.Told.{numberTold};
@@ -100,17 +97,6 @@ pub extern "C" fn dorykleth_fill(design: &[u32; 14], initial: &mut [u32], offset
     verdict_number(fill(design_of(design), initial, offsets))
 }
 
-// How many input words a design has: 2^w. A width that no legal design has counts as none, so that any design may be asked.
-fn words_of(d: Design) -> u64
-    ensures { λ r. ⌜ r ≡ cond (leb (d .w) 16) (2 ^ d .w) 0 ⌝ }
-{
-    let w = d.w;
-    if 16 < w {
-        return 0;
-    }
-    pow2(w)
-}
-
 // Y itself, before it is cut off to a word: refusals 1 to 10 and 12.
 #[no_mangle]
 pub extern "C" fn dorykleth_sum(
@@ -130,7 +116,7 @@ pub extern "C" fn dorykleth_sum(
     if let Verdict::Refused(cause) = set_verdict(d, initial.len(), offsets.len()) {
         return number(cause);
     }
-    if words_of(d) <= x as u64 {
+    if pow2(d.w) <= x as u64 {
         return number(Cause::WordRange);
     }
     let units = sum_of(d, lookups_of(d), initial, offsets, x);
@@ -216,7 +202,7 @@ pub extern "C" fn dorykleth_check(
     let d = design_of(design);
     match check(d, initial, offsets) {
         Checked::Faithful => {
-            *first = words_of(d);
+            *first = pow2(d.w);
             0
         }
         Checked::Unfaithful(x) => {

@@ -17,7 +17,7 @@ use Rattle.evaluating.specs.Evaluate.{wordChecks, evaluateVerdict, evaluateAnsw
 use Rattle.evaluating.specs.Batch.{
   outputCheck,
   roomVerdict,
-  wordsBelow,
+  batchBelow,
   placeVerdict,
   batchAnswer,
   checksBelow,
@@ -26,12 +26,11 @@ use Rattle.evaluating.specs.Batch.{
   passing,
   batchTold,
 }
-use Rattle.checking.specs.Check as Check
-use Rattle.checking.specs.Check.{faithfulAt, checkVerdict, checkAnswer, checkTold}
+use Rattle.checking.specs.Check.{faithfulAt, findingBelow, checkVerdict, checkAnswer, checkTold}
 
 unfoldable pub calls-opened : Unit {0}
 unfolding
     entries-opened tables-opened admittedCheck fillVerdict listBelow initialEntries storedOffset tableEntries offsetsBelow offsetEntries initialAfter
-    offsetsAfter wordChecks evaluateVerdict evaluateAnswer evaluateTold outputCheck roomVerdict wordsBelow placeVerdict batchAnswer
-    checksBelow batchVerdict outputAfter passing batchTold faithfulAt Check.wordsBelow checkVerdict checkAnswer checkTold
+    offsetsAfter wordChecks evaluateVerdict evaluateAnswer evaluateTold outputCheck roomVerdict batchBelow placeVerdict batchAnswer
+    checksBelow batchVerdict outputAfter passing batchTold faithfulAt findingBelow checkVerdict checkAnswer checkTold
 calls-opened = tt

@@ -6,7 +6,7 @@ use lib.IntN.{ℤ, pos}
 use Rattle.refusal.specs.declared.Cause.{Cause}
 use Rattle.refusal.specs.declared.Verdict.{Verdict}
 use Rattle.refusal.specs.Numbers.{numberOf}
-use Rattle.refusal.specs.Checks.{Check, _↝_, verdict}
+use Rattle.refusal.specs.Checks.{Check, _↝_, verdict, ifPassed}
 use Rattle.refusal.specs.Told.{Told, accepted, refused, told}
 use Rattle.values.specs.declared.Valued.{Valued}
 use Rattle.values.specs.Rows.{rowOf}
@@ -17,15 +17,12 @@ use Rattle.values.specs.Widths.{limitsOf, widthChecks}
 unfoldable pub wordCheck : ℕ → ℕ → Check
 wordCheck w x = leb (2 ^ w) x ↝ Cause.WordRange
 
-abbrev pub valued : Verdict → ℕ → Valued
-valued Verdict.Passed n = Valued.Value (record { 0 = pos n })
-valued (Verdict.Refused cause) n = Valued.Refused cause
-
 unfoldable pub valueVerdict : ℕ → ℕ → ℕ → ℕ → ℕ → Verdict
 valueVerdict kind w q g x = verdict (widthChecks (limitsOf kind) kind w q g ++ wordCheck w x ∷ [])
 
 unfoldable pub valueOf : ℕ → ℕ → ℕ → ℕ → ℕ → Valued
-valueOf kind w q g x = valued (valueVerdict kind w q g x) (floorValue (rowOf kind) w (q + g) (2 ^ w + x))
+valueOf kind w q g x =
+    ifPassed (valueVerdict kind w q g x) (Valued.Value (record { 0 = pos (floorValue (rowOf kind) w (q + g) (2 ^ w + x)) })) Valued.Refused
 
 -- What each answer tells: the value, in table units, or the refusal's number
 abbrev pub toldBy : Valued → Told ℤ

@@ -1,5 +1,5 @@
 -- `checking::check` meets its contract: refusals 1 to 10, then the search.
-use mathlib.Core.Path.{_≡_, sym, ap, _∙_}
+use mathlib.Core.Path.{_≡_, refl, sym, ap, _∙_}
 use mathlib.Core.List.{List}
 use Prim.Native.Nat.{ℕ, _^_}
 use lib.IntN.{ℤ}
@@ -7,13 +7,14 @@ use lib.ListN.{length}
 use borrow.Author.Needs.{needs}
 use Rattle.refusal.specs.declared.Cause.{Cause}
 use Rattle.refusal.specs.declared.Verdict.{Verdict}
+use Rattle.refusal.proofs.Answers.{answer-told}
 use Rattle.design.specs.declared.Design.{Design}
 use Rattle.design.proofs.LegalLaws.{limits}
 use Rattle.checking.specs.declared.Checked.{Checked}
 use Rattle.tables.specs.Inputs.{Usable}
-use Rattle.checking.specs.Check.{faithfulAt, wordsBelow, checked, checkVerdict, checkAnswer, toldBy, checkTold}
+use Rattle.checking.specs.Check.{faithfulAt, findingBelow, found, checkVerdict, checkAnswer, toldBy, checkTold}
 use Rattle.tables.proofs.SetLaws.{usable}
-use Rattle.checking.proofs.CheckLaws.{check-searches, checked-told}
+use Rattle.checking.proofs.CheckLaws.{check-searches, found-told}
 use Rattle.checking.proofs.check.Statement.{statement}
 use Rattle.checking.proofs.check.Tie as tie
 
@@ -24,14 +25,14 @@ module _ (d : Design) (initial : List ℕ) (offsets : List ℤ) where
 
   promised : (r : Checked) → r ≡ checkAnswer d initial offsets → Promised r
   unfolding checkAnswer checkTold
-  promised r e = (e, ap toldBy e ∙ checked-told (checkVerdict d initial offsets) _)
+  promised r e = (e, ap toldBy e ∙ answer-told toldBy (checkVerdict d initial offsets) _ Checked.Refused _ (found-told _) (λ cause. refl))
 
   refused : (cause : Cause) → checkVerdict d initial offsets ≡ Verdict.Refused cause → Promised (Checked.Refused cause)
   unfolding checkAnswer
   refused cause e = promised _ (rw e)
 
   searched : checkVerdict d initial offsets ≡ Verdict.Passed → (r : Checked)
-      → r ≡ checked Verdict.Passed (wordsBelow (2 ^ d .w) (faithfulAt d initial offsets)) → Promised r
+      → r ≡ found (findingBelow (2 ^ d .w) (faithfulAt d initial offsets)) → Promised r
   searched e r r-is = promised r (r-is ∙ sym (check-searches d initial offsets e))
 
 set-verdict-requires : tie.Need-set-verdict-requires

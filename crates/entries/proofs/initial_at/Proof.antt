@@ -12,7 +12,7 @@ use Rattle.design.specs.Stored.{initialCount}
 use Rattle.design.specs.Legal.{Legal}
 use Rattle.design.proofs.LegalLaws.{limits}
 use Rattle.entries.specs.Entries.{valueAt, endValues, initialAt}
-use Rattle.entries.proofs.EntryBounds.{interval-input, unit-small, half-sum-small}
+use Rattle.entries.proofs.EntryBounds.{interval-input, unit-small, half-sum-below}
 use Rattle.entries.proofs.initial_at.Statement.{statement}
 use Rattle.entries.proofs.initial_at.Tie as tie
 use Rattle.entries.proofs.initial_at.Tie as tie
@@ -89,7 +89,8 @@ entry-small : (c : tie.After-pow2) → let values = c .before .before .before in
 entry-small c =
     let values = c .before .before .before in
     let l = limits _ (values .before .before .before .before .pre .0) in
-    half-sum-small _ _ _ _ (values .before .value-at .ensures .1) (values .value-at2 .ensures .1) (l .m-high) (half-unit c)
+    half-sum-below floorBound _ _ _ _ (values .before .value-at .ensures .1) (values .value-at2 .ensures .1) (l .m-high) (half-unit c)
+    (omega arith)
 
 add-result-3 : tie.Need-add-result-3
 add-result-3 c = omega (arith, entry-small c)

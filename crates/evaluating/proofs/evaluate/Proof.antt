@@ -1,5 +1,5 @@
 -- `evaluating::evaluate` meets its contract: the verdict of the set, then the answer for the word.
-use mathlib.Core.Path.{_≡_, sym, ap, _∙_}
+use mathlib.Core.Path.{_≡_, refl, sym, ap, _∙_}
 use mathlib.Core.List.{List}
 use Prim.Native.Nat.{ℕ}
 use borrow.Author.Needs.{needs}
@@ -9,13 +9,13 @@ use Rattle.refusal.specs.declared.Cause.{Cause}
 use Rattle.refusal.specs.declared.Verdict.{Verdict}
 use Rattle.refusal.specs.Checks.{verdict}
 use Rattle.refusal.proofs.Checks.{verdict-append}
+use Rattle.refusal.proofs.Answers.{answer-told}
 use Rattle.design.specs.declared.Design.{Design}
 use Rattle.evaluating.specs.declared.Evaluated.{Evaluated}
 use Rattle.tables.specs.Sum.{wordAt}
 use Rattle.tables.specs.Set.{setChecks}
 use Rattle.evaluating.specs.Evaluate.{wordChecks, evaluated, evaluateVerdict, evaluateAnswer, toldBy, evaluateTold}
 use Rattle.tables.proofs.SetLaws.{usable}
-use Rattle.evaluating.proofs.WordLaws.{evaluated-told}
 use Rattle.evaluating.proofs.evaluate.Statement.{statement}
 use Rattle.evaluating.proofs.evaluate.Tie as tie
 
@@ -27,7 +27,7 @@ module _ (d : Design) (initial : List ℕ) (offsets : List ℤ) (x : ℕ) where
 
   promised : (r : Evaluated) → r ≡ evaluateAnswer d initial offsets x → Promised r
   unfolding evaluateAnswer evaluateTold
-  promised r e = (e, ap toldBy e ∙ evaluated-told (evaluateVerdict d initial offsets x) _)
+  promised r e = (e, ap toldBy e ∙ answer-told toldBy (evaluateVerdict d initial offsets x) _ Evaluated.Refused _ refl (λ cause. refl))
 
   refused : (cause : Cause) → verdict (setChecks d (length initial) (length offsets)) ≡ Verdict.Refused cause
       → Promised (Evaluated.Refused cause)

@@ -10,7 +10,7 @@ use Rattle.refusal.specs.declared.Verdict.{Verdict}
 use Rattle.design.specs.declared.Design.{Design}
 use Rattle.evaluating.specs.declared.Batched.{Batched}
 use Rattle.tables.specs.Sum.{wordAt}
-use Rattle.evaluating.specs.Batch.{roomVerdict, wordsBelow, placeVerdict, batchAnswer, outputLeft, outputAfter, toldBy, batchTold}
+use Rattle.evaluating.specs.Batch.{roomVerdict, batchBelow, placeVerdict, batchAnswer, outputLeft, outputAfter, toldBy, batchTold}
 use Rattle.evaluating.proofs.BatchLaws.{batch-all, batch-passed, room-tells}
 use Rattle.evaluating.proofs.BatchTold.{batch-told}
 use Rattle.evaluating.proofs.evaluate_batch.Statement.{statement}
@@ -37,13 +37,13 @@ module _ (d : Design) (initial : List ℕ) (offsets : List ℤ) (words output : 
 
   module _ (room : roomVerdict d initial offsets (length words) (length output) ≡ Verdict.Passed) where
     word-refused : (cause : Cause) (place : ℕ)
-        → wordsBelow (length words) (placeVerdict d initial offsets words) ≡ Batched.Refused cause place
+        → batchBelow (length words) (placeVerdict d initial offsets words) ≡ Batched.Refused cause place
         → Promised (Batched.Refused cause place) output
     unfolding batchAnswer
     word-refused cause place e = answered (Batched.Refused cause place) output (rw (room, e)) refl
 
     accepted : ((i : ℕ) → i < length words → placeVerdict d initial offsets words i ≡ Verdict.Passed)
-        → (r : Batched) (left : List ℕ) → r ≡ wordsBelow (length words) (placeVerdict d initial offsets words)
+        → (r : Batched) (left : List ℕ) → r ≡ batchBelow (length words) (placeVerdict d initial offsets words)
         → left ≡ map (wordAt d initial offsets) words ++ drop (length words) output → Promised r left
     unfolding batchAnswer
     accepted all r left r-is left-is =

@@ -1,7 +1,7 @@
 -- `exports::dorykleth_check` meets its contract: the lowest unfaithful word, 2^w, or the number of the cause.
 use mathlib.Core.Path.{refl, sym, _∙_}
 use borrow.Author.Needs.{needs}
-use Rattle.exports.proofs.WordCount.{words-counted, faithful-legal}
+use Rattle.exports.proofs.WordCount.{few-bits, faithful-legal}
 use Rattle.exports.proofs.dorykleth_check.Statement.{statement}
 use Rattle.exports.proofs.dorykleth_check.Tie as tie
 
@@ -14,8 +14,9 @@ check-requires c κs = search needs
 enum-told : tie.Need-enum-told
 enum-told c = search needs
 
-words-of-requires : tie.Need-words-of-requires
-words-of-requires c κs = search needs
+-- a design whose set is faithful is legal
+pow2-requires : tie.Need-pow2-requires
+pow2-requires c κs = few-bits _ (faithful-legal _ _ _ (sym (c .before .before .check .ensures .0) ∙ c .enum-told .given .1))
 
 enum-known-x : tie.Need-enum-known-x
 enum-known-x c = search needs
@@ -34,7 +35,7 @@ returns c =
     let a = c .before .before .before in
     let faithful = c .before .enum-told .given .1 in
     rw (← a .before .design-of .ensures, ← a .check .ensures .1, faithful)
-    (refl, c .words-of .ensures ∙ words-counted _ (faithful-legal _ _ _ (sym (a .check .ensures .0) ∙ faithful)))
+    (refl, c .pow2 .ensures)
 
 returns-2 : tie.Need-returns-2
 returns-2 c =
@@ -55,7 +56,7 @@ dorykleth-check-spec =
     design-of-requires
     check-requires
     enum-told
-    words-of-requires
+    pow2-requires
     enum-known-x
     cast-first
     enum-known-cause

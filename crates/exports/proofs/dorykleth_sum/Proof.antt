@@ -1,6 +1,5 @@
 -- `exports::dorykleth_sum` meets its contract: the verdict of the set, then the word, then the sum.
 use mathlib.Core.Path.{_≡_, refl, sym, ap, _∙_}
-use Prim.Native.Nat.{_^_}
 use borrow.Author.Needs.{needs}
 use mir.Syntax.{w64}
 use mir.ValLaws.{toZ-ofZ}
@@ -10,7 +9,7 @@ use Rattle.refusal.specs.Checks.{verdict}
 use Rattle.values.specs.declared.TableUnits.{TableUnits}
 use Rattle.tables.specs.Set.{setChecks}
 use Rattle.tables.proofs.SetLaws.{usable}
-use Rattle.exports.proofs.WordCount.{words-counted}
+use Rattle.exports.proofs.WordCount.{few-bits}
 use Rattle.exports.proofs.SumCall.{set-refuses, word-refuses, none-refuses, by-verdict}
 use Rattle.exports.proofs.dorykleth_sum.Statement.{statement}
 use Rattle.exports.proofs.dorykleth_sum.Tie as tie
@@ -44,12 +43,8 @@ set-passed : (c : tie.After-enum-told) →
     verdict (setChecks (d .design-of .result) (length (a .initial .now)) (length (a .offsets .now))) ≡ Verdict.Passed
 set-passed c = sym (c .before .before .set-verdict .ensures) ∙ c .enum-told .given .1
 
-words-of-requires : tie.Need-words-of-requires
-words-of-requires c κs = search needs
-
--- there are 2^w words
-counted : (c : tie.After-words-of) → c .words-of .result ≡ 2 ^ c .before .before .before .before .design-of .result .w
-counted c = c .words-of .ensures ∙ words-counted _ (usable _ _ _ (set-passed (c .before)) .legal)
+pow2-requires : tie.Need-pow2-requires
+pow2-requires c κs = few-bits _ (usable _ _ _ (set-passed c) .legal)
 
 number-requires-2 : tie.Need-number-requires-2
 number-requires-2 c κs = search needs
@@ -59,7 +54,7 @@ returns-2 c =
     let w = c .before .before in
     let t = w .before in
     rw (← t .before .before .before .design-of .ensures)
-    (by-verdict _ _ _ _ _ (word-refuses _ _ _ _ (set-passed t) (rw (counted w) at (c .before .if1 .taken))) _
+    (by-verdict _ _ _ _ _ (word-refuses _ _ _ _ (set-passed t) (rw (w .pow2 .ensures) at (c .before .if1 .taken))) _
     (c .number2 .ensures) _ _ refl)
 
 lookups-of-requires : tie.Need-lookups-of-requires
@@ -68,7 +63,7 @@ lookups-of-requires c κs = usable _ _ _ (set-passed (c .before .before)) .legal
 sum-of-requires : tie.Need-sum-of-requires
 sum-of-requires c κs =
     let b = c .before in
-    (usable _ _ _ (set-passed (b .before .before)), (c .lookups-of .ensures, rw (counted (b .before)) at (b .if1 .left)))
+    (usable _ _ _ (set-passed (b .before .before)), (c .lookups-of .ensures, rw (b .before .pow2 .ensures) at (b .if1 .left)))
 
 returns-3 : tie.Need-returns-3
 returns-3 c =
@@ -77,7 +72,7 @@ returns-3 c =
     let w = b .before in
     let t = w .before in
     rw (← t .before .before .before .design-of .ensures)
-    (by-verdict _ _ _ _ _ (none-refuses _ _ _ _ (set-passed t) (rw (counted w) at (b .if1 .left))) _ refl _ _
+    (by-verdict _ _ _ _ _ (none-refuses _ _ _ _ (set-passed t) (rw (w .pow2 .ensures) at (b .if1 .left))) _ refl _ _
     (toZ-ofZ w64 _ (record { sfits = c .struct-told .given .0 .1 }) ∙ ap (λ (units : TableUnits). units .0) (s .sum-of .ensures)))
 
 pub dorykleth-sum-spec : {M : Type 1} → statement M
@@ -90,7 +85,7 @@ dorykleth-sum-spec =
     number-requires
     returns
     enum-told
-    words-of-requires
+    pow2-requires
     number-requires-2
     returns-2
     lookups-of-requires

@@ -8,23 +8,19 @@ use lib.IntN.{pos}
 use Rattle.refusal.specs.declared.Cause.{Cause}
 use Rattle.refusal.specs.declared.Verdict.{Verdict}
 use Rattle.refusal.specs.Checks.{verdict}
-use Rattle.refusal.specs.Told.{told}
 use Rattle.refusal.proofs.Checks.{verdict-append}
+use Rattle.refusal.proofs.Answers.{answer-told}
 use Rattle.values.specs.declared.TableUnits.{TableUnits}
 use Rattle.values.specs.declared.Valued.{Valued}
 use Rattle.values.specs.Rows.{rowOf}
 use Rattle.values.specs.Floor.{floorValue}
 use Rattle.values.specs.Inputs.{FloorInput}
 use Rattle.values.specs.Widths.{limitsOf, widthChecks}
-use Rattle.values.specs.Value.{valued, valueVerdict, valueOf, wordCheck, toldBy, valueTold}
+use Rattle.values.specs.Value.{valueVerdict, valueOf, wordCheck, toldBy, valueTold}
 use Rattle.values.proofs.Bounds.{words-few}
 use Rattle.values.proofs.WidthLaws.{Widths, widths-of}
 use Rattle.values.proofs.value.Statement.{statement}
 use Rattle.values.proofs.value.Tie as tie
-
-valued-told : (v : Verdict) (n : ℕ) → toldBy (valued v n) ≡ told v (pos n)
-valued-told Verdict.Passed n = refl
-valued-told (Verdict.Refused cause) n = refl
 
 -- The answer by the verdict of the widths and the test of the word.
 module _ (kind w q g x : ℕ) where
@@ -34,7 +30,7 @@ module _ (kind w q g x : ℕ) where
 
   promised : (r : Valued) → r ≡ valueOf kind w q g x → Promised r
   unfolding valueOf valueTold
-  promised r e = (e, ap toldBy e ∙ valued-told (valueVerdict kind w q g x) _)
+  promised r e = (e, ap toldBy e ∙ answer-told toldBy (valueVerdict kind w q g x) _ Valued.Refused _ refl (λ cause. refl))
 
   refused : (cause : Cause) → verdict (widthChecks (limitsOf kind) kind w q g) ≡ Verdict.Refused cause → Promised (Valued.Refused cause)
   unfolding valueOf valueVerdict wordCheck
