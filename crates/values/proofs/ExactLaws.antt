@@ -2,7 +2,8 @@
 use mathlib.Core.Path.{_≡_, refl, ap, _∙_}
 use mathlib.Core.Bool.{Bool, true, false, cond}
 use Prim.Native.Nat.{ℕ, zero, suc, _+_, _*_, _^_, _≤_, _<_}
-use native.Mathlib.Nat.{pow-suc, mul-comm, mul-assoc, mul-le-mul-left, mul-le-mul-right, mul-lt-mul-of-pos-left, pow-le-pow-left, mul-zero, le-of-mul-le-mul-right, not-le-of-lt, lt-of-not-le, le-of-lt, le-trans, one-le-pow}
+use native.Mathlib.Nat.{pow-suc, mul-comm, mul-assoc, mul-le-mul-left, mul-le-mul-right, mul-lt-mul-of-pos-left, pow-le-pow-left}
+use native.Mathlib.Nat.{mul-zero, le-of-mul-le-mul-right, not-le-of-lt, lt-of-not-le, le-of-lt, le-trans, one-le-pow}
 use native.Mathlib.Omega.{arith}
 use native.Mathlib.Numerals.{add-one}
 use lib.Pow.{pow-add, pow-pos}

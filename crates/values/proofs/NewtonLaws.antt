@@ -2,7 +2,8 @@
 -- From anywhere it comes to the root, rounded down, or above it; from above the root it comes closer.
 use mathlib.Core.Path.{_≡_, refl, subst}
 use Prim.Native.Nat.{ℕ, suc, _+_, _-_, _*_, _/_, _^_, _≤_, _<_}
-use native.Mathlib.Nat.{pow-zero, pow-suc, pow-succ', one-le-pow, one-mul, mul-comm, mul-right-comm, mul-le-mul-right, div-lt-iff-lt-mul, lt-div-mul-add, lt-of-not-le}
+use native.Mathlib.Nat.{pow-zero, pow-suc, pow-succ', one-le-pow, one-mul, mul-comm, mul-right-comm, mul-le-mul-right, div-lt-iff-lt-mul}
+use native.Mathlib.Nat.{lt-div-mul-add, lt-of-not-le}
 use native.Mathlib.Decide.{decLe}
 use native.Mathlib.Numerals.{add-one}
 use native.Mathlib.Omega.{arith}

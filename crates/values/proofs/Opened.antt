@@ -11,6 +11,6 @@ use Rattle.values.specs.Value.{wordCheck, valueVerdict, valueOf}
 
 unfoldable pub values-opened : Unit {0}
 unfolding
-    rows kinds rowOf num den numberSide valueSide divisorPart numberPart valuePart isFaithful rootFrom scaled floorValue segmentStart segmentEnd hi lo spread largest largestSpread
-    limitsOf widthChecks wordCheck valueVerdict valueOf
+    rows kinds rowOf num den numberSide valueSide divisorPart numberPart valuePart isFaithful rootFrom scaled floorValue segmentStart
+    segmentEnd hi lo spread largest largestSpread limitsOf widthChecks wordCheck valueVerdict valueOf
 values-opened = tt

@@ -1,76 +1,68 @@
 -- What the checks of kind and widths leave, and the laws of the rows, computed over their table once.
-use mathlib.Core.Path.{_≡_}
-use mathlib.Core.Bool.{Bool, true, false, _&&_, _||_, true≢false}
+use mathlib.Core.Path.{_≡_, refl}
+use mathlib.Core.Bool.{Bool, true, _&&_, cond}
 use mathlib.Core.List.{List, [], _∷_}
 use Prim.Native.Nat.{ℕ, zero, suc, _+_, _*_, _^_, _≤_, _<_}
 use native.Mathlib.Nat.{le-trans, not-suc-le-zero}
 use native.Mathlib.Decide.{decLt}
 use native.Mathlib.Omega.{arith}
-use borrow.Author.Tests.{ltb-false}
-use lib.Dec.{T, leb, leb→le}
+use borrow.Author.Tests.{leb-true, ltb-false}
+use lib.Dec.{leb}
 use Rattle.refusal.specs.declared.Verdict.{Verdict}
 use Rattle.refusal.specs.Checks.{verdict}
-use Rattle.refusal.proofs.Checks.{none-fails, neither, inside}
+use Rattle.refusal.proofs.Checks.{both, none-fails, neither, inside}
 use Rattle.values.specs.declared.widths.Limits.{Limits}
 use Rattle.values.specs.Rows.{rows, kinds, rowOf, Lawful}
 use Rattle.values.specs.Room.{Room, highestDegree, widestWord, finestUnit}
 use Rattle.values.specs.Widths.{limitsOf, widthChecks}
 use Rattle.values.proofs.Bounds.{coarser, narrower}
 
-both : (a b : Bool) → T (a && b) → T a × T b
-both true b t = (tt, t)
-both false b t = absurd t
+-- Every first number of a list is at most its second, as a test and as a fact.
+abbrev allHold : List (ℕ × ℕ) → Bool
+allHold [] = true
+allHold (bound ∷ bounds) = leb (bound .0) (bound .1) && allHold bounds
 
--- Every test of a list passes, as a test and as a fact.
-abbrev allPass : List Bool → Bool
-allPass [] = true
-allPass (test ∷ tests) = test && allPass tests
+abbrev AllHold : List (ℕ × ℕ) → Type 0
+AllHold [] = Unit {0}
+AllHold (bound ∷ bounds) = (bound .0 ≤ bound .1) × AllHold bounds
 
-abbrev AllPass : List Bool → Type 0
-AllPass [] = Unit {0}
-AllPass (test ∷ tests) = T test × AllPass tests
-
-all-pass : (tests : List Bool) → T (allPass tests) → AllPass tests
-all-pass [] t = tt
-all-pass (test ∷ tests) t = let p = both test (allPass tests) t in (p .0, all-pass tests (p .1))
+all-hold : (bounds : List (ℕ × ℕ)) → allHold bounds ≡ true → AllHold bounds
+all-hold [] e = tt
+all-hold (bound ∷ bounds) e = let p = both _ _ e in (leb-true _ _ (p .0), all-hold bounds (p .1))
 
 -- What is asked of a kind below `kinds`: of its row, by the mathematics; of its row at its limits, by the machine; and of its limits.
-kindTests : ℕ → List Bool
-kindTests kind =
+asked : ℕ → List (ℕ × ℕ)
+asked kind =
     let row = rowOf kind in
     let limits = limitsOf kind in
-    leb 1 (row .c) ∷ leb 1 (row .k) ∷ leb (2 * row .c) (2 ^ row .k) ∷
-    leb (row .k) highestDegree ∷ leb (limits .w .1) widestWord ∷ leb (limits .sum) finestUnit ∷ leb (row .k * (limits .sum + 1)) 63 ∷
-    (row .rising || leb (row .k * (limits .sum + 1) + limits .w .1) 64) ∷ leb 1 (limits .q .0) ∷ leb 2 (limits .g .0) ∷ []
+    let power = row .k * (limits .sum + 1) in
+    (1, row .c) ∷ (1, row .k) ∷ (2 * row .c, 2 ^ row .k) ∷
+    (row .k, highestDegree) ∷ (limits .w .1, widestWord) ∷ (limits .sum, finestUnit) ∷ (power, 63) ∷
+    (cond (row .rising) 0 (power + limits .w .1), 64) ∷ (1, limits .q .0) ∷ (2, limits .g .0) ∷ []
 
--- A kind whose tests pass
 record Fine (kind : ℕ) : Type 0 where
   lawful : Lawful (rowOf kind)
   room : Room (rowOf kind) (limitsOf kind .w .1) (limitsOf kind .sum)
   q-low : 1 ≤ limitsOf kind .q .0
   g-low : 2 ≤ limitsOf kind .g .0
 
-falling : (rising test : Bool) → T (rising || test) → rising ≡ false → T test
-falling true test t e = absurd (true≢false e)
-falling false test t e = t
-
-fine-of : (kind : ℕ) → T (allPass (kindTests kind)) → Fine kind
-unfolding kindTests
-fine-of kind t =
-    let p = all-pass (kindTests kind) t in
+fine-of : (kind : ℕ) → allHold (asked kind) ≡ true → Fine kind
+unfolding asked
+fine-of kind e =
+    let p = all-hold (asked kind) e in
     let m = p .1 .1 .1 in
     let l = m .1 .1 .1 .1 .1 in
     record {
-      lawful = record { c-pos = leb→le _ _ (p .0); k-pos = leb→le _ _ (p .1 .0); domain = leb→le _ _ (p .1 .1 .0) };
+      lawful = record { c-pos = p .0; k-pos = p .1 .0; domain = p .1 .1 .0 };
       room = record {
-        degree = leb→le _ _ (m .0);
-        w-small = leb→le _ _ (m .1 .0);
-        s-small = leb→le _ _ (m .1 .1 .0);
-        power = leb→le _ _ (m .1 .1 .1 .0);
-        falls = λ e. leb→le _ _ (falling (rowOf kind .rising) _ (m .1 .1 .1 .1 .0) e);
+        degree = m .0;
+        w-small = m .1 .0;
+        s-small = m .1 .1 .0;
+        power = m .1 .1 .1 .0;
+        falls = λ falling. rw falling at (m .1 .1 .1 .1 .0);
       };
-      q-low = leb→le _ _ (l .0);
-      g-low = leb→le _ _ (l .1 .0);
+      q-low = l .0;
+      g-low = l .1 .0;
     }
 
 -- A test that passes for every number below n passes for each.
@@ -78,16 +70,16 @@ abbrev allBelow : ℕ → (ℕ → Bool) → Bool
 allBelow zero test = true
 allBelow (suc n) test = allBelow n test && test n
 
-at-each : (n : ℕ) (test : ℕ → Bool) → T (allBelow n test) → (i : ℕ) → i < n → T (test i)
-at-each zero test t i h = absurd (not-suc-le-zero h)
-at-each (suc n) test t i h = elim (decLt i n) [
-  | yes before ↦ at-each n test (both (allBelow n test) (test n) t .0) i before
-  | no last ↦ let e : i ≡ n = omega arith in rw e (both (allBelow n test) (test n) t .1)
+at-each : (n : ℕ) (test : ℕ → Bool) → allBelow n test ≡ true → (i : ℕ) → i < n → test i ≡ true
+at-each zero test all i h = absurd (not-suc-le-zero h)
+at-each (suc n) test all i h = elim (decLt i n) [
+  | yes before ↦ at-each n test (both (allBelow n test) (test n) all .0) i before
+  | no last ↦ let e : i ≡ n = omega arith in rw e (both (allBelow n test) (test n) all .1)
 ]
 
 fine : (kind : ℕ) → kind < kinds → Fine kind
-unfolding rows kinds rowOf limitsOf kindTests
-fine kind h = fine-of kind (at-each kinds (λ (kind : ℕ). allPass (kindTests kind)) tt kind h)
+unfolding rows kinds rowOf limitsOf asked
+fine kind h = fine-of kind (at-each kinds (λ (kind : ℕ). allHold (asked kind)) refl kind h)
 
 pub row-lawful : (kind : ℕ) → kind < kinds → Lawful (rowOf kind)
 row-lawful kind h = fine kind h .lawful

@@ -14,8 +14,9 @@ widestWord = 20
 abbrev pub finestUnit : ℕ
 finestUnit = 21
 
--- Input words of w bits and s fraction bits. A k-th power of a value has fewer than k·(s+1) bits; where the function falls, it is
--- multiplied by the argument, or the power of 2^w by it, which adds w bits.
+-- Input words of w bits and s fraction bits: a number of s bits has a k-th power of k·s, and the argument is below 2^(w+k). Where the
+-- function rises, what does not cancel of the value's part is below 2^(k·(s+1)). Where it falls, nothing cancels, and the number's part, n^k
+-- times the argument, is below 2^(k·(s+1)+w).
 pub record Room (row : Row) (w s : ℕ) : Type 0 where
   pub degree : row .k ≤ highestDegree
   pub w-small : w ≤ widestWord

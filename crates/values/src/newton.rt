@@ -1,11 +1,11 @@
 // Roots by Newton's method: a step from anywhere comes to the root or above it, and a step from above comes closer.
 ghost use mathlib.Core.Path.{_≡_};
-ghost use Prim.Native.Nat.{_+_, _^_, _≤_, _<_};
+ghost use Prim.Native.Nat.{_+_, _^_, _<_};
 ghost use lib.Dec.{ltb};
-ghost use Rattle.values.specs.Room.{highestDegree};
 ghost use Rattle.values.specs.Floor.{rootFrom};
 ghost use Rattle.values.specs.Newton.{newtonStep};
-ghost use Rattle.values.specs.Inputs.{RootInput, StepInput};
+ghost use Rattle.values.specs.Inputs.{RootInput, StepInput, Degree};
+use general::pow2;
 use general::pow2;
 
 // A step from r, by the degree: of degree 1 the limit is its own root.
@@ -18,7 +18,7 @@ fn step(k: u32, limit: u64, r: u64) -> u64
 
 // Whether r lies above the root, by the degree.
 fn is_above(k: u32, limit: u64, r: u64) -> bool
-    requires { ⌜ (1 ≤ k) × (k ≤ highestDegree) ⌝ }
+    requires { ⌜ Degree k ⌝ }
     requires { ⌜ r < 2 ^ 32 ⌝ }
     ensures { λ above. ⌜ above ≡ ltb limit (r ^ k) ⌝ }
 {

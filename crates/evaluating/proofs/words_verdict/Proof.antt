@@ -24,7 +24,9 @@ sums-in-range-requires : tie.Need-sums-in-range-requires
 sums-in-range-requires c κs = search needs
 
 width-answer-requires : tie.Need-width-answer-requires
-width-answer-requires c κs = omega (arith, limits _ (c .before .before .before .before .before .before .before .pre .0 .legal) .widths .room .w-small)
+width-answer-requires c κs =
+    let l = limits _ (c .before .before .before .before .before .before .before .pre .0 .legal) in
+    omega (arith, l .widths .room .w-small)
 
 returns : tie.Need-returns
 returns c =

@@ -1,4 +1,4 @@
--- `values::faithful::is_faithful` meets its contract: its three tests, each tried where those before it hold, are the three of `isFaithful`,
+-- `values::faithful::is_faithful` meets its contract: its three tests, each tried where those before it hold, are those of `isFaithful`,
 -- since the parts compare as the sides do.
 use mathlib.Core.Path.{_≡_, ap, _∙_}
 use mathlib.Core.Bool.{false}

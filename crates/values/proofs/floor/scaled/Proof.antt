@@ -1,4 +1,5 @@
--- `values::floor::scaled` meets its contract: the value's part over the divisor's, which is not 0, and a power of two where the function rises.
+-- `values::floor::scaled` meets its contract: the value's part over the divisor's, which is not 0, and a power of two where the function
+-- rises.
 use borrow.Author.Needs.{needs}
 use Rattle.values.specs.Parts.{divisorPart}
 use Rattle.values.proofs.PartLaws.{scaled-parts, divisor-part-pos}

@@ -1,5 +1,5 @@
--- `values::newton::floor_root` meets its contract, for every degree. The invariant: the root, rounded down, is not above what the steps have
--- come to.
+-- `values::newton::floor_root` meets its contract, for every degree. The invariant: the root, rounded down, is not above what the steps
+-- have come to.
 use mathlib.Core.Path.{_≡_}
 use Prim.Native.Nat.{ℕ, zero, suc, _+_, _^_, _<_}
 use native.Mathlib.Nat.{pow-suc, mul-zero, mul-le-mul, div-le-self, lt-of-le-of-lt}
@@ -30,18 +30,17 @@ module _ (k p limit : ℕ) (input : RootInput k p limit) where
   -- The first step, from 2^p
   sum-small : newtonSum k limit (2 ^ p) < 2 ^ 32
   sum-small =
-      lt-of-le-of-lt (first-sum k p limit (input .k-pos) (input .limit-small))
+      lt-of-le-of-lt (first-sum k p limit (input .degree .k-pos) (input .limit-small))
       (omega (
         arith,
-        mul-le-mul (pow-mono {j = finestUnit} (input .p-small)) (input .k-small),
-        mul-le-mul (pow-mono {j = finestUnit} (input .p-small)) (pow-mono {j = highestDegree} (input .k-small)),
+        mul-le-mul (pow-mono {j = finestUnit} (input .p-small)) (input .degree .k-small),
+        mul-le-mul (pow-mono {j = finestUnit} (input .p-small)) (pow-mono {j = highestDegree} (input .degree .k-small)),
       ))
 
   first-input : StepInput k limit (2 ^ p)
   first-input =
       record {
-        k-pos = input .k-pos;
-        k-small = input .k-small;
+        degree = input .degree;
         r-pos = pow-pos p;
         r-small = omega (arith, pow-mono {j = finestUnit} (input .p-small));
         sum-small = omega (arith, sum-small);
@@ -52,7 +51,7 @@ module _ (k p limit : ℕ) (input : RootInput k p limit) where
   begun first e =
       rw e
       record {
-        high = step-above k limit (2 ^ p) (input .k-pos) (pow-pos p);
+        high = step-above k limit (2 ^ p) (input .degree .k-pos) (pow-pos p);
         small = lt-of-le-of-lt (div-le-self (newtonSum k limit (2 ^ p)) k) sum-small;
       }
 
@@ -62,28 +61,27 @@ module _ (k p limit : ℕ) (input : RootInput k p limit) where
     root-pos = go root above
       where
         go : (r : ℕ) → limit < r ^ k → 0 < r
-        go zero h = let d = degree k (input .k-pos) in absurd (omega (arith, rw (d .1, pow-suc, mul-zero) at h))
+        go zero h = let d = degree k (input .degree .k-pos) in absurd (omega (arith, rw (d .1, pow-suc, mul-zero) at h))
         go (suc r) h = omega arith
 
     next-input : StepInput k limit root
     next-input =
         record {
-          k-pos = input .k-pos;
-          k-small = input .k-small;
+          degree = input .degree;
           r-pos = root-pos;
           r-small = inv .small;
           sum-small = omega (
             arith,
-            sum-below k limit root (input .k-pos) root-pos above,
-            mul-le-mul (input .k-small) (inv .small),
+            sum-below k limit root (input .degree .k-pos) root-pos above,
+            mul-le-mul (input .degree .k-small) (inv .small),
           );
         }
 
     closer : newtonStep k limit root < root
-    closer = step-closer k limit root (input .k-pos) root-pos above
+    closer = step-closer k limit root (input .degree .k-pos) root-pos above
 
     again : (next : ℕ) → next ≡ newtonStep k limit root → Inv k limit next
-    again next e = rw e record { high = step-above k limit root (input .k-pos) root-pos; small = omega (arith, closer, inv .small) }
+    again next e = rw e record { high = step-above k limit root (input .degree .k-pos) root-pos; small = omega (arith, closer, inv .small) }
 
 pow2-requires : tie.Need-pow2-requires Inv-loop μ-loop
 pow2-requires c κs = omega arith
@@ -95,7 +93,7 @@ loop-holds : tie.Need-loop-holds Inv-loop μ-loop
 loop-holds c = begun _ _ _ (c .before .before .pre) _ (rw (c .before .pow2 .ensures) at (c .step .ensures))
 
 is-above-requires : tie.Need-is-above-requires Inv-loop μ-loop
-is-above-requires c κs = let p = c .before .before .before .pre in ((p .k-pos, p .k-small), c .loop .inv .small)
+is-above-requires c κs = (c .before .before .before .pre .degree, c .loop .inv .small)
 
 -- the root is passed
 above : (c : tie.Then1 Inv-loop μ-loop) → let a = c .before .before .before .before .before .args in
@@ -119,7 +117,7 @@ returns : tie.Need-returns Inv-loop μ-loop
 returns c =
     let l = c .before .before in
     let pre = l .before .before .before .pre in
-    root-found _ _ (pre .k-pos) _ (pre .limit-small)
+    root-found _ _ (pre .degree .k-pos) _ (pre .limit-small)
     record { low = ltb-false _ _ (tested (c .before .is-above .ensures) (c .if1 .left)); high = l .loop .inv .high }
 
 pub floor-root-spec : {M : Type 1} → statement M

@@ -4,7 +4,7 @@ use Prim.Native.Nat.{ℕ, _*_, _^_, _≤_, _<_}
 use native.Mathlib.Nat.{mul-le-mul}
 use native.Mathlib.Omega.{arith}
 use lib.Dec.{ltb}
-use Rattle.values.specs.Room.{highestDegree}
+use Rattle.values.specs.Inputs.{Degree}
 use Rattle.values.proofs.NewtonLaws.{first-power, square}
 use Rattle.values.proofs.newton.is_above.Statement.{statement}
 use Rattle.values.proofs.newton.is_above.Tie as tie
@@ -13,7 +13,7 @@ module _ (k limit r : ℕ) where
   linear : k ≡ 1 → ltb limit r ≡ ltb limit (r ^ k)
   linear e = rw (e, first-power r)
 
-  quadratic : (k ≡ 1 → ⊥) → (1 ≤ k) × (k ≤ highestDegree) → ltb limit (r * r) ≡ ltb limit (r ^ k)
+  quadratic : (k ≡ 1 → ⊥) → Degree k → ltb limit (r * r) ≡ ltb limit (r ^ k)
   quadratic other degree = let two : k ≡ 2 = omega (arith, other) in rw (two, square r)
 
 square-fits : {r : ℕ} → r < 2 ^ 32 → r * r < 2 ^ 64

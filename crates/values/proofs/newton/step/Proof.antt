@@ -17,7 +17,7 @@ module _ (k limit r : ℕ) (input : StepInput k limit r) where
 
   module _ (other : k ≡ 1 → ⊥) where
     two : k ≡ 2
-    two = omega (arith, other, input .k-pos, input .k-small)
+    two = omega (arith, other, input .degree)
 
     sum-is : r + limit / r ≡ newtonSum k limit r
     unfolding newtonSum
