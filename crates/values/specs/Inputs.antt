@@ -16,20 +16,21 @@ pub record FloorInput (row : Row) (w s X : ℕ) : Type 0 where
   pub room : Room row w s
   pub range : InRange w X
 
--- A degree that the code has an arm for
-pub record Degree (k : ℕ) : Type 0 where
-  pub k-pos : 1 ≤ k
-  pub k-small : k ≤ highestDegree
-
 -- A root is asked for, below 2^(p+1).
 pub record RootInput (k p limit : ℕ) : Type 0 where
-  pub degree : Degree k
+  pub k-pos : 1 ≤ k
+  pub k-small : k ≤ highestDegree
   pub p-small : p ≤ finestUnit
   pub limit-small : limit < (2 ^ (p + 1)) ^ k
 
+-- A degree whose root takes steps: of degree 1 the limit is its own root.
+pub record Stepwise (k : ℕ) : Type 0 where
+  pub k-low : 2 ≤ k
+  pub k-small : k ≤ highestDegree
+
 -- A step on the way to it. The power r^k need not fit.
 pub record StepInput (k limit r : ℕ) : Type 0 where
-  pub degree : Degree k
+  pub degree : Stepwise k
   pub r-pos : 1 ≤ r
   pub r-small : r < 2 ^ 32
   pub sum-small : newtonSum k limit r < 2 ^ 64

@@ -22,7 +22,8 @@ units z = record { 0 = z }
 module _ (row : Row) (w P X : ℕ) (input : FloorInput row w P X) where
   root-input : RootInput (row .k) P (scaled row w P X)
   root-input = record {
-    degree = record { k-pos = input .lawful .k-pos; k-small = input .room .degree };
+    k-pos = input .lawful .k-pos;
+    k-small = input .room .degree;
     p-small = input .room .s-small;
     limit-small = scaled-high row (input .lawful) w P X (input .range);
   }
