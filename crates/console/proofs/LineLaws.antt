@@ -1,16 +1,16 @@
 -- Bytes of a line before its newline, and a line that is cut off.
 use mathlib.Core.Path.{_≡_}
-use mathlib.Core.Bool.{true, or-true}
+use mathlib.Core.Bool.{true}
 use mathlib.Core.List.{List, _++_}
 use Prim.Native.Nat.{ℕ, _+_, _≤_, _<_}
 use native.Mathlib.Numerals.{add-one}
 use native.Mathlib.Omega.{arith}
 use lib.ListN.{length, getD, take, set, length-append}
 use lib.Seq.{getD-set-same, getD-set-other, length-take-le}
-use borrow.Author.Tests.{lt-ltb}
 use Rattle.general.proofs.Sums.{below-suc}
 use Rattle.io.proofs.Counting.{counts}
-use Rattle.frames.specs.Line.{lineFails}
+use Rattle.frames.specs.Line.{longestLine, lineFails}
+use Rattle.frames.proofs.LineLaws.{long-fails}
 use Rattle.console.specs.declared.LineEnd.{LineEnd}
 use Rattle.console.specs.Reading.{LineRead}
 
@@ -25,17 +25,15 @@ one-more bytes n byte short none other i h =
     (λ at. rw (at, getD-set-same bytes n byte 0 short) other)
     (λ before. rw (getD-set-other bytes n i byte 0 (omega arith)) (none i before))
 
--- A line of more than 32 bytes is refused, whatever follows.
-pub cut-fails : (bytes rest : List ℕ) (n : ℕ) → n ≤ length bytes → 32 < n → lineFails (take n bytes ++ rest) ≡ true
-unfolding lineFails
+-- More bytes than the longest line has are refused, whatever follows.
+pub cut-fails : (bytes rest : List ℕ) (n : ℕ) → n ≤ length bytes → longestLine < n → lineFails (take n bytes ++ rest) ≡ true
 cut-fails bytes rest n fits long =
-    let longer : 32 < length (take n bytes ++ rest) = omega (arith, length-append (take n bytes) rest, length-take-le n bytes fits) in
-    rw (lt-ltb _ _ longer, or-true)
+    long-fails (take n bytes ++ rest) (omega (arith, length-append (take n bytes) rest, length-take-le n bytes fits))
 
 -- What is read of a line, by how it ended
 module _ (bytes : List ℕ) (n : ℕ) (fits : n ≤ length bytes) (none : NoNewline bytes n) where
   pub ended : (end : LineEnd) → (end ≡ LineEnd.Cut → ⊥) → LineRead (record { bytes = bytes; count = n; end = end })
   ended end uncut = record { counts = counts _ _ fits; no-newline = none; cut = λ e. absurd (uncut e) }
 
-  pub cut-off : 32 < n → LineRead (record { bytes = bytes; count = n; end = LineEnd.Cut })
+  pub cut-off : longestLine < n → LineRead (record { bytes = bytes; count = n; end = LineEnd.Cut })
   cut-off long = record { counts = counts _ _ fits; no-newline = none; cut = λ e rest. cut-fails bytes rest n fits long }

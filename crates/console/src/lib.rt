@@ -2,6 +2,7 @@
 // say which bytes come in or go out; what can be said of a line, whatever the input is, `read_line` promises.
 ghost use Rattle.io.specs.Counts.{Counts};
 ghost use Rattle.console.specs.Reading.{LineRead};
+use frames::LONGEST_LINE;
 use libc::STDIN_FILENO;
 use libc::STDOUT_FILENO;
 use refusal::Cause;
@@ -29,10 +30,13 @@ pub enum LineEnd {
     Cut,
 }
 
-// The start of a line, up to the newline, the end of the input, or 33 bytes: a line of more than 32 is refused whatever follows,
-// so no more of it is needed and endless input does no harm. A last line without a newline counts as a line, if it has a byte.
+// One byte more than the longest line has.
+pub const KEPT: usize = LONGEST_LINE + 1;
+
+// The start of a line, up to the newline, the end of the input, or so many bytes: a line that has them is refused whatever follows, so
+// no more of it is needed and endless input does no harm. A last line without a newline counts as a line, if it has a byte.
 pub struct Line {
-    pub bytes: [u8; 33],
+    pub bytes: [u8; KEPT],
     pub count: usize,
     pub end: LineEnd,
 }
@@ -40,9 +44,9 @@ pub struct Line {
 pub fn read_line() -> Line
     ensures { λ r. ⌜ LineRead r ⌝ }
 {
-    let mut bytes = [0u8; 33];
+    let mut bytes = [0u8; KEPT];
     let mut count: usize = 0;
-    while count < 33 {
+    while count < KEPT {
         let Input::Byte(b) = read_byte() else {
             return Line {
                 bytes,

@@ -7,6 +7,8 @@ use native.Mathlib.Omega.{arith}
 use lib.ListN.{length, getD, drop, length-drop, List·getD-append}
 use lib.Seq.{ext-getD, length-take-le, getD-take, getD-drop, drop-cons}
 use borrow.Author.Tests.{eqb-true, eq-eqb, lt-ltb, not-false}
+use Rattle.refusal.specs.declared.Verdict.{Verdict}
+use Rattle.refusal.specs.Checks.{verdict}
 use Rattle.refusal.proofs.Checks.{neither}
 use Rattle.design.specs.declared.Pair.{Pair}
 use Rattle.design.specs.declared.Design.{Design}
@@ -14,11 +16,12 @@ use Rattle.design.specs.Cut.{tables, pairAt}
 use Rattle.design.specs.Legal.{Legal}
 use Rattle.design.specs.Same.{Same}
 use Rattle.design.proofs.LegalLaws.{limits}
-use Rattle.frames.specs.DesignFrame.{frameFails, framePair, frameDesign}
+use Rattle.frames.specs.DesignFrame.{frameFails, framePair, frameDesign, firstChecks}
+use Rattle.frames.proofs.FrameLaws.{first-frame, first-frame-passes}
 use Rattle.encoding.specs.Encode.{sumByte, withSum}
 use Rattle.encoding.specs.DesignBytes.{pairBytes, designBytes}
 use Rattle.encoding.proofs.HexBack.{Bytes, bytes-append}
-use Rattle.encoding.proofs.LineBack.{with-sum-length}
+use Rattle.encoding.proofs.LineBack.{Short, with-sum-length}
 use Rattle.encoding.proofs.DesignLaws.{tables-length, pair-bytes-length}
 
 -- What is read past the last pair
@@ -108,7 +111,7 @@ passing f e =
     record { first = eqb-true _ _ (not-false _ (parts .0)); count = omega (arith, count, with-sum-length f) }
 
 -- The pairs of a frame that passes are what its bytes hold from byte 7 on.
-module _ (f : List ℕ) (passed : Passing f) (short : length f ≤ 15) where
+module _ (f : List ℕ) (passed : Passing f) (short : Short f) where
   few : getD (withSum f) 6 0 ≤ 4
   few = omega (arith, passed .count)
 
@@ -160,12 +163,12 @@ module _ (f : List ℕ) where
         next 0 (omega arith),
       )
 
--- A frame that passes for a design's is the frame of the design that it holds.
-pub design-again : (f : List ℕ) → length f ≤ 15 → frameFails (withSum f) (length (withSum f)) ≡ false
+-- A frame that passes for the first of a set is the frame of the design that it holds.
+pub design-again : (f : List ℕ) → Short f → verdict (firstChecks (withSum f) (length (withSum f))) ≡ Verdict.Passed
     → designBytes (frameDesign (withSum f)) ≡ f
 unfolding designBytes frameDesign
 design-again f short passes =
-    let passed = passing f passes in
+    let passed = passing f (first-frame _ _ passes .due) in
     rw (tables-read f passed short, pairs-again _ (drop 7 f) (twice f passed short))
     (rw (passed .first) at (fields f (omega (arith, passed .count))))
 
@@ -191,19 +194,23 @@ module _ (d : Design) (legal : Legal d) where
       bytes-append (1 ∷ d .kind ∷ d .w ∷ d .q ∷ d .g ∷ d .alpha ∷ d .m ∷ []) (pairBytes (tables d)) (omega (arith, l))
       (pair-small (tables d) table-small)
 
-  -- It passes for a design's,
-  pub design-passes : frameFails (withSum (designBytes d)) (length (withSum (designBytes d))) ≡ false
+  -- It passes for the first of a set,
+  design-due : frameFails (withSum (designBytes d)) (length (withSum (designBytes d))) ≡ false
   unfolding frameFails withSum designBytes
-  design-passes =
+  design-due =
       let count : length (withSum (designBytes d)) ≡ 8 + 2 * d .m = omega (arith, design-length, with-sum-length (designBytes d)) in
       rw (eq-eqb _ _ count)
+
+  pub design-passes : let bytes = withSum (designBytes d) in
+      Legal (frameDesign bytes) → verdict (firstChecks bytes (length bytes)) ≡ Verdict.Passed
+  design-passes read = first-frame-passes _ _ (record { due = design-due; legal = read })
 
   -- and the design is read from it again.
   pub design-back : Same (frameDesign (withSum (designBytes d))) d
   unfolding frameDesign withSum designBytes
   design-back =
-      let passed = passing (designBytes d) design-passes in
-      let short : length (designBytes d) ≤ 15 = omega (arith, design-length, limits d legal .m-high) in
+      let passed = passing (designBytes d) design-due in
+      let short : Short (designBytes d) = omega (arith, design-length, limits d legal .m-high) in
       record {
         kind = refl;
         w = refl;

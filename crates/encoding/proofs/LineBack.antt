@@ -4,13 +4,12 @@ use mathlib.Core.Bool.{false, true}
 use mathlib.Core.List.{List, [], _∷_, _++_}
 use Prim.Native.Nat.{ℕ, suc, _+_, _-_, _*_, _/_, _%_, _≤_}
 use native.Mathlib.Omega.{arith}
-use lib.Dec.{ltb, eqb}
 use lib.ListN.{length, take, getD, length-append}
 use lib.Seq.{take-all, take-suc, length-take-le}
 use borrow.Author.Tests.{eqb-false, ne-eqb, le-ltb, not-false}
 use Rattle.refusal.proofs.Checks.{neither}
 use Rattle.frames.specs.Hex.{allDigits, bytesOf}
-use Rattle.frames.specs.Line.{sumFails, lengthFails, lineFails}
+use Rattle.frames.specs.Line.{sumFails, longestLine, lengthFails, digitsFail, isEmpty, lineFails}
 use Rattle.frames.proofs.LineLaws.{sound-length}
 use Rattle.encoding.specs.Encode.{hexOf, sumByte, withSum, lineOf}
 use Rattle.encoding.proofs.HexBack.{
@@ -35,10 +34,13 @@ with-sum-small : (f : List ℕ) → Bytes f → Bytes (withSum f)
 unfolding withSum
 with-sum-small f small = bytes-append f (sumByte f ∷ []) small (sum-byte-lt f, tt)
 
--- An even number of digits, some and not too many, is sound.
-even-passes : (n : ℕ) → 1 ≤ n → n ≤ 16 → lengthFails (2 * n) ≡ false
-even-passes n low high =
-    rw (ne-eqb (2 * n) 0 (omega arith), ne-eqb (2 * n % 2) 1 (omega arith), le-ltb 32 (2 * n) (omega arith))
+-- An even number of digits, not too many, is sound.
+even-passes : (n : ℕ) → 2 * n ≤ longestLine → lengthFails (2 * n) ≡ false
+even-passes n high = rw (ne-eqb (2 * n % 2) 1 (omega arith), le-ltb longestLine (2 * n) high)
+
+-- The line of a frame is no longer than the longest.
+abbrev pub Short : List ℕ → Type 0
+Short f = 2 * (length f + 1) ≤ longestLine
 
 module _ (f : List ℕ) where
   -- A line has two digits for each byte of the frame and for the sum byte.
@@ -56,24 +58,25 @@ module _ (f : List ℕ) where
   line-digits small = hex-digits (withSum f) (with-sum-small f small)
 
   -- The line of a frame that is not too long is sound.
-  pub line-sound : Bytes f → length f ≤ 15 → lineFails (lineOf f) ≡ false
-  unfolding lineFails
+  pub line-sound : Bytes f → Short f → lineFails (lineOf f) ≡ false
+  unfolding lineFails digitsFail
   line-sound small short =
-      rw (line-length, even-passes (length f + 1) (omega arith) (omega arith), line-digits small, line-back small, sum-back f)
+      rw (
+        line-length,
+        ne-eqb (2 * (length f + 1)) 0 (omega arith),
+        even-passes (length f + 1) short,
+        line-digits small,
+        line-back small,
+        sum-back f,
+      )
 
 -- What a sound line is the line of
 pub record Front (digits : List ℕ) : Type 0 where
   pub frame : List ℕ
   pub small : Bytes frame
-  pub short : length frame ≤ 15
+  pub short : Short frame
   pub bytes : bytesOf digits ≡ withSum frame
   pub line : lineOf frame ≡ digits
-
--- A sound line has digits.
-not-empty : (digits : ℕ) → lengthFails digits ≡ false → 1 ≤ digits
-not-empty digits e =
-    let empty = eqb-false digits 0 (neither _ (eqb (digits % 2) 1) (neither _ (ltb 32 digits) e .0) .0) in
-    omega arith
 
 -- Some bytes of which the sum is right are a frame with its sum byte.
 before-sum : (n : ℕ) (bs : List ℕ) → length bs ≡ suc n → Bytes bs → sumFails bs ≡ false
@@ -87,13 +90,15 @@ before-sum n bs e small sum =
 
 -- A sound line is the line of the frame that is left of its bytes without the last.
 pub front : (line : List ℕ) → lineFails line ≡ false → Front line
-unfolding lineFails lineOf
+unfolding lineFails digitsFail lineOf
 front line sound =
-    let tests = neither _ (sumFails (bytesOf line)) sound in
+    let some = neither (isEmpty line) (digitsFail line) sound in
+    let tests = neither _ (sumFails (bytesOf line)) (some .1) in
     let shape = neither (lengthFails (length line)) _ (tests .0) in
     let digits : allDigits line ≡ true = not-false _ (shape .1) in
     let even = sound-length (length line) (shape .0) in
-    let full = not-empty (length line) (shape .0) in
+    let empty = eqb-false (length line) 0 (some .0) in
+    let full : 1 ≤ length line = omega arith in
     let n = length line / 2 - 1 in
     let count : length (bytesOf line) ≡ suc n = bytes-length (length line / 2) line (even .even) ∙ omega arith in
     let split = before-sum n (bytesOf line) count (bytes-small line digits) (tests .1) in

@@ -7,6 +7,7 @@ use native.Mathlib.Omega.{arith}
 use lib.ListN.{length, take, drop, getD, set, length-append, length-drop, length-set}
 use lib.Pow.{pow-add, pow-mono}
 use lib.Seq.{take-suc, take-suc-set, append-snoc, getD-drop}
+use Rattle.frames.specs.Line.{capacity}
 use Rattle.encoding.specs.declared.Frame.{Frame}
 use Rattle.encoding.specs.Bytes.{bigEndian, numberIn}
 use Rattle.encoding.specs.Inputs.{held}
@@ -15,9 +16,9 @@ use Rattle.encoding.proofs.NumberBack.{big-endian-length}
 -- A number of `width` bytes behind the first `count` bytes of a frame that held `before`: `left` bytes are still to be written, from
 -- place `at` on.
 pub record Appending (before bytes : List ℕ) (count width number at left : ℕ) : Type 0 where
-  pub long : length bytes ≡ 16
+  pub long : length bytes ≡ capacity
   pub place : at + left ≡ count + width
-  pub room : count + width ≤ 16
+  pub room : count + width ≤ capacity
   pub narrow : left ≤ 4
   pub so-far : take at bytes ++ bigEndian left number ≡ take count before ++ bigEndian width number
 
@@ -55,15 +56,15 @@ number-snoc (b ∷ bytes) byte =
 
 -- A number of `width` bytes from a place on, of which the first i have been read
 pub record Counting (bytes : List ℕ) (from width number i : ℕ) : Type 0 where
-  pub long : length bytes ≡ 16
-  pub room : from + width ≤ 16
+  pub long : length bytes ≡ capacity
+  pub room : from + width ≤ capacity
   pub narrow : width ≤ 4
   pub within : i ≤ width
   pub so-far : number ≡ numberIn (take i (drop from bytes))
   pub small : number < 2 ^ (8 * i)
 
 -- Nothing is read yet.
-pub counted-none : {bytes : List ℕ} {from width : ℕ} → length bytes ≡ 16 → from + width ≤ 16 → width ≤ 4 → Counting bytes from width 0 0
+pub counted-none : {bytes : List ℕ} {from width : ℕ} → length bytes ≡ capacity → from + width ≤ capacity → width ≤ 4 → Counting bytes from width 0 0
 unfolding numberIn
 counted-none full room narrow =
     record { long = full; room = room; narrow = narrow; within = omega arith; so-far = refl; small = omega arith }

@@ -9,6 +9,7 @@ use lib.ListN.{length, getD, take, set}
 use lib.Seq.{length-take-le, take-suc}
 use Rattle.general.specs.Lists.{total, over}
 use Rattle.general.proofs.WritingLaws.{over-none, over-length, over-more, over-one}
+use Rattle.frames.specs.Line.{capacity}
 use Rattle.encoding.specs.Encode.{digitOf, hexOf, sumByte, withSum, lineOf}
 use Rattle.encoding.specs.Inputs.{PutInput}
 use Rattle.encoding.proofs.HexBack.{hex-length}
@@ -43,14 +44,14 @@ byte-put line at byte first second room first-is second-is =
 -- A line while it is put together: the digits of the first i bytes stand at its start, in front of what it held, and they are summed.
 pub record Put (before line bytes : List ℕ) (count sum i : ℕ) : Type 0 where
   pub input : PutInput count (length before)
-  pub full : length bytes ≡ 16
+  pub full : length bytes ≡ capacity
   pub within : i ≤ count
   pub so-far : line ≡ over before 0 (hexOf (take i bytes))
   pub summed : sum ≡ total (take i bytes)
   pub small : sum ≤ 255 * i
 
 -- Nothing is put yet.
-pub put-none : {before bytes : List ℕ} {count : ℕ} → PutInput count (length before) → length bytes ≡ 16 → Put before before bytes count 0 0
+pub put-none : {before bytes : List ℕ} {count : ℕ} → PutInput count (length before) → length bytes ≡ capacity → Put before before bytes count 0 0
 unfolding hexOf total
 put-none {before} input full =
     record { input = input; full = full; within = omega arith; so-far = over-none before 0; summed = refl; small = omega arith }

@@ -16,6 +16,10 @@ unfoldable pub numberIn : List ℕ → ℕ
 numberIn [] = 0
 numberIn (byte ∷ bytes) = byte * 2 ^ (8 * length bytes) + numberIn bytes
 
+-- How many bytes an entry takes: "initial entry (3 bytes)", "offset (3, two's complement)"
+abbrev pub entryBytes : ℕ
+entryBytes = 3
+
 -- "two's complement", in n bytes: -1 - v, which is `negsuc v`, is written as 2^(8n) - 1 - v.
 unfoldable pub complement : ℕ → ℤ → ℕ
 complement n (pos v) = v

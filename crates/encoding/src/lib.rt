@@ -14,10 +14,11 @@ pub mod numbers;
 
 use design::Design;
 use design::legal::pair_at;
+use frames::CAPACITY;
 
 // A frame while it is put together: its first `count` bytes are there.
 pub struct Frame {
-    pub bytes: [u8; 16],
+    pub bytes: [u8; CAPACITY],
     pub count: usize,
 }
 
@@ -28,7 +29,7 @@ impl Frame {
         ensures { λ r. ⌜ r .count ≡ 1 ⌝ }
     {
         Frame {
-            bytes: [kind; 16],
+            bytes: [kind; CAPACITY],
             count: 1,
         }
     }
@@ -100,8 +101,8 @@ fn put_byte(byte: u8, at: usize, line: &mut [u8])
     line[at + 1] = digit_of(byte % 16);
 }
 
-// inner: puts the line of a frame, which is given without its sum byte, at the start of the line buffer. The sum of 15 bytes is far
-// below 2^32, so it is reduced only once, at the end.
+// inner: puts the line of a frame, which is given without its sum byte, at the start of the line buffer. The sum of so few bytes is
+// far below 2^32, so it is reduced only once, at the end.
 pub fn put_line(frame: Frame, line: &mut [u8])
     requires { ⌜ PutInput (frame .count) (length (now line)) ⌝ }
     ensures { λ _. ⌜ now (line .exit) ≡ over (now (line .entry)) 0 (lineOf (held frame)) ⌝ }

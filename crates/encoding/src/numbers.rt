@@ -1,14 +1,18 @@
-// Numbers in bytes, and two's complement in 3 bytes.
+// Numbers in bytes, and entries: which of them fit their 3 bytes, and two's complement. 2^24 and 2^23 stand here and nowhere else.
 ghost use mathlib.Core.Path.{_≡_};
 ghost use mathlib.Core.Bool.{true};
-ghost use Prim.Native.Nat.{_+_, _^_, _≤_, _<_};
+ghost use Prim.Native.Nat.{_*_, _^_, _<_};
 ghost use lib.ListN.{take, drop};
-ghost use Rattle.encoding.specs.Bytes.{numberIn, fitsSigned, fromComplement};
+ghost use Rattle.encoding.specs.Bytes.{numberIn, entryBytes, fitsSigned, fromComplement};
 ghost use Rattle.encoding.specs.Bytes as Bytes;
 ghost use Rattle.encoding.specs.Inputs.{Room};
+use frames::CAPACITY;
+
+// How many bytes an entry takes.
+pub const ENTRY_BYTES: usize = 3;
 
 // inner: the number in `width` bytes, from a place on.
-pub fn number_in(bytes: [u8; 16], from: usize, width: usize) -> u32
+pub fn number_in(bytes: [u8; CAPACITY], from: usize, width: usize) -> u32
     requires { ⌜ Room from width ⌝ }
     ensures { λ r. ⌜ r ≡ numberIn (take width (drop from bytes)) ⌝ }
 {
@@ -21,17 +25,24 @@ pub fn number_in(bytes: [u8; 16], from: usize, width: usize) -> u32
     number
 }
 
-// inner: whether a signed number fits 3 bytes.
+// inner: whether a number without sign fits an entry's bytes.
+pub fn fits(v: u32) -> bool
+    ensures { λ r. ⌜ r ≡ Bytes.fits entryBytes v ⌝ }
+{
+    v < 16777216
+}
+
+// inner: whether a signed number does.
 pub fn fits_signed(v: i32) -> bool
-    ensures { λ r. ⌜ r ≡ fitsSigned 3 v ⌝ }
+    ensures { λ r. ⌜ r ≡ fitsSigned entryBytes v ⌝ }
 {
     -8388608 <= v && v < 8388608
 }
 
 // inner: a signed number in two's complement.
 pub fn complement(v: i32) -> u32
-    requires { ⌜ fitsSigned 3 v ≡ true ⌝ }
-    ensures { λ r. ⌜ r ≡ Bytes.complement 3 v ⌝ }
+    requires { ⌜ fitsSigned entryBytes v ≡ true ⌝ }
+    ensures { λ r. ⌜ r ≡ Bytes.complement entryBytes v ⌝ }
 {
     if v < 0 {
         return (v + 16777216) as u32;
@@ -39,10 +50,10 @@ pub fn complement(v: i32) -> u32
     v as u32
 }
 
-// inner: what 3 bytes in two's complement stand for.
+// inner: what an entry's bytes in two's complement stand for.
 pub fn from_complement(n: u32) -> i32
-    requires { ⌜ n < 2 ^ 24 ⌝ }
-    ensures { λ r. ⌜ r ≡ fromComplement 3 n ⌝ }
+    requires { ⌜ n < 2 ^ (8 * entryBytes) ⌝ }
+    ensures { λ r. ⌜ r ≡ fromComplement entryBytes n ⌝ }
 {
     if n < 8388608 {
         return n as i32;

@@ -12,7 +12,7 @@ use borrow.Author.Tests.{eq-eqb, ne-eqb}
 use Rattle.refusal.specs.declared.Verdict.{Verdict}
 use Rattle.frames.specs.Hex.{allDigits, bytesOf}
 use Rattle.general.specs.Lists.{total}
-use Rattle.frames.specs.Line.{sumFails, lengthFails, padded, decoded}
+use Rattle.frames.specs.Line.{sumFails, lengthFails, isEmpty, capacity, padded, decoded}
 use Rattle.frames.proofs.HexLaws.{Digits, next-byte, next-sound, high-unsound, low-unsound}
 use Rattle.frames.proofs.LineLaws.{SoundLength, accepted}
 
@@ -20,14 +20,14 @@ use Rattle.frames.proofs.LineLaws.{SoundLength, accepted}
 pub record BytesRead (line bytes : List ℕ) (sum i : ℕ) : Type 0 where
   pub line-length : SoundLength (length line)
   pub within : 2 * i ≤ length line
-  pub long : length bytes ≡ 16
+  pub long : length bytes ≡ capacity
   pub sound : allDigits line ≡ allDigits (drop (2 * i) line)
   pub read : bytesOf line ≡ take i bytes ++ bytesOf (drop (2 * i) line)
-  pub blank : drop i bytes ≡ replicate (16 - i) 0
+  pub blank : drop i bytes ≡ replicate (capacity - i) 0
   pub summed : total (bytesOf line) ≡ sum + total (bytesOf (drop (2 * i) line))
   pub small : sum ≤ 255 * i
 
-pub start : (line : List ℕ) → SoundLength (length line) → BytesRead line (replicate 16 0) 0 0
+pub start : (line : List ℕ) → SoundLength (length line) → BytesRead line (replicate capacity 0) 0 0
 start line fits =
     record {
       line-length = fits;
@@ -45,9 +45,9 @@ module _ (bytes : List ℕ) (i byte : ℕ) where
   written-more : i < length bytes → take (i + 1) (set bytes i byte) ≡ take i bytes ++ (byte ∷ [])
   written-more h = rw add-one (take-suc-set bytes i byte h)
 
-  blank-more : i < 16 → drop i bytes ≡ replicate (16 - i) 0 → drop (i + 1) (set bytes i byte) ≡ replicate (16 - (i + 1)) 0
+  blank-more : i < capacity → drop i bytes ≡ replicate (capacity - i) 0 → drop (i + 1) (set bytes i byte) ≡ replicate (capacity - (i + 1)) 0
   blank-more h e =
-      let one-less : 16 - i ≡ suc (16 - (i + 1)) = omega arith in
+      let one-less : capacity - i ≡ suc (capacity - (i + 1)) = omega arith in
       drop-set-lt (i + 1) bytes i byte (omega arith) ∙ sym (drop-drop 1 i bytes) ∙ ap (drop 1) e ∙ rw one-less
 
 module _ {line bytes : List ℕ} {sum i : ℕ} (so-far : BytesRead line bytes sum i) where
@@ -103,8 +103,8 @@ module _ {line bytes : List ℕ} {sum i : ℕ} (so-far : BytesRead line bytes su
     unfolding sumFails
     sum-right h = rw (all-summed, eq-eqb _ _ h)
 
-    pub finished : lengthFails (length line) ≡ false → sum % 256 ≡ 0
+    pub finished : isEmpty line ≡ false → lengthFails (length line) ≡ false → sum % 256 ≡ 0
         → record { verdict = Verdict.Passed; bytes = bytes; count = length line / 2 } ≡ decoded line
-    finished l s =
+    finished some l s =
         let half : length line / 2 ≡ i = omega arith in
-        sym (accepted line l all-sound (sum-right s) ∙ rw (all-stored, all-counted, half))
+        sym (accepted line some l all-sound (sum-right s) ∙ rw (all-stored, all-counted, half))

@@ -1,10 +1,15 @@
--- Zeros behind a frame change nothing: past its end a frame reads as zero anyway.
+-- Zeros behind a frame change nothing: past its end a frame reads as zero anyway. What passes for the first frame of a set.
 use mathlib.Core.Path.{_≡_, refl}
+use mathlib.Core.Bool.{false}
 use mathlib.Core.List.{List, [], _∷_, _++_}
 use Prim.Native.Nat.{ℕ, zero, suc, _-_}
 use lib.ListN.{length, getD, replicate}
-use Rattle.frames.specs.Line.{padded}
-use Rattle.frames.specs.DesignFrame.{frameFails, frameChecks, framePair, frameDesign}
+use Rattle.refusal.specs.declared.Verdict.{Verdict}
+use Rattle.refusal.specs.Checks.{verdict}
+use Rattle.refusal.proofs.Checks.{verdict-append, passed-append, none-fails}
+use Rattle.design.specs.Legal.{designChecks, designVerdict, Legal}
+use Rattle.frames.specs.Line.{capacity, padded}
+use Rattle.frames.specs.DesignFrame.{frameFails, frameChecks, framePair, frameDesign, firstChecks}
 
 zeros : (n i : ℕ) → _≡_ {A = ℕ} (getD (replicate n 0) i 0) 0
 zeros zero i = refl
@@ -19,7 +24,7 @@ zeros-behind (b ∷ bs) n (suc i) = zeros-behind bs n i
 module _ (bs : List ℕ) where
   pub getD-padded : (i : ℕ) → getD (padded bs) i 0 ≡ getD bs i 0
   unfolding padded
-  getD-padded i = zeros-behind bs (16 - length bs) i
+  getD-padded i = zeros-behind bs (capacity - length bs) i
 
   pub frameFails-padded : (n : ℕ) → frameFails (padded bs) n ≡ frameFails bs n
   unfolding frameFails
@@ -36,3 +41,23 @@ module _ (bs : List ℕ) where
   pub frameDesign-padded : frameDesign (padded bs) ≡ frameDesign bs
   unfolding frameDesign
   frameDesign-padded = simp (getD-padded, framePair-padded)
+
+  pub firstChecks-padded : (n : ℕ) → firstChecks (padded bs) n ≡ firstChecks bs n
+  unfolding firstChecks
+  firstChecks-padded n = rw (frameChecks-padded n, frameDesign-padded)
+
+-- A frame that passes for the first of a set is the one due, and holds a legal design.
+module _ (bytes : List ℕ) (count : ℕ) where
+  pub record FirstFrame : Type 0 where
+    pub due : frameFails bytes count ≡ false
+    pub legal : Legal (frameDesign bytes)
+
+  pub first-frame : verdict (firstChecks bytes count) ≡ Verdict.Passed → FirstFrame
+  unfolding firstChecks frameChecks designVerdict
+  first-frame e =
+      let parts = passed-append (frameChecks bytes count) (designChecks (frameDesign bytes)) e in
+      record { due = none-fails (frameChecks bytes count) (parts .0) .0; legal = parts .1 }
+
+  pub first-frame-passes : FirstFrame → verdict (firstChecks bytes count) ≡ Verdict.Passed
+  unfolding firstChecks frameChecks designVerdict
+  first-frame-passes f = rw (verdict-append, f .due, f .legal)

@@ -15,19 +15,35 @@ use Rattle.frames.specs.Hex.{allDigits, bytesOf}
 unfoldable pub sumFails : List ℕ → Bool
 sumFails bytes = not (eqb (total bytes % 256) 0)
 
--- "empty, odd length, over 32 digits"
+-- The longest line, in digits: "over 32 digits"
+abbrev pub longestLine : ℕ
+longestLine = 32
+
+-- "odd length, over 32 digits"
 abbrev pub lengthFails : ℕ → Bool
-lengthFails digits = eqb digits 0 || eqb (digits % 2) 1 || ltb 32 digits
+lengthFails digits = eqb (digits % 2) 1 || ltb longestLine digits
+
+-- What turns down a line that is not empty: "odd length, over 32 digits, other character, wrong sum"
+unfoldable pub digitsFail : List ℕ → Bool
+digitsFail line = lengthFails (length line) || not (allDigits line) || sumFails (bytesOf line)
+
+-- "empty"
+abbrev pub isEmpty : List ℕ → Bool
+isEmpty line = eqb (length line) 0
 
 unfoldable pub lineFails : List ℕ → Bool
-lineFails line = lengthFails (length line) || not (allDigits line) || sumFails (bytesOf line)
+lineFails line = isEmpty line || digitsFail line
 
 unfoldable pub lineChecks : List ℕ → List Check
 lineChecks line = lineFails line ↝ Cause.Line ∷ []
 
--- The bytes with zeros behind them, 16 in all.
+-- How many bytes an array holds that frames are read into or put together in. The longest line's are no more.
+abbrev pub capacity : ℕ
+capacity = 16
+
+-- The bytes with zeros behind them, as many in all as an array holds
 unfoldable pub padded : List ℕ → List ℕ
-padded bytes = bytes ++ replicate (16 - length bytes) 0
+padded bytes = bytes ++ replicate (capacity - length bytes) 0
 
 -- What the call `decode` answers: the bytes of a sound line, nothing of any other.
 unfoldable pub decoded : List ℕ → Decoded

@@ -5,16 +5,23 @@ ghost use Prim.Native.Nat.{_<_};
 ghost use Rattle.refusal.specs.Checks.{verdict};
 ghost use Rattle.frames.specs.Hex.{digitValue};
 ghost use Rattle.frames.specs.Line.{lengthFails, decoded};
-ghost use Rattle.frames.specs.DesignFrame.{frameChecks, framePair, frameDesign};
+ghost use Rattle.frames.specs.DesignFrame.{frameChecks, framePair, frameDesign, firstChecks};
 use design::Design;
 use design::Pair;
+use design::legal::design_verdict;
 use refusal::Cause;
 use refusal::Verdict;
+
+// The longest line, in digits.
+pub const LONGEST_LINE: usize = 32;
+
+// How many bytes an array holds that frames are read into or put together in. The longest line's are no more.
+pub const CAPACITY: usize = 16;
 
 // What a line holds: its bytes with zeros behind them, and how many there are.
 pub struct Decoded {
     pub verdict: Verdict,
-    pub bytes: [u8; 16],
+    pub bytes: [u8; CAPACITY],
     pub count: usize,
 }
 
@@ -31,11 +38,11 @@ fn digit(c: u8) -> u8
     c - 48
 }
 
-// Whether a line is refused for its number of digits alone. 32 of them fill the 16 bytes of an answer.
+// Whether a line that is not empty is refused for its number of digits alone.
 fn length_fails(digits: usize) -> bool
     ensures { λ r. ⌜ r ≡ lengthFails digits ⌝ }
 {
-    digits == 0 || digits % 2 == 1 || 32 < digits
+    digits % 2 == 1 || LONGEST_LINE < digits
 }
 
 // The one answer to every line that is refused, the empty line among them.
@@ -44,20 +51,23 @@ fn unsound() -> Decoded
 {
     Decoded {
         verdict: Verdict::Refused(Cause::Line),
-        bytes: [0; 16],
+        bytes: [0; CAPACITY],
         count: 0,
     }
 }
 
-// The bytes of a line, or the refusal 15. The sum of 16 bytes is far below 2^32, so it is reduced only once, at the end.
+// The bytes of a line, or the refusal 15. The sum of so few bytes is far below 2^32, so it is reduced only once, at the end.
 pub fn decode(line: &[u8]) -> Decoded
     ensures { λ r. ⌜ r ≡ decoded (now (line .entry)) ⌝ }
 {
+    if line.len() == 0 {
+        return unsound();
+    }
     if length_fails(line.len()) {
         return unsound();
     }
     let count = line.len() / 2;
-    let mut bytes = [0u8; 16];
+    let mut bytes = [0u8; CAPACITY];
     let mut sum: u32 = 0;
     let mut i = 0;
     while i < count {
@@ -82,7 +92,7 @@ pub fn decode(line: &[u8]) -> Decoded
 }
 
 // The refusal 16 of a line that has to hold a design. A frame too short for its m fails too: fewer than 8 bytes are never due.
-pub fn frame_verdict(bytes: [u8; 16], count: usize) -> Verdict
+fn frame_verdict(bytes: [u8; CAPACITY], count: usize) -> Verdict
     ensures { λ r. ⌜ r ≡ verdict (frameChecks bytes count) ⌝ }
 {
     let due = 8 + 2 * (bytes[6] as usize);
@@ -93,7 +103,7 @@ pub fn frame_verdict(bytes: [u8; 16], count: usize) -> Verdict
 }
 
 // Pair i of a frame; zeros at m and beyond, where the sum byte and the padding lie.
-fn frame_pair(bytes: [u8; 16], i: usize) -> Pair
+fn frame_pair(bytes: [u8; CAPACITY], i: usize) -> Pair
     requires { ⌜ i < 4 ⌝ }
     ensures { λ r. ⌜ r ≡ framePair bytes i ⌝ }
 {
@@ -108,7 +118,7 @@ fn frame_pair(bytes: [u8; 16], i: usize) -> Pair
 }
 
 // The design that a frame holds, unchecked: whether it is legal is for the caller to ask.
-pub fn frame_design(bytes: [u8; 16]) -> Design
+pub fn frame_design(bytes: [u8; CAPACITY]) -> Design
     ensures { λ r. ⌜ r ≡ frameDesign bytes ⌝ }
 {
     let p0 = frame_pair(bytes, 0);
@@ -124,4 +134,14 @@ pub fn frame_design(bytes: [u8; 16]) -> Design
         m: bytes[6] as u32,
         pairs: [p0, p1, p2, p3],
     }
+}
+
+// Everything that is tried on the first frame of a set before the tables' lengths are: the refusal 16, then 1 to 9 of the design in it.
+pub fn first_verdict(bytes: [u8; CAPACITY], count: usize) -> Verdict
+    ensures { λ r. ⌜ r ≡ verdict (firstChecks bytes count) ⌝ }
+{
+    if let Verdict::Refused(cause) = frame_verdict(bytes, count) {
+        return Verdict::Refused(cause);
+    }
+    design_verdict(frame_design(bytes))
 }

@@ -11,7 +11,8 @@ use borrow.Author.Tests.{ltb-true}
 use Rattle.design.specs.declared.Design.{Design}
 use Rattle.design.specs.Legal.{Legal}
 use Rattle.design.proofs.LegalLaws.{limits}
-use Rattle.encoding.specs.Bytes.{bigEndian, fits}
+use Rattle.frames.specs.Line.{longestLine}
+use Rattle.encoding.specs.Bytes.{bigEndian, entryBytes, fits}
 use Rattle.encoding.proofs.HexBack.{Bytes, bytes-append}
 use Rattle.encoding.proofs.NumberBack.{big-endian-length, big-endian-bytes}
 use Rattle.encoding.proofs.ComplementBack.{complement-lt}
@@ -47,16 +48,16 @@ head-short d (Slot.Offset table index place) h =
     omega (arith, length-append (bigEndian 1 table) (bigEndian 2 index), big-endian-length 1 table, big-endian-length 2 index)
 head-short d (Slot.End before) h = omega (arith, big-endian-length 2 before)
 
--- an entry takes at most 3,
-pub entry-short : (slot : Slot) → entryWidth slot ≤ 3
+-- an entry takes no more than its 3 bytes,
+pub entry-short : (slot : Slot) → entryWidth slot ≤ entryBytes
 unfolding entryWidth
 entry-short Slot.Design = omega arith
 entry-short (Slot.Initial index) = le-refl _
 entry-short (Slot.Offset table index place) = le-refl _
 entry-short (Slot.End before) = omega arith
 
--- and no frame has more than 15, without its sum byte.
-pub frame-short : (d : Design) → Legal d → (slot : Slot) → length (frameHead d slot) + entryWidth slot ≤ 15
+-- and no line is too long.
+pub frame-short : (d : Design) → Legal d → (slot : Slot) → 2 * (length (frameHead d slot) + entryWidth slot + 1) ≤ longestLine
 unfolding frameHead entryWidth
 frame-short d legal Slot.Design = omega (arith, design-length d legal, limits d legal .m-high)
 frame-short d legal (Slot.Initial index) = omega (arith, head-short d (Slot.Initial index) tt)
@@ -88,5 +89,5 @@ pub entry-lt : (slot : Slot) (initial : List ℕ) (offsets : List ℤ) → entry
 unfolding entryFits entryNumber entryWidth fits
 entry-lt Slot.Design initial offsets h = omega arith
 entry-lt (Slot.Initial index) initial offsets h = ltb-true _ _ h
-entry-lt (Slot.Offset table index place) initial offsets h = complement-lt 3 (getD offsets place (pos 0)) (omega arith) h
+entry-lt (Slot.Offset table index place) initial offsets h = complement-lt entryBytes (getD offsets place (pos 0)) (omega arith) h
 entry-lt (Slot.End before) initial offsets h = omega arith

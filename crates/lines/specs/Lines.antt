@@ -6,7 +6,7 @@ use lib.ListN.{getD}
 use lib.IntN.{ℤ, pos}
 use Rattle.design.specs.declared.Design.{Design}
 use Rattle.general.specs.Below.{listBelow}
-use Rattle.encoding.specs.Bytes.{bigEndian, complement, fits, fitsSigned}
+use Rattle.encoding.specs.Bytes.{bigEndian, entryBytes, complement, fits, fitsSigned}
 use Rattle.encoding.specs.Encode.{lineOf}
 use Rattle.encoding.specs.DesignBytes.{designBytes}
 use Rattle.lines.specs.declared.Slot.{Slot}
@@ -23,21 +23,21 @@ frameHead d (Slot.End before) = 4 ∷ bigEndian 2 before
 -- "initial entry (3 bytes)", "offset (3, two's complement)": how many bytes the entry takes, and the number in them
 unfoldable pub entryWidth : Slot → ℕ
 entryWidth Slot.Design = 0
-entryWidth (Slot.Initial index) = 3
-entryWidth (Slot.Offset table index place) = 3
+entryWidth (Slot.Initial index) = entryBytes
+entryWidth (Slot.Offset table index place) = entryBytes
 entryWidth (Slot.End before) = 0
 
 unfoldable pub entryNumber : Slot → List ℕ → List ℤ → ℕ
 entryNumber Slot.Design initial offsets = 0
 entryNumber (Slot.Initial index) initial offsets = getD initial index 0
-entryNumber (Slot.Offset table index place) initial offsets = complement 3 (getD offsets place (pos 0))
+entryNumber (Slot.Offset table index place) initial offsets = complement entryBytes (getD offsets place (pos 0))
 entryNumber (Slot.End before) initial offsets = 0
 
 -- 18: whether the "entry .. fit[s] its 3 bytes"
 unfoldable pub entryFits : Slot → List ℕ → List ℤ → Bool
 entryFits Slot.Design initial offsets = true
-entryFits (Slot.Initial index) initial offsets = fits 3 (getD initial index 0)
-entryFits (Slot.Offset table index place) initial offsets = fitsSigned 3 (getD offsets place (pos 0))
+entryFits (Slot.Initial index) initial offsets = fits entryBytes (getD initial index 0)
+entryFits (Slot.Offset table index place) initial offsets = fitsSigned entryBytes (getD offsets place (pos 0))
 entryFits (Slot.End before) initial offsets = true
 
 -- A frame without its sum byte

@@ -12,6 +12,7 @@ use design::measure::offset_count;
 use design::measure::offset_total;
 use encoding::Frame;
 use encoding::design_frame;
+use encoding::numbers::ENTRY_BYTES;
 use general::pow2;
 
 // What a line of a set holds: the design, an initial entry, an offset of a table, which lies at a place among all offsets, or the
@@ -96,12 +97,12 @@ pub fn entry_width(slot: Slot) -> usize
 {
     match slot {
         Slot::Design => 0,
-        Slot::Initial(_) => 3,
+        Slot::Initial(_) => ENTRY_BYTES,
         Slot::Offset {
             table: _,
             index: _,
             place: _,
-        } => 3,
+        } => ENTRY_BYTES,
         Slot::End(_) => 0,
     }
 }

@@ -15,10 +15,11 @@ use Rattle.refusal.specs.declared.Verdict.{Verdict}
 use Rattle.refusal.specs.Checks.{_↝_, verdict}
 use Rattle.refusal.proofs.Checks.{after, verdict-append, neither}
 use Rattle.design.specs.declared.Design.{Design}
-use Rattle.tables.specs.Set.{tablesCheck, setChecks}
-use Rattle.frames.specs.DesignFrame.{frameFails, frameChecks, frameDesign}
-use Rattle.frames.proofs.FrameLaws.{frameFails-padded, frameDesign-padded}
-use Rattle.encoding.specs.Bytes.{numberIn}
+use Rattle.tables.specs.Set.{tablesCheck}
+use Rattle.frames.specs.DesignFrame.{frameDesign, firstChecks}
+use Rattle.frames.proofs.FrameLaws.{frameDesign-padded, firstChecks-padded}
+use Rattle.encoding.specs.Bytes.{numberIn, entryBytes}
+use Rattle.frames.specs.Line.{capacity}
 use Rattle.lines.specs.declared.Slot.{Slot}
 use Rattle.lines.specs.Slots.{lineCount, slotOf}
 use Rattle.lines.specs.Lines.{frameHead, entryWidth}
@@ -60,43 +61,44 @@ heads-same head width bytes count = go (eqb count (length head + width + 1)) ref
 abbrev pub refusedAnswer : Reading → Cause → Read
 refusedAnswer state cause = record { verdict = Verdict.Refused cause; state = state }
 
-module _ (bytes : List ℕ) (count : ℕ) (full : length bytes ≡ 16) (sound : Sound bytes count) where
+module _ (bytes : List ℕ) (count : ℕ) (full : length bytes ≡ capacity) (sound : Sound bytes count) where
   frame-length : length (take count bytes) ≡ count
   frame-length = length-take-le count bytes (omega (arith, sound .short))
 
   -- The zeros behind a frame change nothing of the design in it.
-  fails-same : frameFails (take count bytes) count ≡ frameFails bytes count
-  fails-same = sym (frameFails-padded (take count bytes) count) ∙ ap (λ (l : List ℕ). frameFails l count) (sym (sound .zeros))
+  checks-same : firstChecks (take count bytes) count ≡ firstChecks bytes count
+  checks-same = sym (firstChecks-padded (take count bytes) count) ∙ ap (λ (l : List ℕ). firstChecks l count) (sym (sound .zeros))
 
   design-same : frameDesign (take count bytes) ≡ frameDesign bytes
   design-same = sym (frameDesign-padded (take count bytes)) ∙ ap frameDesign (sym (sound .zeros))
 
-  -- The first line is tried as a frame 01, and then for its design and for the tables' lengths.
+  -- The first line is tried as the first frame, and then for the tables' lengths.
   module _ (state : Reading) (none : state .taken ≡ 0) (initial offsets : ℕ) where
     first-verdict : dueVerdict state initial offsets (take count bytes)
-        ≡ after (verdict (frameChecks bytes count)) (verdict (setChecks (frameDesign bytes) initial offsets))
-    unfolding dueVerdict frameChecks
+        ≡ after (verdict (firstChecks bytes count)) (verdict (tablesCheck (frameDesign bytes) initial offsets ∷ []))
+    unfolding dueVerdict
     first-verdict =
-        rw (first-checks state initial offsets (take count bytes) none, frame-length, fails-same, design-same)
-        (verdict-append (frameChecks bytes count) (setChecks (frameDesign bytes) initial offsets))
+        rw (first-checks state initial offsets (take count bytes) none, frame-length, checks-same, design-same)
+        (verdict-append (firstChecks bytes count) (tablesCheck (frameDesign bytes) initial offsets ∷ []))
 
-    pub first-not-due : (cause : Cause) → verdict (frameChecks bytes count) ≡ Verdict.Refused cause
+    pub first-refused : (cause : Cause) → verdict (firstChecks bytes count) ≡ Verdict.Refused cause
         → refusedAnswer state cause ≡ answerIf (dueVerdict state initial offsets (take count bytes)) state (take count bytes)
-    first-not-due cause e = rw (first-verdict, e)
+    first-refused cause e = rw (first-verdict, e)
 
-    module _ (due : verdict (frameChecks bytes count) ≡ Verdict.Passed) where
-      pub first-refused : (cause : Cause) → verdict (setChecks (frameDesign bytes) initial offsets) ≡ Verdict.Refused cause
-          → refusedAnswer state cause ≡ answerIf (dueVerdict state initial offsets (take count bytes)) state (take count bytes)
-      first-refused cause e = rw (first-verdict, due, e)
+    module _ (due : verdict (firstChecks bytes count) ≡ Verdict.Passed) where
+      pub first-short : tablesCheck (frameDesign bytes) initial offsets .fails ≡ true
+          → refusedAnswer state Cause.TablesShort ≡ answerIf (dueVerdict state initial offsets (take count bytes)) state (take count bytes)
+      unfolding tablesCheck
+      first-short e = rw (first-verdict, due, e)
 
-      pub first-accepted : verdict (setChecks (frameDesign bytes) initial offsets) ≡ Verdict.Passed
+      pub first-accepted : tablesCheck (frameDesign bytes) initial offsets .fails ≡ false
           → _≡_ {A = Read} (record { verdict = Verdict.Passed; state = record { design = frameDesign bytes; taken = 1 } })
           (answerIf (dueVerdict state initial offsets (take count bytes)) state (take count bytes))
       first-accepted e = rw (first-verdict, due, e, first-design state (take count bytes) none, design-same, none)
 
--- The number in the 3 bytes behind a head
+-- The number in an entry's bytes behind a head
 abbrev pub behind : ℕ → List ℕ → ℕ
-behind from bytes = numberIn (take 3 (drop from bytes))
+behind from bytes = numberIn (take entryBytes (drop from bytes))
 
 -- What the reading of a frame has to come to: this answer, and these tables
 abbrev pub Outcome : Reading → List ℕ → List ℤ → List ℕ → Read → List ℕ → List ℤ → Type 0
@@ -113,7 +115,7 @@ module _ (state : Reading) (initial : List ℕ) (offsets : List ℤ) (frame : Li
   refused-outcome cause answer is e = rw (is, e) (refl, (refl, refl))
 
 -- A later line is tried for the frame that is due, and then for the tables' lengths.
-module _ (bytes : List ℕ) (count : ℕ) (full : length bytes ≡ 16) (sound : Sound bytes count) (state : Reading) (begun : Begun state)
+module _ (bytes : List ℕ) (count : ℕ) (full : length bytes ≡ capacity) (sound : Sound bytes count) (state : Reading) (begun : Begun state)
     (initial offsets : ℕ) where
   later-verdict : dueVerdict state initial offsets (take count bytes)
       ≡ verdict
@@ -145,14 +147,14 @@ module _ (bytes : List ℕ) (count : ℕ) (full : length bytes ≡ 16) (sound : 
         → dueVerdict state initial offsets (take count bytes) ≡ Verdict.Passed
     later-accepted e = later-verdict ∙ rw (lt-leb _ _ within, due, e)
 
--- The number that is stored: where there is an entry, its 3 bytes lie within the frame.
+-- The number that is stored: where there is an entry, its bytes lie within the frame.
 module _ (d : Design) (bytes : List ℕ) (count : ℕ) where
   initial-same : (slot : Slot) (initial : List ℕ) → length (frameHead d slot) + entryWidth slot ≤ count
       → initialStored slot (behind (length (frameHead d slot)) bytes) initial
       ≡ initialStored slot (entryIn d slot (take count bytes)) initial
   unfolding initialStored entryIn entryWidth
   initial-same Slot.Design initial h = refl
-  initial-same (Slot.Initial index) initial h = rw (within-front bytes count (length (frameHead d (Slot.Initial index))) 3 h)
+  initial-same (Slot.Initial index) initial h = rw (within-front bytes count (length (frameHead d (Slot.Initial index))) entryBytes h)
   initial-same (Slot.Offset table index place) initial h = refl
   initial-same (Slot.End before) initial h = refl
 
@@ -163,7 +165,7 @@ module _ (d : Design) (bytes : List ℕ) (count : ℕ) where
   offsets-same Slot.Design offsets h = refl
   offsets-same (Slot.Initial index) offsets h = refl
   offsets-same (Slot.Offset table index place) offsets h =
-      rw (within-front bytes count (length (frameHead d (Slot.Offset table index place))) 3 h)
+      rw (within-front bytes count (length (frameHead d (Slot.Offset table index place))) entryBytes h)
   offsets-same (Slot.End before) offsets h = refl
 
 -- A frame that is due has room for its entry.

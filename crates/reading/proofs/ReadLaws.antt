@@ -1,7 +1,7 @@
 -- What is tried on a first line and on a later one, and what a line that passes tells.
 use mathlib.Core.Path.{_≡_, sym, ap, _∙_}
 use mathlib.Core.Bool.{Bool, true, false, _||_, _&&_, true≢false}
-use mathlib.Core.List.{List, [], _∷_}
+use mathlib.Core.List.{List, [], _∷_, _++_}
 use Prim.Native.Nat.{ℕ, _<_}
 use native.Mathlib.Omega.{arith}
 use lib.Dec.{leb, eqb}
@@ -10,15 +10,16 @@ use borrow.Author.Tests.{leb-true, leb-false, le-leb, lt-leb, eqb-true, eq-eqb, 
 use Rattle.refusal.specs.declared.Cause.{Cause}
 use Rattle.refusal.specs.declared.Verdict.{Verdict}
 use Rattle.refusal.specs.Checks.{Check, _↝_, verdict, passes}
-use Rattle.refusal.proofs.Checks.{neither, none-fails, passed-append, both}
+use Rattle.refusal.proofs.Checks.{neither, none-fails, passed-append, both, verdict-append}
 use Rattle.refusal.proofs.Answers.{only-passed}
 use Rattle.design.specs.Legal.{designVerdict}
 use Rattle.tables.specs.Inputs.{Usable}
-use Rattle.tables.specs.Set.{tablesCheck, setChecks}
-use Rattle.tables.proofs.SetLaws.{usable, set-passed}
+use Rattle.tables.specs.Set.{tablesCheck}
+use Rattle.tables.proofs.SetLaws.{usable, set-lengths, tables-long}
 use Rattle.frames.specs.Hex.{bytesOf}
 use Rattle.frames.specs.Line.{lineFails, lineChecks}
-use Rattle.frames.specs.DesignFrame.{frameFails, frameDesign}
+use Rattle.frames.specs.DesignFrame.{frameDesign, firstChecks}
+use Rattle.frames.proofs.FrameLaws.{first-frame}
 use Rattle.lines.specs.Slots.{lineCount, slotOf}
 use Rattle.lines.specs.Lines.{frameHead, entryWidth}
 use Rattle.reading.specs.declared.Reading.{Reading}
@@ -44,8 +45,8 @@ module _ (state : Reading) where
   -- the checks on a sound line
   module _ (initial offsets : ℕ) (bytes : List ℕ) where
     pub first-checks : state .taken ≡ 0
-        → dueChecks state initial offsets bytes ≡ frameFails bytes (length bytes) ↝ Cause.Frame ∷ setChecks (frameDesign bytes) initial offsets
-    unfolding dueChecks dueFails setChecks
+        → dueChecks state initial offsets bytes ≡ firstChecks bytes (length bytes) ++ tablesCheck (frameDesign bytes) initial offsets ∷ []
+    unfolding dueChecks
     first-checks e = rw (first-design bytes e, e)
 
     abbrev pub laterChecks : List Check
@@ -131,20 +132,23 @@ module _ (state : Reading) (initial offsets : ℕ) where
   module _ (bytes : List ℕ) where
     -- the first line
     pub record First : Type 0 where
-      pub frame : frameFails bytes (length bytes) ≡ false
+      pub frame : verdict (firstChecks bytes (length bytes)) ≡ Verdict.Passed
       pub tables : Usable (frameDesign bytes) initial offsets
 
     pub first-passing : state .taken ≡ 0 → verdict (dueChecks state initial offsets bytes) ≡ Verdict.Passed → First
     first-passing z e =
-        let parts = passed-append (frameFails bytes (length bytes) ↝ Cause.Frame ∷ []) (setChecks (frameDesign bytes) initial offsets)
+        let d = frameDesign bytes in
+        let parts = passed-append (firstChecks bytes (length bytes)) (tablesCheck d initial offsets ∷ [])
         (ap verdict (sym (first-checks state initial offsets bytes z)) ∙ e) in
+        let legal = first-frame bytes (length bytes) (parts .0) .legal in
         record {
-          frame = none-fails (frameFails bytes (length bytes) ↝ Cause.Frame ∷ []) (parts .0) .0;
-          tables = usable _ _ _ (parts .1);
+          frame = parts .0;
+          tables = usable d initial offsets (set-lengths d initial offsets false legal (none-fails (tablesCheck d initial offsets ∷ []) (parts .1) .0));
         }
 
     pub first-passed : state .taken ≡ 0 → First → verdict (dueChecks state initial offsets bytes) ≡ Verdict.Passed
-    first-passed z p = rw (first-checks state initial offsets bytes z, p .frame) (set-passed _ _ _ (p .tables))
+    first-passed z p =
+        rw (first-checks state initial offsets bytes z, verdict-append, p .frame, tables-long (frameDesign bytes) initial offsets (p .tables))
 
     -- a later one
     pub record Later : Type 0 where

@@ -1,5 +1,5 @@
 -- What a line comes to, sound or not: the answer, its number, and the tables after it.
-use mathlib.Core.Path.{_≡_, refl, sym, ap, _∙_}
+use mathlib.Core.Path.{_≡_, refl, ap, _∙_}
 use mathlib.Core.Bool.{true, false}
 use mathlib.Core.List.{List}
 use Prim.Native.Nat.{ℕ, _/_, _-_, _≤_}
@@ -15,8 +15,8 @@ use Rattle.refusal.proofs.Checks.{verdict-append, neither, none-fails}
 use Rattle.refusal.proofs.Answers.{if-passed-part}
 use Rattle.frames.specs.declared.Decoded.{Decoded}
 use Rattle.frames.specs.Hex.{bytesOf}
-use Rattle.frames.specs.Line.{lengthFails, lineFails, lineChecks, padded, decoded}
-use Rattle.frames.proofs.LineLaws.{whole, sound-length, decoded-verdict, decoded-passed}
+use Rattle.frames.specs.Line.{lengthFails, digitsFail, isEmpty, lineFails, lineChecks, capacity, padded, decoded}
+use Rattle.frames.proofs.LineLaws.{sound-length, line-told, held-whole}
 use Rattle.encoding.proofs.HexBack.{bytes-length}
 use Rattle.lines.specs.declared.Slot.{Slot}
 use Rattle.lines.specs.Slots.{slotOf}
@@ -46,38 +46,31 @@ use Rattle.reading.specs.ReadLine.{
 }
 use Rattle.reading.proofs.LineSteps.{refusedAnswer, Outcome}
 
--- The bytes of a line that is not refused are 16 at most.
-bytes-short : (line : List ℕ) → lineFails line ≡ false → length (bytesOf line) ≤ 16
-unfolding lineFails
+-- The bytes of a line that is not refused fit an array.
+bytes-short : (line : List ℕ) → lineFails line ≡ false → length (bytesOf line) ≤ capacity
+unfolding lineFails digitsFail
 bytes-short line e =
-    let sound = sound-length (length line) (neither (lengthFails (length line)) _ (neither _ _ e .0) .0) in
+    let shape = neither _ _ (neither (isEmpty line) (digitsFail line) e .1) .0 in
+    let sound = sound-length (length line) (neither (lengthFails (length line)) _ shape .0) in
     omega (arith, bytes-length (length line / 2) line (sound .even), sound .short)
 
--- What `decode` gives for a line
-module _ (line : List ℕ) (held : Decoded) (held-is : held ≡ decoded line) where
-  pub line-told : (v : Verdict) → held .verdict ≡ v → verdict (lineChecks line) ≡ v
-  line-told v e = sym (decoded-verdict line) ∙ ap (λ (h : Decoded). h .verdict) (sym held-is) ∙ e
+-- What `decode` gives for a line that it accepts
+module _ (line : List ℕ) (held : Decoded) (held-is : held ≡ decoded line) (passed : held .verdict ≡ Verdict.Passed) where
+  front : take (length (bytesOf line)) (padded (bytesOf line)) ≡ bytesOf line
+  unfolding padded
+  front = take-append-seam (bytesOf line) (replicate (capacity - length (bytesOf line)) 0)
 
-  -- A line that it accepts is held whole.
-  module _ (passed : held .verdict ≡ Verdict.Passed) where
-    held-whole : held ≡ whole line
-    held-whole = held-is ∙ decoded-passed line (ap (λ (h : Decoded). h .verdict) (sym held-is) ∙ passed)
+  pub frame-held : take (held .count) (held .bytes) ≡ bytesOf line
+  frame-held = rw (held-whole line held held-is passed) front
 
-    front : take (length (bytesOf line)) (padded (bytesOf line)) ≡ bytesOf line
-    unfolding padded
-    front = take-append-seam (bytesOf line) (replicate (16 - length (bytesOf line)) 0)
-
-    pub frame-held : take (held .count) (held .bytes) ≡ bytesOf line
-    frame-held = rw held-whole front
-
-    pub sound-held : Sound (held .bytes) (held .count)
-    unfolding lineChecks
-    sound-held =
-        rw held-whole
-        (record {
-          short = bytes-short line (none-fails (lineChecks line) (line-told Verdict.Passed passed) .0);
-          zeros = rw front;
-        })
+  pub sound-held : Sound (held .bytes) (held .count)
+  unfolding lineChecks
+  sound-held =
+      rw (held-whole line held held-is passed)
+      (record {
+        short = bytes-short line (none-fails (lineChecks line) (line-told line held held-is Verdict.Passed passed) .0);
+        zeros = rw front;
+      })
 
 -- What the reading of a line has to come to: this answer, its number, and these tables
 abbrev pub LineOutcome : Reading → List ℕ → List ℤ → List ℕ → Read → List ℕ → List ℤ → Type 0

@@ -1,4 +1,4 @@
--- The number in the three bytes of an entry.
+-- The number in the bytes of an entry.
 use Prim.Native.Nat.{ℕ, suc, _+_, _*_, _^_, _<_}
 use mathlib.Core.List.{List, [], _∷_}
 use native.Mathlib.Omega.{arith}
@@ -14,15 +14,16 @@ all-small : (bytes : List ℕ) → ((i : ℕ) → i < length bytes → getD byte
 all-small [] small = tt
 all-small (byte ∷ bytes) small = (small 0 (omega arith), all-small bytes (λ i h. small (suc i) (omega arith)))
 
--- Three bytes, from any place on, hold a number of 24 bits.
-pub three-small : (bytes : List ℕ) (from : ℕ) → ((i : ℕ) → getD bytes i 0 < 256) → numberIn (take 3 (drop from bytes)) < 2 ^ 24
-three-small bytes from small =
-    let three = take 3 (drop from bytes) in
-    let short = length-take 3 (drop from bytes) in
-    let small-here : (i : ℕ) → i < length three → getD three i 0 < 256 =
-    λ i h. rw (getD-take 3 (drop from bytes) i 0 (omega (arith, short)), getD-drop) (small (from + i)) in
+-- So many bytes, from any place on, hold a number of eight times as many bits.
+pub bytes-number : (n : ℕ) (bytes : List ℕ) (from : ℕ) → ((i : ℕ) → getD bytes i 0 < 256)
+    → numberIn (take n (drop from bytes)) < 2 ^ (8 * n)
+bytes-number n bytes from small =
+    let some = take n (drop from bytes) in
+    let short = length-take n (drop from bytes) in
+    let small-here : (i : ℕ) → i < length some → getD some i 0 < 256 =
+    λ i h. rw (getD-take n (drop from bytes) i 0 (omega (arith, short)), getD-drop) (small (from + i)) in
     omega (
       arith,
-      number-lt three (all-small three small-here),
-      pow-mono {i = 8 * length three} {j = 24} (omega (arith, short)),
+      number-lt some (all-small some small-here),
+      pow-mono {i = 8 * length some} {j = 8 * n} (omega (arith, short)),
     )

@@ -9,12 +9,12 @@ use Rattle.refusal.specs.declared.Cause.{Cause}
 use Rattle.refusal.specs.declared.Verdict.{Verdict}
 use Rattle.refusal.specs.Checks.{Check, _↝_, verdict, ifPassed, passes}
 use Rattle.design.specs.declared.Design.{Design}
-use Rattle.design.specs.Legal.{designChecks, designVerdict}
+use Rattle.design.specs.Legal.{designVerdict}
 use Rattle.tables.specs.Set.{tablesCheck}
 use Rattle.frames.specs.Hex.{bytesOf}
 use Rattle.frames.specs.Line.{lineChecks}
-use Rattle.frames.specs.DesignFrame.{frameFails, frameDesign}
-use Rattle.encoding.specs.Bytes.{numberIn, fromComplement}
+use Rattle.frames.specs.DesignFrame.{frameDesign, firstChecks}
+use Rattle.encoding.specs.Bytes.{numberIn, entryBytes, fromComplement}
 use Rattle.lines.specs.declared.Slot.{Slot}
 use Rattle.lines.specs.Slots.{lineCount, slotOf}
 use Rattle.lines.specs.Lines.{frameHead, entryWidth}
@@ -48,20 +48,18 @@ begins (byte ∷ bytes) (first ∷ rest) = eqb byte first && begins bytes rest
 unfoldable pub headFails : List ℕ → ℕ → List ℕ → ℕ → Bool
 headFails head width bytes count = not (eqb count (length head + width + 1)) || not (begins bytes head)
 
--- 16: with no line taken an 01 frame is due, "8 + 2m bytes by its own m"; "After 04 nothing more is due".
+-- "After 04 nothing more is due."
 unfoldable pub dueFails : Reading → List ℕ → Bool
 dueFails state bytes =
     let d = state .design in
     let slot = slotOf d (state .taken) in
-    cond (eqb (state .taken) 0) (frameFails bytes (length bytes))
-    (leb (lineCount d) (state .taken) || headFails (frameHead d slot) (entryWidth slot) bytes (length bytes))
+    leb (lineCount d) (state .taken) || headFails (frameHead d slot) (entryWidth slot) bytes (length bytes)
 
--- "16, on an 01 line 1 to 9, then 10", of a sound line's bytes, for tables of these lengths
+-- "16, on an 01 line 1 to 9, then 10", of a sound line's bytes, for tables of these lengths: with no line taken the first frame is due.
 unfoldable pub dueChecks : Reading → ℕ → ℕ → List ℕ → List Check
 dueChecks state initial offsets bytes =
-    let d = designAfter state bytes in
-    dueFails state bytes ↝ Cause.Frame
-    ∷ cond (eqb (state .taken) 0) (designChecks d) [] ++ tablesCheck d initial offsets ∷ []
+    cond (eqb (state .taken) 0) (firstChecks bytes (length bytes)) (dueFails state bytes ↝ Cause.Frame ∷ [])
+    ++ tablesCheck (designAfter state bytes) initial offsets ∷ []
 
 unfoldable pub dueVerdict : Reading → ℕ → ℕ → List ℕ → Verdict
 dueVerdict state initial offsets bytes = verdict (dueChecks state initial offsets bytes)
@@ -94,7 +92,7 @@ initialStored (Slot.End before) n initial = initial
 unfoldable pub offsetsStored : Slot → ℕ → List ℤ → List ℤ
 offsetsStored Slot.Design n offsets = offsets
 offsetsStored (Slot.Initial index) n offsets = offsets
-offsetsStored (Slot.Offset table index place) n offsets = set offsets place (fromComplement 3 n)
+offsetsStored (Slot.Offset table index place) n offsets = set offsets place (fromComplement entryBytes n)
 offsetsStored (Slot.End before) n offsets = offsets
 
 -- A reading: its state, and the tables that it stores in

@@ -3,7 +3,8 @@ ghost use mathlib.Core.Path.{_≡_};
 ghost use Prim.Native.Nat.{_+_, _≤_};
 ghost use lib.ListN.{length, take, drop};
 ghost use Rattle.refusal.specs.Numbers.{verdictNumber};
-ghost use Rattle.encoding.specs.Bytes.{numberIn};
+ghost use Rattle.frames.specs.Line.{capacity};
+ghost use Rattle.encoding.specs.Bytes.{numberIn, entryBytes};
 ghost use Rattle.encoding.specs.Inputs.{held};
 ghost use Rattle.lines.specs.Inputs.{SlotIn};
 ghost use Rattle.reading.specs.ReadLine.{
@@ -24,11 +25,13 @@ ghost use Rattle.reading.specs.Inputs.{Sound, Begun};
 use design::Design;
 use design::legal::design_verdict;
 use encoding::Frame;
+use encoding::numbers::ENTRY_BYTES;
 use encoding::numbers::from_complement;
 use encoding::numbers::number_in;
+use frames::CAPACITY;
 use frames::decode;
+use frames::first_verdict;
 use frames::frame_design;
-use frames::frame_verdict;
 use lines::Slot;
 use lines::entry_width;
 use lines::head_of;
@@ -36,7 +39,6 @@ use lines::line_count;
 use lines::slot_of;
 use refusal::Cause;
 use refusal::Verdict;
-use tables::set_verdict;
 use tables::tables_short;
 
 // Document 01's reading state. With no line taken the design is not read.
@@ -65,8 +67,8 @@ fn is_possible(state: Reading) -> bool
 }
 
 // Whether a frame is not the one due, which begins as `head` does and has an entry of `width` bytes and a sum byte behind that.
-fn head_fails(head: Frame, width: usize, bytes: [u8; 16], count: usize) -> bool
-    requires { ⌜ head .count + width ≤ 15 ⌝ }
+fn head_fails(head: Frame, width: usize, bytes: [u8; CAPACITY], count: usize) -> bool
+    requires { ⌜ head .count + width ≤ capacity ⌝ }
     ensures { λ r. ⌜ r ≡ headFails (held head) width bytes count ⌝ }
 {
     if count != head.count + width + 1 {
@@ -81,24 +83,24 @@ fn head_fails(head: Frame, width: usize, bytes: [u8; 16], count: usize) -> bool
     false
 }
 
-// Stores the entry whose 3 bytes begin at a place of the frame.
-fn store(slot: Slot, from: usize, bytes: [u8; 16], initial: &mut [u32], offsets: &mut [i32])
+// Stores the entry whose bytes begin at a place of the frame.
+fn store(slot: Slot, from: usize, bytes: [u8; CAPACITY], initial: &mut [u32], offsets: &mut [i32])
     requires { ⌜ SlotIn slot (length (now initial)) (length (now offsets)) ⌝ }
-    requires { ⌜ from + 3 ≤ 16 ⌝ }
-    ensures { λ _. ⌜ now (initial .exit) ≡ initialStored slot (numberIn (take 3 (drop from bytes))) (now (initial .entry)) ⌝ }
-    ensures { λ _. ⌜ now (offsets .exit) ≡ offsetsStored slot (numberIn (take 3 (drop from bytes))) (now (offsets .entry)) ⌝ }
+    requires { ⌜ from + entryBytes ≤ capacity ⌝ }
+    ensures { λ _. ⌜ now (initial .exit) ≡ initialStored slot (numberIn (take entryBytes (drop from bytes))) (now (initial .entry)) ⌝ }
+    ensures { λ _. ⌜ now (offsets .exit) ≡ offsetsStored slot (numberIn (take entryBytes (drop from bytes))) (now (offsets .entry)) ⌝ }
 {
     match slot {
         Slot::Design => {}
         Slot::Initial(index) => {
-            initial[index as usize] = number_in(bytes, from, 3);
+            initial[index as usize] = number_in(bytes, from, ENTRY_BYTES);
         }
         Slot::Offset {
             table: _,
             index: _,
             place,
         } => {
-            offsets[place as usize] = from_complement(number_in(bytes, from, 3));
+            offsets[place as usize] = from_complement(number_in(bytes, from, ENTRY_BYTES));
         }
         Slot::End(_) => {}
     }
@@ -115,17 +117,23 @@ fn refused(state: Reading, cause: Cause) -> Read
 }
 
 // A sound line with no line taken: it must hold a design.
-fn first_line(state: Reading, bytes: [u8; 16], count: usize, initial: usize, offsets: usize) -> Read
+fn first_line(
+    state: Reading,
+    bytes: [u8; CAPACITY],
+    count: usize,
+    initial: usize,
+    offsets: usize,
+) -> Read
     requires { ⌜ Sound bytes count ⌝ }
     requires { ⌜ state .taken ≡ 0 ⌝ }
     ensures { λ r. ⌜ r ≡ answerIf (dueVerdict state initial offsets (take count bytes)) state (take count bytes) ⌝ }
 {
-    if let Verdict::Refused(cause) = frame_verdict(bytes, count) {
+    if let Verdict::Refused(cause) = first_verdict(bytes, count) {
         return refused(state, cause);
     }
     let design = frame_design(bytes);
-    if let Verdict::Refused(cause) = set_verdict(design, initial, offsets) {
-        return refused(state, cause);
+    if tables_short(design, initial, offsets) {
+        return refused(state, Cause::TablesShort);
     }
     Read {
         verdict: Verdict::Passed,
@@ -136,7 +144,7 @@ fn first_line(state: Reading, bytes: [u8; 16], count: usize, initial: usize, off
 // A sound line with others taken before it.
 fn later_line(
     state: Reading,
-    bytes: [u8; 16],
+    bytes: [u8; CAPACITY],
     count: usize,
     initial: &mut [u32],
     offsets: &mut [i32],

@@ -8,11 +8,10 @@ use Rattle.refusal.specs.declared.Verdict.{Verdict}
 use Rattle.refusal.specs.Numbers.{numberOf}
 use Rattle.refusal.specs.Checks.{verdict, ifPassed}
 use Rattle.design.specs.declared.Design.{Design}
-use Rattle.design.specs.Legal.{designChecks}
 use Rattle.design.specs.Budget.{budget, limit, withinLimit, size}
 use Rattle.frames.specs.Hex.{bytesOf}
 use Rattle.frames.specs.Line.{lineChecks}
-use Rattle.frames.specs.DesignFrame.{frameChecks, frameDesign}
+use Rattle.frames.specs.DesignFrame.{frameDesign, firstChecks}
 use Rattle.report_text.specs.declared.Text.{Text}
 use Rattle.report_text.specs.Words.{ascii, decimal, textOf}
 
@@ -32,8 +31,7 @@ refusedText cause = ascii "REFUSED " ++ decimal (numberOf cause) ++ ascii "\n"
 
 -- "report 15, 16, 1 to 9"
 unfoldable pub reportVerdict : List ℕ → Verdict
-reportVerdict line =
-    verdict (lineChecks line ++ frameChecks (bytesOf line) (length (bytesOf line)) ++ designChecks (frameDesign (bytesOf line)))
+reportVerdict line = verdict (lineChecks line ++ firstChecks (bytesOf line) (length (bytesOf line)))
 
 unfoldable pub reportOf : List ℕ → Text
 reportOf line = textOf (ifPassed (reportVerdict line) (designText (frameDesign (bytesOf line))) refusedText)

@@ -5,13 +5,12 @@ ghost use Prim.Native.Nat.{ℕ, _+_, _≤_};
 ghost use lib.ListN.{length};
 ghost use Rattle.report_text.specs.Words.{decimal, textOf};
 ghost use Rattle.report_text.specs.Report.{lineText, refusedText, reportOf};
-use design::legal::design_verdict;
 use design::measure::budget_of;
 use design::measure::limit_of;
 use design::measure::size_of;
 use frames::decode;
+use frames::first_verdict;
 use frames::frame_design;
-use frames::frame_verdict;
 use refusal::Cause;
 use refusal::Verdict;
 
@@ -105,13 +104,10 @@ pub fn report(line: &[u8]) -> Text
         return refused(cause);
     }
     let bytes = held.bytes;
-    if let Verdict::Refused(cause) = frame_verdict(bytes, held.count) {
+    if let Verdict::Refused(cause) = first_verdict(bytes, held.count) {
         return refused(cause);
     }
     let d = frame_design(bytes);
-    if let Verdict::Refused(cause) = design_verdict(d) {
-        return refused(cause);
-    }
     let budget = budget_of(d);
     let limit = limit_of(d);
     measured(budget, limit, size_of(d), budget < limit)

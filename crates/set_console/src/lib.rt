@@ -2,12 +2,15 @@
 // standard output. No contract can say which bytes come in or go out; what can be said of a set that is read is promised.
 ghost use mathlib.Core.Path.{_≡_};
 ghost use mathlib.Core.Bool.{true};
+ghost use Prim.Native.Nat.{_+_};
 ghost use lib.ListN.{length};
 ghost use Rattle.refusal.specs.declared.Verdict.{Verdict};
+ghost use Rattle.frames.specs.Line.{longestLine};
 ghost use Rattle.writing.specs.Write.{writeVerdict};
 ghost use Rattle.reading.specs.ReadLine.{finished, session};
 ghost use Rattle.set_console.specs.Reading.{HoldsEverySet, Stepped, Came};
 use checking::Checked;
+use console::KEPT;
 use console::LineEnd;
 use design::Design;
 use design::Pair;
@@ -137,9 +140,9 @@ fn print_digits(buffer: &mut [u8], digits: usize) -> bool {
 // Writes a line of a set; false where the writer gives no such line or it could not be written whole.
 pub fn print_line(d: Design, initial: &[u32], offsets: &[i32], number: usize) -> bool
     ensures { λ r.
-        ⌜ (r ≡ true → writeVerdict d (now (initial .entry)) (now (offsets .entry)) number 33 ≡ Verdict.Passed) ⌝ }
+        ⌜ (r ≡ true → writeVerdict d (now (initial .entry)) (now (offsets .entry)) number (longestLine + 1) ≡ Verdict.Passed) ⌝ }
 {
-    let mut buffer = [0u8; 33];
+    let mut buffer = [0u8; KEPT];
     match write_line(d, initial, offsets, number, &mut buffer) {
         Written::Length(digits) => print_digits(&mut buffer, digits),
         Written::Refused(_) => false,

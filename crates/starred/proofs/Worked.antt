@@ -144,8 +144,9 @@ pub record Worked : Type 0 where
 
 pub worked : Worked
 unfolding
-    calls-opened Hex.digitValue Hex.allDigits Hex.bytesOf Lists.total Line.sumFails Line.lineFails Line.lineChecks DesignFrame.frameFails
-    DesignFrame.frameChecks DesignFrame.framePair DesignFrame.frameDesign Bytes.bigEndian Bytes.complement Bytes.fits
+    calls-opened Hex.digitValue Hex.allDigits Hex.bytesOf Lists.total Line.sumFails Line.digitsFail Line.lineFails Line.lineChecks
+    DesignFrame.frameFails DesignFrame.frameChecks DesignFrame.framePair DesignFrame.frameDesign DesignFrame.firstChecks
+    Bytes.bigEndian Bytes.complement Bytes.fits
     Encode.digitOf Encode.hexOf Encode.sumByte Encode.withSum Encode.lineOf DesignBytes.pairBytes DesignBytes.designBytes
     Slots.lineCount Slots.tableOf Slots.offsetSlot Slots.slotOf Lines.frameHead Lines.entryWidth Lines.entryNumber Lines.entryFits
     Lines.frameOf Lines.lineAt Write.numberCheck Write.askedChecks Write.writeVerdict Write.writeAnswer ReadLine.possible ReadLine.stateCheck

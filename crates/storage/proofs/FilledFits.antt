@@ -18,7 +18,8 @@ use Rattle.entries.specs.Entries.{initialAt, oddNumber, sameSign, signed, offse
 use Rattle.filling.specs.Fill.{fillVerdict, initialAfter, offsetsAfter, Filled, storedOffset}
 use Rattle.entries.proofs.EntryBounds.{initial-small, magnitude-small, slopes-reach}
 use Rattle.filling.proofs.EntryLaws as EntryLaws
-use Rattle.encoding.specs.Bytes.{fits, fitsSigned}
+use Rattle.encoding.specs.Bytes.{fits, fitsSigned, entryBytes}
+use Rattle.filling.proofs.EntryLaws as EntryLaws
 use Rattle.storage.specs.Sets.{TableSet, Storable}
 use Rattle.storage.proofs.Fitting.{lines-fit}
 
@@ -29,15 +30,15 @@ either-fits n T h true = lt-ltb _ _ h
 either-fits n T h false = lt-ltb _ _ h
 
 module _ (d : Design) (l : Limits d) where
-  initial-fits : (A : ℕ) → A < initialCount d → fits 3 (initialAt d A) ≡ true
+  initial-fits : (A : ℕ) → A < initialCount d → fits entryBytes (initialAt d A) ≡ true
   unfolding fits
-  initial-fits A h = lt-ltb (initialAt d A) (2 ^ (8 * 3)) (omega (arith, initial-small d l A h))
+  initial-fits A h = lt-ltb (initialAt d A) (2 ^ (8 * entryBytes)) (omega (arith, initial-small d l A h))
 
-  offset-fits : (i A index : ℕ) → i < d .m → A < 2 ^ aOf d i → index < storedCount d i → fitsSigned 3 (storedOffset d i A index) ≡ true
+  offset-fits : (i A index : ℕ) → i < d .m → A < 2 ^ aOf d i → index < storedCount d i → fitsSigned entryBytes (storedOffset d i A index) ≡ true
   unfolding storedOffset offsetAt offsetOf signed
   offset-fits i A index i-lt A-lt index-lt =
       let B = storedWord d i index in
-      either-fits 3 _ (omega (arith, magnitude-small _ _ _ B (slopes-reach d l i A i-lt A-lt) (word-lt d i index index-lt)))
+      either-fits entryBytes _ (omega (arith, magnitude-small _ _ _ B (slopes-reach d l i A i-lt A-lt) (word-lt d i index index-lt)))
       (sameSign (row d .rising) (oddNumber (bOf d i) B))
 
 -- Legality is enough; the fill writes an admitted design only.

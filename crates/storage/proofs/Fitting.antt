@@ -7,7 +7,7 @@ use Rattle.design.specs.Stored.{initialCount, offsetTotal}
 use mathlib.Core.List.{List}
 use lib.IntN.{ℤ, pos}
 use Rattle.design.specs.declared.Design.{Design}
-use Rattle.encoding.specs.Bytes.{fits, fitsSigned}
+use Rattle.encoding.specs.Bytes.{fits, fitsSigned, entryBytes}
 use Rattle.lines.specs.Slots.{lineCount, offsetSlot, slotOf}
 use Rattle.lines.specs.Lines.{entryFits}
 use Rattle.lines.proofs.SlotLaws.{
@@ -23,8 +23,8 @@ use Rattle.lines.proofs.SlotLaws.{
 }
 
 pub lines-fit : (d : Design) (initial : List ℕ) (offsets : List ℤ)
-    → ((index : ℕ) → index < initialCount d → fits 3 (getD initial index 0) ≡ true)
-    → ((place : ℕ) → place < offsetTotal d → fitsSigned 3 (getD offsets place (pos 0)) ≡ true)
+    → ((index : ℕ) → index < initialCount d → fits entryBytes (getD initial index 0) ≡ true)
+    → ((place : ℕ) → place < offsetTotal d → fitsSigned entryBytes (getD offsets place (pos 0)) ≡ true)
     → (n : ℕ) → n < lineCount d → entryFits (slotOf d n) initial offsets ≡ true
 unfolding entryFits offsetSlot
 lines-fit d initial offsets initial-fits offset-fits n h =

@@ -18,6 +18,7 @@ use Rattle.general.specs.Below.{listBelow}
 use Rattle.general.specs.Lists.{over}
 use Rattle.general.proofs.WritingLaws.{over-none, over-start, over-length, over-next}
 use Rattle.frames.specs.DesignFrame.{frameDesign}
+use Rattle.encoding.specs.Bytes.{entryBytes}
 use Rattle.encoding.specs.Encode.{withSum}
 use Rattle.encoding.specs.DesignBytes.{designBytes}
 use Rattle.encoding.proofs.ComplementBack.{complement-back}
@@ -170,7 +171,7 @@ module _ (t : TableSet) (ok : Storable t) (s : Session) (begins : Begins s) (ini
       let slot = slot-offset e (initialCount e + 1 + p) p refl h in
       rw (
         slot,
-        complement-back 3 (getD (t .offsets) p (pos 0)) (omega arith) (rw slot at (fits-given (initialCount e + 1 + p) (omega arith))),
+        complement-back entryBytes (getD (t .offsets) p (pos 0)) (omega arith) (rw slot at (fits-given (initialCount e + 1 + p) (omega arith))),
         ← getD-take (offsetTotal e) (t .offsets) p (pos 0) h,
       )
       (over-next (s .offsets) offset-entries p (pos 0) (rw offset-count h) offset-room ∙ rw add-one)

@@ -10,7 +10,7 @@ use lib.Seq.{getD-set-other}
 use lib.IntN.{ℤ, pos}
 use Rattle.design.specs.declared.Design.{Design}
 use Rattle.design.specs.Stored.{initialCount}
-use Rattle.encoding.specs.Bytes.{complement, fits, fitsSigned, fromComplement}
+use Rattle.encoding.specs.Bytes.{complement, fits, fitsSigned, fromComplement, entryBytes}
 use Rattle.lines.specs.declared.Slot.{Slot}
 use Rattle.lines.specs.Slots.{lineCount, slotOf, offsetSlot}
 use Rattle.lines.specs.Lines.{entryNumber, entryFits, frameOf, lineAt}
@@ -92,7 +92,7 @@ module _ (v : ℕ) (initial : List ℕ) (offsets : List ℤ) where
   unfolding offsetsStored
   offset-stands p Slot.Design other = refl
   offset-stands p (Slot.Initial index) other = refl
-  offset-stands p (Slot.Offset table index place) other = getD-set-other offsets place p (fromComplement 3 v) (pos 0) other
+  offset-stands p (Slot.Offset table index place) other = getD-set-other offsets place p (fromComplement entryBytes v) (pos 0) other
   offset-stands p (Slot.End before) other = refl
 
   -- so what another line writes stands,
@@ -101,15 +101,15 @@ module _ (v : ℕ) (initial : List ℕ) (offsets : List ℤ) where
   unfolding entryNumber
   number-stands Slot.Design stored other = refl
   number-stands (Slot.Initial index) stored other = initial-stands index stored other
-  number-stands (Slot.Offset table index place) stored other = ap (complement 3) (offset-stands place stored other)
+  number-stands (Slot.Offset table index place) stored other = ap (complement entryBytes) (offset-stands place stored other)
   number-stands (Slot.End before) stored other = refl
 
   fits-stands : (slot stored : Slot) → Apart slot stored
       → entryFits slot (initialStored stored v initial) (offsetsStored stored v offsets) ≡ entryFits slot initial offsets
   unfolding entryFits
   fits-stands Slot.Design stored other = refl
-  fits-stands (Slot.Initial index) stored other = ap (fits 3) (initial-stands index stored other)
-  fits-stands (Slot.Offset table index place) stored other = ap (fitsSigned 3) (offset-stands place stored other)
+  fits-stands (Slot.Initial index) stored other = ap (fits entryBytes) (initial-stands index stored other)
+  fits-stands (Slot.Offset table index place) stored other = ap (fitsSigned entryBytes) (offset-stands place stored other)
   fits-stands (Slot.End before) stored other = refl
 
 -- and with it every earlier line.

@@ -147,7 +147,7 @@ module _ (d : Design) (legal : Legal d) (set-initial : List ℕ) (set-offsets : 
         frame-passed =
             rw first-bytes
             (first-passed (s .state) (length (s .initial)) (length (s .offsets)) _ none (record {
-              frame = design-passes d legal;
+              frame = design-passes d legal (given-usable .legal);
               tables = given-usable;
             }));
       })

@@ -14,7 +14,7 @@ use Rattle.refusal.specs.declared.Verdict.{Verdict}
 use Rattle.tables.specs.Inputs.{Usable}
 use Rattle.general.specs.Below.{listBelow}
 use Rattle.general.proofs.ListLaws.{list-congruence}
-use Rattle.encoding.specs.Bytes.{fromComplement}
+use Rattle.encoding.specs.Bytes.{entryBytes, fromComplement}
 use Rattle.lines.specs.declared.Slot.{Slot}
 use Rattle.lines.specs.Slots.{lineCount, slotOf}
 use Rattle.lines.specs.Lines.{entryFits, lineAt, setLines}
@@ -43,7 +43,7 @@ pub offsets-length : (slot : Slot) (v : ℕ) (offsets : List ℤ) → length (of
 unfolding offsetsStored
 offsets-length Slot.Design v offsets = refl
 offsets-length (Slot.Initial index) v offsets = refl
-offsets-length (Slot.Offset table index place) v offsets = length-set offsets place (fromComplement 3 v)
+offsets-length (Slot.Offset table index place) v offsets = length-set offsets place (fromComplement entryBytes v)
 offsets-length (Slot.End before) v offsets = refl
 
 module _ (s : Session) (came : List (List ℕ)) (so-far : SoFar s came) (line : List ℕ) where

@@ -5,20 +5,20 @@ use lib.ListN.{getD}
 use lib.IntN.{pos}
 use Rattle.design.specs.Stored.{initialCount, offsetCount, tableStart, offsetTotal}
 use Rattle.general.specs.Below.{listBelow}
-use Rattle.encoding.specs.Bytes.{bigEndian, complement}
+use Rattle.encoding.specs.Bytes.{bigEndian, entryBytes, complement}
 use Rattle.encoding.specs.Encode.{lineOf}
 use Rattle.encoding.specs.DesignBytes.{designBytes}
 use Rattle.storage.specs.Sets.{TableSet}
 
 -- "02: index (2 bytes), initial entry (3 bytes)"
 unfoldable pub initialLine : TableSet → ℕ → List ℕ
-initialLine t index = lineOf (2 ∷ bigEndian 2 index ++ bigEndian 3 (getD (t .initial) index 0))
+initialLine t index = lineOf (2 ∷ bigEndian 2 index ++ bigEndian entryBytes (getD (t .initial) index 0))
 
 -- "03: table number (1), index (2), offset (3, two's complement)"
 unfoldable pub offsetLine : TableSet → ℕ → ℕ → List ℕ
 offsetLine t table index =
     let offset = getD (t .offsets) (tableStart (t .design) table + index) (pos 0) in
-    lineOf (3 ∷ bigEndian 1 table ++ bigEndian 2 index ++ bigEndian 3 (complement 3 offset))
+    lineOf (3 ∷ bigEndian 1 table ++ bigEndian 2 index ++ bigEndian entryBytes (complement entryBytes offset))
 
 -- "table 0 first, index rising from 0 in each table": the lines of the tables below n
 unfoldable pub offsetLinesBelow : TableSet → ℕ → List (List ℕ)

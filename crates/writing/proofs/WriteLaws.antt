@@ -19,7 +19,8 @@ use Rattle.general.specs.Lists.{over}
 use Rattle.tables.proofs.SetLaws.{usable, set-passed}
 use Rattle.general.proofs.WritingLaws.{over-start}
 use Rattle.encoding.specs.declared.Frame.{Frame}
-use Rattle.encoding.specs.Bytes.{bigEndian}
+use Rattle.frames.specs.Line.{longestLine}
+use Rattle.encoding.specs.Bytes.{bigEndian, entryBytes}
 use Rattle.encoding.specs.Encode.{lineOf}
 use Rattle.encoding.specs.Inputs.{held}
 use Rattle.encoding.proofs.LineBack.{line-length}
@@ -103,12 +104,12 @@ module _ {d : Design} {initial : List ℕ} {offsets : List ℤ} {n : ℕ} {slot 
   pub asked-in : SlotIn slot (length initial) (length offsets)
   asked-in = rw (asked .slot-is) (slot-in d (length initial) (length offsets) n (asked .set) (asked .within))
 
-  -- it takes at most 3 bytes,
-  pub asked-narrow : width ≤ 3
+  -- it takes no more than its 3 bytes,
+  pub asked-narrow : width ≤ entryBytes
   asked-narrow = rw (asked .width-is) (entry-short slot)
 
-  -- and the frame has at most 15, without its sum byte.
-  pub asked-short : head .count + width ≤ 15
+  -- and the line is not too long.
+  pub asked-short : 2 * (head .count + width + 1) ≤ longestLine
   asked-short = rw (asked .count-is, asked .width-is) (frame-short d (asked .set .legal) slot)
 
   -- The line has two digits for each byte of the frame and for the sum byte.

@@ -8,6 +8,7 @@ ghost use Rattle.lines.specs.Inputs.{SlotIn};
 ghost use Rattle.writing.specs.Write.{askedChecks, writeAnswer, bufferAfter, toldBy, writeTold};
 use design::Design;
 use encoding::numbers::complement;
+use encoding::numbers::fits;
 use encoding::numbers::fits_signed;
 use encoding::put_line;
 use lines::Slot;
@@ -32,7 +33,7 @@ fn entry_fits(slot: Slot, initial: &[u32], offsets: &[i32]) -> bool
 {
     match slot {
         Slot::Design => true,
-        Slot::Initial(index) => initial[index as usize] < 16777216,
+        Slot::Initial(index) => fits(initial[index as usize]),
         Slot::Offset {
             table: _,
             index: _,

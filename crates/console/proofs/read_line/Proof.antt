@@ -1,21 +1,22 @@
 -- `console::read_line` meets its contract: the count stays within the array, no newline is stored, and a line is cut off only where it is
 -- refused whatever follows.
-use Prim.Native.Nat.{ℕ, _-_, _≤_}
+use Prim.Native.Nat.{ℕ, _+_, _-_, _≤_}
 use mathlib.Core.Path.{_≡_}
 use native.Mathlib.Nat.{not-suc-le-zero}
 use native.Mathlib.Omega.{arith}
 use borrow.Author.Needs.{needs}
 use lib.ListN.{length}
+use Rattle.frames.specs.Line.{longestLine}
 use Rattle.console.specs.declared.LineEnd.{LineEnd}
 use Rattle.console.proofs.LineLaws.{NoNewline, one-more, ended, cut-off}
 use Rattle.console.proofs.read_line.Statement.{statement}
 use Rattle.console.proofs.read_line.Tie as tie
 
 abbrev Inv-loop : tie.InvT-loop
-Inv-loop bytes₀ count₀ bytes count = (count ≤ 33) × (length bytes ≡ 33) × NoNewline bytes count
+Inv-loop bytes₀ count₀ bytes count = (count ≤ longestLine + 1) × (length bytes ≡ longestLine + 1) × NoNewline bytes count
 
 abbrev μ-loop : tie.MeasureT-loop
-μ-loop bytes₀ count₀ bytes count = 33 - count
+μ-loop bytes₀ count₀ bytes count = longestLine + 1 - count
 
 loop-holds : tie.Need-loop-holds Inv-loop μ-loop
 loop-holds c = (search needs, search needs, λ i h. absurd (not-suc-le-zero h))

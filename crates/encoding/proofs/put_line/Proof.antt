@@ -6,6 +6,7 @@ use borrow.Author.Needs.{needs}
 use lib.ListN.{length, getD}
 use mir.Syntax.{w8}
 use mir.Val.{Fits}
+use Rattle.frames.specs.Line.{capacity}
 use Rattle.encoding.proofs.Putting.{Put, put-none, put-length, put-more, put-all}
 use Rattle.encoding.proofs.put_line.Statement.{statement}
 use Rattle.encoding.proofs.put_line.Tie as tie
@@ -19,7 +20,7 @@ abbrev μ-loop : tie.MeasureT-loop
 loop-holds : tie.Need-loop-holds Inv-loop μ-loop
 loop-holds c =
     let s = c .before .before in
-    let full : length (s .args .frame .bytes) ≡ 16 = search needs in
+    let full : length (s .args .frame .bytes) ≡ capacity = search needs in
     put-none (s .pre) full
 
 array-read-byte : tie.Need-array-read-byte Inv-loop μ-loop

@@ -6,10 +6,10 @@ use Prim.Native.Nat.{_-_}
 use native.Mathlib.Omega.{arith}
 use lib.ListN.{length}
 use borrow.Author.Needs.{needs}
-use borrow.Author.Tests.{leb-true, leb-false}
-use Rattle.frames.specs.Line.{lengthFails}
+use borrow.Author.Tests.{leb-true, leb-false, eq-eqb, ne-eqb}
+use Rattle.frames.specs.Line.{lengthFails, isEmpty}
 use Rattle.frames.proofs.HexLaws.{Digits}
-use Rattle.frames.proofs.LineLaws.{sound-length, length-refused, digits-refused, sum-refused}
+use Rattle.frames.proofs.LineLaws.{sound-length, empty-refused, length-refused, digits-refused, sum-refused}
 use Rattle.frames.proofs.Decoding.{BytesRead, start, step, broken, sum-wrong, finished}
 use Rattle.frames.proofs.decode.Statement.{statement}
 use Rattle.frames.proofs.decode.Tie as tie
@@ -20,17 +20,26 @@ Inv-loop line count bytes₀ sum₀ i₀ bytes sum i = BytesRead line bytes sum 
 abbrev μ-loop : tie.MeasureT-loop
 μ-loop line count bytes₀ sum₀ i₀ bytes sum i = count - i
 
-length-fails-requires : tie.Need-length-fails-requires Inv-loop μ-loop
-length-fails-requires c κs = search needs
-
 unsound-requires : tie.Need-unsound-requires Inv-loop μ-loop
 unsound-requires c κs = search needs
 
 returns : tie.Need-returns Inv-loop μ-loop
-returns c = c .unsound .ensures ∙ length-refused _ (sym (c .before .before .length-fails .ensures) ∙ c .before .if1 .taken)
+returns c = c .unsound .ensures ∙ empty-refused _ (eq-eqb _ _ (c .before .if1 .taken))
 
-length-passed : (c : tie.Else1 Inv-loop μ-loop) → lengthFails (length (c .before .before .before .args .line .now)) ≡ false
-length-passed c = sym (c .before .length-fails .ensures) ∙ c .if1 .left
+length-fails-requires : tie.Need-length-fails-requires Inv-loop μ-loop
+length-fails-requires c κs = search needs
+
+unsound-requires-2 : tie.Need-unsound-requires-2 Inv-loop μ-loop
+unsound-requires-2 c κs = search needs
+
+returns-2 : tie.Need-returns-2 Inv-loop μ-loop
+returns-2 c = c .unsound2 .ensures ∙ length-refused _ (sym (c .before .before .length-fails .ensures) ∙ c .before .if2 .taken)
+
+not-empty : (c : tie.Else1 Inv-loop μ-loop) → isEmpty (c .before .before .args .line .now) ≡ false
+not-empty c = ne-eqb _ _ (c .if1 .left)
+
+length-passed : (c : tie.Else2 Inv-loop μ-loop) → lengthFails (length (c .before .before .before .before .args .line .now)) ≡ false
+length-passed c = sym (c .before .length-fails .ensures) ∙ c .if2 .left
 
 loop-holds : tie.Need-loop-holds Inv-loop μ-loop
 loop-holds c = start _ (sound-length _ (length-passed c))
@@ -56,19 +65,19 @@ shared-slice-read-digit-2 c = omega arith
 digit-requires-2 : tie.Need-digit-requires-2 Inv-loop μ-loop
 digit-requires-2 c κs = search needs
 
-unsound-requires-2 : tie.Need-unsound-requires-2 Inv-loop μ-loop
-unsound-requires-2 c κs = search needs
+unsound-requires-3 : tie.Need-unsound-requires-3 Inv-loop μ-loop
+unsound-requires-3 c κs = search needs
 
 two-digits : (c : tie.After-digit2 Inv-loop μ-loop)
-    → Digits (c .before .before .before .before .before .before .before .before .before .args .line .now)
+    → Digits (c .before .before .before .before .before .before .before .before .before .before .args .line .now)
     (c .before .before .before .before .before .loop .i) (c .before .before .digit .result) (c .digit2 .result)
 two-digits c = record { more = omega arith; first = c .before .before .digit .ensures; second = c .digit2 .ensures }
 
-returns-2 : tie.Need-returns-2 Inv-loop μ-loop
-returns-2 c =
+returns-3 : tie.Need-returns-3 Inv-loop μ-loop
+returns-3 c =
     let so-far = c .before .before .before .before .before .before .before .loop .inv in
-    let bad = ⊎-elim (λ w. inl (w .taken)) (λ w. inr (leb-true _ _ (w .1 .taken))) (c .before .if2 .came) in
-    c .unsound2 .ensures ∙ digits-refused _ (broken so-far (two-digits (c .before .before)) bad)
+    let bad = ⊎-elim (λ w. inl (w .taken)) (λ w. inr (leb-true _ _ (w .1 .taken))) (c .before .if3 .came) in
+    c .unsound3 .ensures ∙ digits-refused _ (broken so-far (two-digits (c .before .before)) bad)
 
 mul-byte : tie.Need-mul-byte Inv-loop μ-loop
 mul-byte c = omega (arith, leb-false)
@@ -94,19 +103,21 @@ loop-less c = omega arith
 loop-again : tie.Need-loop-again Inv-loop μ-loop
 loop-again c =
     let so-far = c .before .before .before .before .before .before .before .loop .inv in
-    step so-far (two-digits (c .before .before)) (c .before .if2 .left) (leb-false _ _ (c .if3 .left))
+    step so-far (two-digits (c .before .before)) (c .before .if3 .left) (leb-false _ _ (c .if4 .left))
 
-unsound-requires-3 : tie.Need-unsound-requires-3 Inv-loop μ-loop
-unsound-requires-3 c κs = search needs
+unsound-requires-4 : tie.Need-unsound-requires-4 Inv-loop μ-loop
+unsound-requires-4 c κs = search needs
+
+returns-5 : tie.Need-returns-5 Inv-loop μ-loop
+returns-5 c =
+    let passed = c .before .before .before in
+    finished (c .before .before .loop .inv) (c .before .loop-test .left) (not-empty (passed .before .before)) (length-passed passed)
+    (c .if5 .left)
 
 returns-4 : tie.Need-returns-4 Inv-loop μ-loop
 returns-4 c =
-    finished (c .before .before .loop .inv) (c .before .loop-test .left) (length-passed (c .before .before .before)) (c .if4 .left)
-
-returns-3 : tie.Need-returns-3 Inv-loop μ-loop
-returns-3 c =
-    let wrong = sum-wrong (c .before .before .before .loop .inv) (c .before .before .loop-test .left) (c .before .if4 .taken) in
-    c .unsound3 .ensures ∙ sum-refused _ wrong
+    let wrong = sum-wrong (c .before .before .before .loop .inv) (c .before .before .loop-test .left) (c .before .if5 .taken) in
+    c .unsound4 .ensures ∙ sum-refused _ wrong
 
 pub decode-spec : {M : Type 1} → statement M
 decode-spec =
@@ -114,9 +125,11 @@ decode-spec =
     (tie.spec
     Inv-loop
     μ-loop
-    length-fails-requires
     unsound-requires
     returns
+    length-fails-requires
+    unsound-requires-2
+    returns-2
     loop-holds
     mul-digit
     shared-slice-read-digit
@@ -125,8 +138,8 @@ decode-spec =
     add-digit
     shared-slice-read-digit-2
     digit-requires-2
-    unsound-requires-2
-    returns-2
+    unsound-requires-3
+    returns-3
     mul-byte
     add-byte
     array-write-bytes
@@ -135,6 +148,6 @@ decode-spec =
     add-i
     loop-less
     loop-again
-    unsound-requires-3
-    returns-3
-    returns-4)
+    unsound-requires-4
+    returns-4
+    returns-5)

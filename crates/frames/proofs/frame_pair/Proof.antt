@@ -1,4 +1,4 @@
--- `frames::frame_pair` meets its contract: the test of i against m picks the case of `framePair`, and each read is within the 16 bytes.
+-- `frames::frame_pair` meets its contract: the test of i against m picks the case of `framePair`, and each read is within the array.
 use native.Mathlib.Omega.{arith}
 use lib.ListN.{getD}
 use borrow.Author.Needs.{needs}

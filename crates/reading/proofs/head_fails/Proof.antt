@@ -8,6 +8,7 @@ use borrow.Author.Needs.{needs}
 use borrow.Author.Tests.{eq-eqb, ne-eqb}
 use lib.ListN.{length, take, getD}
 use lib.Seq.{length-take-le}
+use Rattle.frames.specs.Line.{capacity}
 use Rattle.reading.specs.ReadLine.{begins, headFails}
 use Rattle.reading.proofs.BeginsLaws.{begins-fewer, begins-more, begins-differs}
 use Rattle.reading.proofs.head_fails.Statement.{statement}
@@ -47,7 +48,7 @@ add-if1-2 c = omega arith
 returns : tie.Need-returns Inv-loop μ-loop
 returns c =
     let s = c .before .before in
-    let full : length (s .args .head .bytes) ≡ 16 = search needs in
+    let full : length (s .args .head .bytes) ≡ capacity = search needs in
     count-fails (s .args .head .count) (s .args .head .bytes) _ _ _ (omega arith) (λ right. omega (arith, c .if1 .taken))
 
 loop-holds : tie.Need-loop-holds Inv-loop μ-loop
@@ -63,7 +64,7 @@ array-read-if2-2 c = omega arith
 returns-2 : tie.Need-returns-2 Inv-loop μ-loop
 returns-2 c =
     let s = c .before .before .before .before .before .before in
-    let full : length (s .args .head .bytes) ≡ 16 = search needs in
+    let full : length (s .args .head .bytes) ≡ capacity = search needs in
     byte-fails (s .args .head .count) (s .args .head .bytes) _ _ _ (omega arith) (c .before .before .loop .i) (omega arith)
     (λ same. omega (arith, c .if2 .taken))
 
@@ -76,13 +77,13 @@ loop-less c = omega arith
 loop-again : tie.Need-loop-again Inv-loop μ-loop
 loop-again c =
     let s = c .before .before .before .before .before .before in
-    let full : length (s .args .t3) ≡ 16 = search needs in
+    let full : length (s .args .t3) ≡ capacity = search needs in
     begins-more _ _ (c .before .before .loop .i) (omega arith) (omega (arith, c .if2 .left)) (c .before .before .loop .inv)
 
 returns-3 : tie.Need-returns-3 Inv-loop μ-loop
 returns-3 c =
     let s = c .before .before .before .before .before in
-    let full : length (s .args .head .bytes) ≡ 16 = search needs in
+    let full : length (s .args .head .bytes) ≡ capacity = search needs in
     frame-due (s .args .head .count) (s .args .head .bytes) _ _ _ (omega arith) (c .before .loop .i) (omega arith)
     (omega (arith, c .before .before .before .if1 .left)) (c .before .loop .inv)
 

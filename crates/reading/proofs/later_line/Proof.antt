@@ -12,7 +12,9 @@ use Rattle.design.specs.declared.Design.{Design}
 use Rattle.design.specs.Legal.{Legal}
 use Rattle.tables.specs.Set.{tablesCheck}
 use Rattle.tables.proofs.SetLaws.{usable, set-lengths}
+use Rattle.frames.specs.Line.{capacity}
 use Rattle.encoding.specs.declared.Frame.{Frame}
+use Rattle.encoding.specs.Bytes.{entryBytes}
 use Rattle.encoding.specs.Inputs.{held}
 use Rattle.lines.specs.declared.Slot.{Slot}
 use Rattle.lines.specs.Slots.{lineCount, slotOf}
@@ -43,12 +45,12 @@ module _ (d : Design) (n : ℕ) (slot : Slot) (head : Frame) (slot-is : slot ≡
   due-told width bytes count result answer width-is promise branch =
       rw (head-is, width-is, slot-is) at (tested promise branch)
 
-  -- The frame has no more than 15 bytes without its sum byte,
-  frame-fits : (width : ℕ) → Legal d → width ≡ entryWidth slot → head .count + width ≤ 15
-  frame-fits width legal width-is = rw (count-is, width-is) (frame-short d legal slot)
+  -- The frame fits an array without its sum byte,
+  frame-fits : (width : ℕ) → Legal d → width ≡ entryWidth slot → head .count + width ≤ capacity
+  frame-fits width legal width-is = omega (arith, count-is, width-is, frame-short d legal slot)
 
-  -- and 3 behind the head lie within 16.
-  entry-fits : 0 < n → n < lineCount d → head .count + 3 ≤ 16
+  -- and so do an entry's bytes behind the head.
+  entry-fits : 0 < n → n < lineCount d → head .count + entryBytes ≤ capacity
   entry-fits some within =
       let short : length (frameHead d slot) ≤ 4 = rw slot-is (head-short d (slotOf d n) (later d n some within)) in
       omega (arith, count-is)
@@ -61,7 +63,7 @@ module _ (d : Design) (n : ℕ) (slot : Slot) (head : Frame) (slot-is : slot ≡
       (initial-after ≡ initialStored (slotOf d n) number initial) × (offsets-after ≡ offsetsStored (slotOf d n) number offsets)
   stored bytes initial initial-after offsets offsets-after promise = rw (count-is, slot-is) at promise
 
-full : (s : tie.Start) → length (s .args .bytes) ≡ 16
+full : (s : tie.Start) → length (s .args .bytes) ≡ capacity
 full s = search needs
 
 -- where a line is due

@@ -6,8 +6,9 @@ use lib.ListN.{getD, set}
 use mir.Syntax.{w8, w32}
 use mir.Val.{Fits}
 use mir.ValLaws.{toZ-ofZ}
+use Rattle.encoding.specs.Bytes.{entryBytes}
 use Rattle.reading.specs.ReadLine.{initialStored, offsetsStored}
-use Rattle.reading.proofs.StoreLaws.{three-small}
+use Rattle.reading.proofs.StoreLaws.{bytes-number}
 use Rattle.reading.proofs.store.Statement.{statement}
 use Rattle.reading.proofs.store.Tie as tie
 
@@ -45,7 +46,7 @@ number-in-requires-2 c κs = search needs
 from-complement-requires : tie.Need-from-complement-requires
 from-complement-requires c κs =
     let s = c .before .before .before .before .before in
-    rw (c .number-in2 .ensures) (three-small _ (s .args .from) (bytes-small s))
+    rw (c .number-in2 .ensures) (bytes-number entryBytes _ (s .args .from) (bytes-small s))
 
 cast-t14 : tie.Need-cast-t14
 cast-t14 c = search needs

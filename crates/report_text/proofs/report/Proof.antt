@@ -1,5 +1,5 @@
 -- `report_text::report` meets its contract: the verdict of each check in turn, and the numbers of a design that passed them all.
-use mathlib.Core.Path.{_≡_, sym, _∙_}
+use mathlib.Core.Path.{_≡_, _∙_}
 use Prim.Native.Nat.{ℕ}
 use borrow.Author.Needs.{needs}
 use Rattle.refusal.specs.declared.Verdict.{Verdict}
@@ -11,10 +11,12 @@ use lib.ListN.{length}
 use Rattle.design.specs.Budget.{budget, limit, withinLimit, size}
 use Rattle.frames.specs.Hex.{bytesOf}
 use Rattle.frames.specs.Line.{lineChecks}
-use Rattle.frames.specs.DesignFrame.{frameChecks, frameDesign}
+use Rattle.frames.specs.DesignFrame.{frameDesign, firstChecks}
+use Rattle.frames.proofs.LineLaws.{line-told}
+use Rattle.frames.proofs.FrameLaws.{first-frame}
 use Rattle.report_text.specs.Words.{textOf}
 use Rattle.report_text.specs.Report.{lineText, designText}
-use Rattle.report_text.proofs.ReportLaws.{line-refused, frame-refused, design-refused, design-passed, line-told, frame-told, design-told}
+use Rattle.report_text.proofs.ReportLaws.{line-refused, frame-refused, frame-passed, frame-told, design-told}
 use Rattle.report_text.proofs.report.Statement.{statement}
 use Rattle.report_text.proofs.report.Tie as tie
 
@@ -25,19 +27,20 @@ held-passed c = c .enum-told .given .1
 line-passed : (c : tie.After-enum-told) → verdict (lineChecks (c .before .before .before .before .args .line .now)) ≡ Verdict.Passed
 line-passed c = line-told _ _ (c .before .before .decode .ensures) _ (held-passed c)
 
-frame-answer : (c : tie.After-frame-verdict) (v : Verdict) → c .frame-verdict .result ≡ v
-    → let bytes = bytesOf (c .before .before .before .before .before .before .args .line .now) in verdict (frameChecks bytes (length bytes)) ≡ v
-frame-answer c v e = frame-told _ _ (c .before .before .before .before .decode .ensures) (held-passed (c .before .before)) _ _ (c .frame-verdict .ensures) e
+frame-answer : (c : tie.After-first-verdict) (v : Verdict) → c .first-verdict .result ≡ v
+    → let bytes = bytesOf (c .before .before .before .before .before .before .args .line .now) in verdict (firstChecks bytes (length bytes)) ≡ v
+frame-answer c v e = frame-told _ _ (c .before .before .before .before .decode .ensures) (held-passed (c .before .before)) _ _ (c .first-verdict .ensures) e
 
-frame-passed : (c : tie.After-enum-told2)
-    → let bytes = bytesOf (c .before .before .before .before .before .before .before .before .args .line .now) in verdict (frameChecks bytes (length bytes)) ≡ Verdict.Passed
-frame-passed c = frame-answer (c .before .before) _ (c .enum-told2 .given .1)
+first-passed : (c : tie.After-enum-told2)
+    → let bytes = bytesOf (c .before .before .before .before .before .before .before .before .args .line .now) in
+    verdict (firstChecks bytes (length bytes)) ≡ Verdict.Passed
+first-passed c = frame-answer (c .before .before) _ (c .enum-told2 .given .1)
 
 design-is : (c : tie.After-frame-design) → c .frame-design .result ≡ frameDesign (bytesOf (c .before .before .before .before .before .before .before .before .before .args .line .now))
 design-is c = design-told _ _ (c .before .before .before .before .before .before .before .decode .ensures) (held-passed (c .before .before .before .before .before)) _ (c .frame-design .ensures)
 
-legal : (c : tie.After-enum-told3) → Legal (c .before .before .before .frame-design .result)
-legal c = sym (c .before .before .design-verdict .ensures) ∙ c .enum-told3 .given .1
+legal : (c : tie.After-frame-design) → Legal (c .frame-design .result)
+legal c = rw (design-is c) (first-frame _ _ (first-passed (c .before)) .legal)
 
 -- The numbers that the calls give make the design's text.
 text-is : (d e : Design) (b l n : ℕ) → b ≡ budget d → l ≡ limit d → n ≡ size d → d ≡ e
@@ -62,8 +65,8 @@ returns c =
 enum-told : tie.Need-enum-told
 enum-told c = search needs
 
-frame-verdict-requires : tie.Need-frame-verdict-requires
-frame-verdict-requires c κs = search needs
+first-verdict-requires : tie.Need-first-verdict-requires
+first-verdict-requires c κs = search needs
 
 enum-known-cause : tie.Need-enum-known-cause
 enum-known-cause c = search needs
@@ -82,25 +85,6 @@ enum-told-2 c = search needs
 frame-design-requires : tie.Need-frame-design-requires
 frame-design-requires c κs = search needs
 
-design-verdict-requires : tie.Need-design-verdict-requires
-design-verdict-requires c κs = search needs
-
-enum-known-cause-2 : tie.Need-enum-known-cause-2
-enum-known-cause-2 c = search needs
-
-refused-requires-3 : tie.Need-refused-requires-3
-refused-requires-3 c κs = search needs
-
-returns-3 : tie.Need-returns-3
-returns-3 c =
-    let a = c .before .before .before .before .before in
-    c .refused3 .ensures
-    ∙ design-refused _ (line-passed (a .before .before .before .before .before)) (frame-passed (a .before)) _
-    (rw (design-is a) at (sym (c .before .before .before .before .design-verdict .ensures) ∙ c .before .before .cause2 .given .1))
-
-enum-told-3 : tie.Need-enum-told-3
-enum-told-3 c = search needs
-
 budget-of-requires : tie.Need-budget-of-requires
 budget-of-requires c κs = legal c
 
@@ -113,13 +97,12 @@ size-of-requires c κs = legal (c .before .before)
 measured-requires : tie.Need-measured-requires
 measured-requires c κs = search needs
 
-returns-4 : tie.Need-returns-4
-returns-4 c =
-    let told = c .before .before .before .before in
-    let a = told .before .before .before in
+returns-3 : tie.Need-returns-3
+returns-3 c =
+    let a = c .before .before .before .before in
     c .measured .ensures
     ∙ text-is _ _ _ _ _ (c .before .before .before .budget-of .ensures) (c .before .before .limit-of .ensures) (c .before .size-of .ensures) (design-is a)
-    ∙ design-passed _ (line-passed (a .before .before .before .before .before)) (frame-passed (a .before)) (rw (design-is a) at (legal told))
+    ∙ frame-passed _ (line-passed (a .before .before .before .before .before)) (first-passed (a .before))
 
 pub report-spec : {M : Type 1} → statement M
 report-spec =
@@ -130,19 +113,14 @@ report-spec =
     refused-requires
     returns
     enum-told
-    frame-verdict-requires
+    first-verdict-requires
     enum-known-cause
     refused-requires-2
     returns-2
     enum-told-2
     frame-design-requires
-    design-verdict-requires
-    enum-known-cause-2
-    refused-requires-3
-    returns-3
-    enum-told-3
     budget-of-requires
     limit-of-requires
     size-of-requires
     measured-requires
-    returns-4)
+    returns-3)

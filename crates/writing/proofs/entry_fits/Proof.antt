@@ -3,7 +3,7 @@ use mathlib.Core.Path.{ap, _∙_}
 use borrow.Author.Needs.{needs}
 use mir.Syntax.{w32}
 use mir.ValLaws.{toZ-ofZ}
-use Rattle.encoding.specs.Bytes.{fits, fitsSigned}
+use Rattle.encoding.specs.Bytes.{entryBytes, fitsSigned}
 use Rattle.lines.specs.Lines.{entryFits}
 use Rattle.writing.proofs.entry_fits.Statement.{statement}
 use Rattle.writing.proofs.entry_fits.Tie as tie
@@ -14,16 +14,19 @@ enum-told c = search needs
 enum-known-slot : tie.Need-enum-known-slot
 enum-known-slot c = search needs
 
-cast-result : tie.Need-cast-result
-cast-result c = search needs
+cast-fits : tie.Need-cast-fits
+cast-fits c = search needs
 
-mul-result : tie.Need-mul-result
-mul-result c = search needs
+mul-fits : tie.Need-mul-fits
+mul-fits c = search needs
 
-shared-slice-read-result : tie.Need-shared-slice-read-result
-shared-slice-read-result c =
+shared-slice-read-fits : tie.Need-shared-slice-read-fits
+shared-slice-read-fits c =
     let b = c .before .before in
     rw (b .slot .given .1) at (b .before .before .before .pre)
+
+fits-requires : tie.Need-fits-requires
+fits-requires c κs = search needs
 
 enum-known-slot-2 : tie.Need-enum-known-slot-2
 enum-known-slot-2 c = search needs
@@ -50,14 +53,14 @@ unfolding entryFits
 returns c = rw (c .enum-told .given .1)
 
 returns-2 : tie.Need-returns-2
-unfolding entryFits fits
-returns-2 c = rw (c .before .before .slot .given .1)
+unfolding entryFits
+returns-2 c = rw (c .before .before .before .slot .given .1) (c .fits2 .ensures)
 
 returns-3 : tie.Need-returns-3
 unfolding entryFits
 returns-3 c =
     let read = toZ-ofZ w32 _ (record { sfits = c .before .fits-signed-arg .given }) in
-    rw (c .before .before .before .slot2 .given .1) (c .fits-signed .ensures ∙ ap (fitsSigned 3) read)
+    rw (c .before .before .before .slot2 .given .1) (c .fits-signed .ensures ∙ ap (fitsSigned entryBytes) read)
 
 returns-4 : tie.Need-returns-4
 unfolding entryFits
@@ -69,9 +72,10 @@ entry-fits-spec =
     (tie.spec
     enum-told
     enum-known-slot
-    cast-result
-    mul-result
-    shared-slice-read-result
+    cast-fits
+    mul-fits
+    shared-slice-read-fits
+    fits-requires
     enum-known-slot-2
     cast-fits-signed
     mul-fits-signed

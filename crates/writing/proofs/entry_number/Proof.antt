@@ -3,7 +3,7 @@ use mathlib.Core.Path.{ap, _∙_}
 use borrow.Author.Needs.{needs}
 use mir.Syntax.{w32}
 use mir.ValLaws.{toZ-ofZ}
-use Rattle.encoding.specs.Bytes.{complement, fitsSigned}
+use Rattle.encoding.specs.Bytes.{entryBytes, complement, fitsSigned}
 use Rattle.lines.specs.Lines.{entryFits, entryNumber}
 use Rattle.writing.proofs.entry_number.Statement.{statement}
 use Rattle.writing.proofs.entry_number.Tie as tie
@@ -44,7 +44,7 @@ unfolding entryFits
 complement-requires c κs =
     let b = c .before .before in
     let read = toZ-ofZ w32 _ (record { sfits = c .complement-arg .given }) in
-    ap (fitsSigned 3) read ∙ (rw (b .slot2 .given .1) at (b .before .before .before .pre .1))
+    ap (fitsSigned entryBytes) read ∙ (rw (b .slot2 .given .1) at (b .before .before .before .pre .1))
 
 enum-told-2 : tie.Need-enum-told-2
 enum-told-2 c = search needs
@@ -61,7 +61,7 @@ returns-3 : tie.Need-returns-3
 unfolding entryNumber
 returns-3 c =
     let read = toZ-ofZ w32 _ (record { sfits = c .before .complement-arg .given }) in
-    rw (c .before .before .before .slot2 .given .1) (c .complement .ensures ∙ ap (complement 3) read)
+    rw (c .before .before .before .slot2 .given .1) (c .complement .ensures ∙ ap (complement entryBytes) read)
 
 returns-4 : tie.Need-returns-4
 unfolding entryNumber

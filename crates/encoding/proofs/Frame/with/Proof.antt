@@ -3,6 +3,7 @@ use mathlib.Core.Path.{_≡_, refl}
 use native.Mathlib.Omega.{arith}
 use borrow.Author.Needs.{needs}
 use lib.ListN.{length}
+use Rattle.frames.specs.Line.{capacity}
 use Rattle.encoding.proofs.NumberBytes.{Appending, appended-more, appended-all}
 use Rattle.encoding.proofs.Frame.with.Statement.{statement}
 use Rattle.encoding.proofs.Frame.with.Tie as tie
@@ -15,7 +16,7 @@ abbrev μ-loop : tie.MeasureT-loop
 
 loop-holds : tie.Need-loop-holds Inv-loop μ-loop
 loop-holds c =
-    let full : length (c .before .args .self .bytes) ≡ 16 = search needs in
+    let full : length (c .before .args .self .bytes) ≡ capacity = search needs in
     record { long = full; place = refl; room = c .before .pre .room; narrow = c .before .pre .narrow; so-far = refl }
 
 sub-left : tie.Need-sub-left Inv-loop μ-loop

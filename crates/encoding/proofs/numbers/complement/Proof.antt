@@ -9,10 +9,10 @@ use lib.Signed.{mag, ltZ}
 use mir.Syntax.{w32}
 use mir.Val.{SFits, toZ, ofZ}
 use mir.ValLaws.{toZ-ofZ}
-use Rattle.encoding.specs.Bytes.{fitsSigned}
+use Rattle.encoding.specs.Bytes.{entryBytes, fitsSigned}
 use Rattle.encoding.specs.Bytes as Bytes
 use Rattle.encoding.proofs.ComplementBack.{complement-lt}
-use Rattle.encoding.proofs.SignedBytes.{added, negative-complement, positive-complement}
+use Rattle.encoding.proofs.SignedBytes.{half, added, negative-complement, positive-complement}
 use Rattle.encoding.proofs.numbers.complement.Statement.{statement}
 use Rattle.encoding.proofs.numbers.complement.Tie as tie
 
@@ -20,11 +20,11 @@ module _ (v : ℤ) (held : SFits w32 v) where
   read : toZ w32 (ofZ w32 v) ≡ v
   read = toZ-ofZ w32 v held
 
-  as-it-is : ltZ (toZ w32 (ofZ w32 v)) (pos 0) ≡ false → toZ w32 (ofZ w32 v) ≡ pos (Bytes.complement 3 v)
+  as-it-is : ltZ (toZ w32 (ofZ w32 v)) (pos 0) ≡ false → toZ w32 (ofZ w32 v) ≡ pos (Bytes.complement entryBytes v)
   as-it-is below = read ∙ positive-complement v (rw read at below)
 
   -- what is added to a negative number
-  module _ (below : ltZ (toZ w32 (ofZ w32 v)) (pos 0) ≡ true) (fits : fitsSigned 3 v ≡ true) (more : ℕ) (enough : 8388608 ≤ more)
+  module _ (below : ltZ (toZ w32 (ofZ w32 v)) (pos 0) ≡ true) (fits : fitsSigned entryBytes v ≡ true) (more : ℕ) (enough : half ≤ more)
       (few : more < 2 ^ 31) where
     sum : toZ w32 (ofZ w32 v) +ℤ pos more ≡ pos (more - 1 - mag v)
     sum = ap (λ (z : ℤ). z +ℤ pos more) read ∙ added more v enough (rw read at below) fits
@@ -52,7 +52,7 @@ returns c =
 cast-result-2 : tie.Need-cast-result-2
 cast-result-2 c =
     let s = c .before in
-    rw (as-it-is _ (s .fits .v) (c .if1 .left)) (tt, omega (arith, complement-lt 3 _ (omega arith) (s .pre)))
+    rw (as-it-is _ (s .fits .v) (c .if1 .left)) (tt, omega (arith, complement-lt entryBytes _ (omega arith) (s .pre)))
 
 returns-2 : tie.Need-returns-2
 returns-2 c = let s = c .before in rw (as-it-is _ (s .fits .v) (c .if1 .left))

@@ -1,29 +1,29 @@
 -- `encoding::numbers::from_complement` meets its contract: 2^24 is taken from a number of the upper half.
 use mathlib.Core.Path.{_≡_, ap, _∙_}
-use Prim.Native.Nat.{ℕ, _^_, _≤_, _<_}
+use Prim.Native.Nat.{ℕ, _≤_, _<_}
 use native.Mathlib.Omega.{arith}
 use borrow.Author.Needs.{needs}
 use lib.IntN.{ℤ, pos, _-ℤ_}
 use mir.Syntax.{w32}
 use mir.Val.{SFits, toZ, ofZ}
 use mir.ValLaws.{toZ-pos, toZ-ofZ}
-use Rattle.encoding.specs.Bytes.{fromComplement}
-use Rattle.encoding.proofs.SignedBytes.{lower-half, upper-half, from-complement-fits}
+use Rattle.encoding.specs.Bytes.{entryBytes, fromComplement}
+use Rattle.encoding.proofs.SignedBytes.{whole, half, lower-half, upper-half, from-complement-fits}
 use Rattle.encoding.proofs.numbers.from_complement.Statement.{statement}
 use Rattle.encoding.proofs.numbers.from_complement.Tie as tie
 
-module _ (n : ℕ) (small : n < 2 ^ 24) where
+module _ (n : ℕ) (small : n < whole) where
   count : toZ w32 n ≡ pos n
   count = toZ-pos w32 n (omega arith)
 
-  module _ (upper : 8388608 ≤ n) where
-    difference : toZ w32 n -ℤ pos 16777216 ≡ fromComplement 3 n
-    difference = ap (λ (z : ℤ). z -ℤ pos 16777216) count ∙ upper-half n upper small
+  module _ (upper : half ≤ n) where
+    difference : toZ w32 n -ℤ pos whole ≡ fromComplement entryBytes n
+    difference = ap (λ (z : ℤ). z -ℤ pos whole) count ∙ upper-half n upper small
 
-    difference-fits : SFits w32 (toZ w32 n -ℤ pos 16777216)
+    difference-fits : SFits w32 (toZ w32 n -ℤ pos whole)
     difference-fits = rw difference (record { sfits = from-complement-fits n small })
 
-    difference-read : toZ w32 (ofZ w32 (toZ w32 n -ℤ pos 16777216)) ≡ fromComplement 3 n
+    difference-read : toZ w32 (ofZ w32 (toZ w32 n -ℤ pos whole)) ≡ fromComplement entryBytes n
     difference-read = toZ-ofZ w32 _ difference-fits ∙ difference
 
 cast-result : tie.Need-cast-result

@@ -6,6 +6,7 @@ use borrow.Author.Needs.{needs}
 use lib.ListN.{length, getD}
 use mir.Syntax.{w8}
 use mir.Val.{Fits}
+use Rattle.frames.specs.Line.{capacity}
 use Rattle.encoding.proofs.NumberBytes.{Counting, counted-none, counted-more, counted-all, counted-small}
 use Rattle.encoding.proofs.numbers.number_in.Statement.{statement}
 use Rattle.encoding.proofs.numbers.number_in.Tie as tie
@@ -18,7 +19,7 @@ abbrev μ-loop : tie.MeasureT-loop
 
 loop-holds : tie.Need-loop-holds Inv-loop μ-loop
 loop-holds c =
-    let full : length (c .args .t1) ≡ 16 = search needs in
+    let full : length (c .args .t1) ≡ capacity = search needs in
     counted-none full (c .pre .room) (c .pre .narrow)
 
 mul-number : tie.Need-mul-number Inv-loop μ-loop

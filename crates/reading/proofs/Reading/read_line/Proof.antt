@@ -7,9 +7,10 @@ use borrow.Author.Needs.{needs}
 use borrow.Author.Tests.{not-true, not-false}
 use Rattle.refusal.specs.declared.Verdict.{Verdict}
 use Rattle.refusal.proofs.Checks.{tested}
+use Rattle.frames.proofs.LineLaws.{line-told}
 use Rattle.reading.specs.ReadLine.{possible}
 use Rattle.reading.proofs.ReadLaws.{begun}
-use Rattle.reading.proofs.ReadSteps.{line-told, frame-held, sound-held, impossible, unsound, line-outcome, first-outcome}
+use Rattle.reading.proofs.ReadSteps.{frame-held, sound-held, impossible, unsound, line-outcome, first-outcome}
 use Rattle.reading.proofs.Reading.read_line.Statement.{statement}
 use Rattle.reading.proofs.Reading.read_line.Tie as tie
 
