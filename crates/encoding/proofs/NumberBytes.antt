@@ -64,7 +64,8 @@ pub record Counting (bytes : List ℕ) (from width number i : ℕ) : Type 0 wher
   pub small : number < 2 ^ (8 * i)
 
 -- Nothing is read yet.
-pub counted-none : {bytes : List ℕ} {from width : ℕ} → length bytes ≡ capacity → from + width ≤ capacity → width ≤ 4 → Counting bytes from width 0 0
+pub counted-none : {bytes : List ℕ} {from width : ℕ} → length bytes ≡ capacity → from + width ≤ capacity → width ≤ 4
+    → Counting bytes from width 0 0
 unfolding numberIn
 counted-none full room narrow =
     record { long = full; room = room; narrow = narrow; within = omega arith; so-far = refl; small = omega arith }
@@ -80,7 +81,8 @@ module _ {bytes : List ℕ} {from width number i : ℕ} (part : Counting bytes f
         narrow = part .narrow;
         within = omega arith;
         so-far =
-            rw (add-one, take-suc (drop from bytes) i 0 (omega (arith, length-drop from bytes)), number-snoc, getD-drop, ← part .so-far) refl;
+            let next = take-suc (drop from bytes) i 0 (omega (arith, length-drop from bytes)) in
+            rw (add-one, next, number-snoc, getD-drop, ← part .so-far) refl;
         small = rw (eight-more, pow-add 2 (8 * i) 8) (omega arith);
       }
     where

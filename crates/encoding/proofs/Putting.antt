@@ -51,7 +51,8 @@ pub record Put (before line bytes : List ℕ) (count sum i : ℕ) : Type 0 where
   pub small : sum ≤ 255 * i
 
 -- Nothing is put yet.
-pub put-none : {before bytes : List ℕ} {count : ℕ} → PutInput count (length before) → length bytes ≡ capacity → Put before before bytes count 0 0
+pub put-none : {before bytes : List ℕ} {count : ℕ} → PutInput count (length before) → length bytes ≡ capacity
+    → Put before before bytes count 0 0
 unfolding hexOf total
 put-none {before} input full =
     record { input = input; full = full; within = omega arith; so-far = over-none before 0; summed = refl; small = omega arith }
@@ -79,7 +80,8 @@ module _ {before line bytes : List ℕ} {count sum i : ℕ} (part : Put before l
       → Put before now bytes count (sum + getD bytes i 0) (i + 1)
   unfolding total
   put-more now more byte now-is =
-      let longer : take (i + 1) bytes ≡ take i bytes ++ (getD bytes i 0 ∷ []) = rw add-one (take-suc bytes i 0 (omega (arith, part .input))) in
+      let longer : take (i + 1) bytes ≡ take i bytes ++ (getD bytes i 0 ∷ []) =
+      rw add-one (take-suc bytes i 0 (omega (arith, part .input))) in
       record {
         input = part .input;
         full = part .full;

@@ -29,7 +29,8 @@ too-low (pos n) e = absurd (true≢false e)
 too-low (negsuc n) e = e ∙ sym (le-ltb n half (omega (arith, leb-false n (half - 1) e)))
 
 -- A number of half or more, added to a negative number that fits, gives a number that is not negative,
-pub added : (more : ℕ) (v : ℤ) → half ≤ more → ltZ v (pos 0) ≡ true → fitsSigned entryBytes v ≡ true → v +ℤ pos more ≡ pos (more - 1 - mag v)
+pub added : (more : ℕ) (v : ℤ) → half ≤ more → ltZ v (pos 0) ≡ true → fitsSigned entryBytes v ≡ true
+    → v +ℤ pos more ≡ pos (more - 1 - mag v)
 unfolding fitsSigned
 added more (pos n) enough below fits = absurd (omega (arith, ltb-true n 0 below))
 added more (negsuc n) enough below fits =

@@ -141,14 +141,13 @@ module _ (state : Reading) (initial offsets : ℕ) where
         let parts = passed-append (firstChecks bytes (length bytes)) (tablesCheck d initial offsets ∷ [])
         (ap verdict (sym (first-checks state initial offsets bytes z)) ∙ e) in
         let legal = first-frame bytes (length bytes) (parts .0) .legal in
-        record {
-          frame = parts .0;
-          tables = usable d initial offsets (set-lengths d initial offsets false legal (none-fails (tablesCheck d initial offsets ∷ []) (parts .1) .0));
-        }
+        let long = none-fails (tablesCheck d initial offsets ∷ []) (parts .1) .0 in
+        record { frame = parts .0; tables = usable d initial offsets (set-lengths d initial offsets false legal long) }
 
     pub first-passed : state .taken ≡ 0 → First → verdict (dueChecks state initial offsets bytes) ≡ Verdict.Passed
     first-passed z p =
-        rw (first-checks state initial offsets bytes z, verdict-append, p .frame, tables-long (frameDesign bytes) initial offsets (p .tables))
+        let long = tables-long (frameDesign bytes) initial offsets (p .tables) in
+        rw (first-checks state initial offsets bytes z, verdict-append, p .frame, long)
 
     -- a later one
     pub record Later : Type 0 where

@@ -2,6 +2,7 @@
 use Prim.Native.Nat.{ℕ}
 use Rattle.refusal.specs.declared.Cause.{Cause}
 use Rattle.refusal.specs.declared.Verdict.{Verdict}
+use Rattle.refusal.specs.Checks.{ifPassed}
 
 abbrev pub numberOf : Cause → ℕ
 numberOf Cause.Kind = 1
@@ -26,5 +27,4 @@ numberOf Cause.LineNumber = 19
 
 -- The number of a verdict; 0 where nothing is turned down.
 abbrev pub verdictNumber : Verdict → ℕ
-verdictNumber Verdict.Passed = 0
-verdictNumber (Verdict.Refused cause) = numberOf cause
+verdictNumber verdict = ifPassed verdict 0 numberOf

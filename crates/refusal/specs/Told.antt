@@ -4,6 +4,7 @@
 use Prim.Native.Nat.{ℕ}
 use Rattle.refusal.specs.declared.Verdict.{Verdict}
 use Rattle.refusal.specs.Numbers.{numberOf}
+use Rattle.refusal.specs.Checks.{ifPassed}
 
 pub data Told (Values : Type 0) : Type 0 where
   accepted : Values → Told Values
@@ -12,8 +13,7 @@ pub data Told (Values : Type 0) : Type 0 where
 
 -- By the verdict of the call's checks: the values where it passes, and else its number, with this place
 abbrev pub toldAt : {Values : Type 0} → Verdict → ℕ → Values → Told Values
-toldAt Verdict.Passed place values = accepted values
-toldAt (Verdict.Refused cause) place values = refused (numberOf cause) place
+toldAt verdict place values = ifPassed verdict (accepted values) (λ cause. refused (numberOf cause) place)
 
 -- "0 for all other causes"
 abbrev pub told : {Values : Type 0} → Verdict → Values → Told Values

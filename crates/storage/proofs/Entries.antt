@@ -30,7 +30,8 @@ pub stored-fits : (slot : Slot) (v : ℕ) (initial : List ℕ) (offsets : List �
     → v < 2 ^ (8 * entryWidth slot) → entryFits slot (initialStored slot v initial) (offsetsStored slot v offsets) ≡ true
 unfolding entryFits entryWidth initialStored offsetsStored fits
 stored-fits Slot.Design v initial offsets within h = refl
-stored-fits (Slot.Initial index) v initial offsets within h = rw (getD-set-same initial index v 0 within) (lt-ltb v (2 ^ (8 * entryBytes)) h)
+stored-fits (Slot.Initial index) v initial offsets within h =
+    rw (getD-set-same initial index v 0 within) (lt-ltb v (2 ^ (8 * entryBytes)) h)
 stored-fits (Slot.Offset table index place) v initial offsets within h =
     rw (getD-set-same offsets place (fromComplement entryBytes v) (pos 0) within) (complement-fits entryBytes v (omega arith) h)
 stored-fits (Slot.End before) v initial offsets within h = refl

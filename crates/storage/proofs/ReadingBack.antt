@@ -169,9 +169,10 @@ module _ (t : TableSet) (ok : Storable t) (s : Session) (begins : Begins s) (ini
   unfolding offsetsStored entryNumber offsetSlot entryFits lineCount
   offset-more p h =
       let slot = slot-offset e (initialCount e + 1 + p) p refl h in
+      let fits = rw slot at (fits-given (initialCount e + 1 + p) (omega arith)) in
       rw (
         slot,
-        complement-back entryBytes (getD (t .offsets) p (pos 0)) (omega arith) (rw slot at (fits-given (initialCount e + 1 + p) (omega arith))),
+        complement-back entryBytes (getD (t .offsets) p (pos 0)) (omega arith) fits,
         ← getD-take (offsetTotal e) (t .offsets) p (pos 0) h,
       )
       (over-next (s .offsets) offset-entries p (pos 0) (rw offset-count h) offset-room ∙ rw add-one)

@@ -27,7 +27,8 @@ array-read-byte : tie.Need-array-read-byte Inv-loop μ-loop
 array-read-byte c = omega (arith, c .before .loop .inv .input)
 
 -- the byte that a turn puts
-byte-small : (c : tie.In-loop Inv-loop μ-loop) → Fits w8 (getD (c .before .before .before .before .args .frame .bytes) (c .before .loop .i) 0)
+byte-small : (c : tie.In-loop Inv-loop μ-loop)
+    → Fits w8 (getD (c .before .before .before .before .args .frame .bytes) (c .before .loop .i) 0)
 byte-small c = search needs
 
 mul-put-byte : tie.Need-mul-put-byte Inv-loop μ-loop

@@ -28,16 +28,23 @@ line-passed : (c : tie.After-enum-told) → verdict (lineChecks (c .before .befo
 line-passed c = line-told _ _ (c .before .before .decode .ensures) _ (held-passed c)
 
 frame-answer : (c : tie.After-first-verdict) (v : Verdict) → c .first-verdict .result ≡ v
-    → let bytes = bytesOf (c .before .before .before .before .before .before .args .line .now) in verdict (firstChecks bytes (length bytes)) ≡ v
-frame-answer c v e = frame-told _ _ (c .before .before .before .before .decode .ensures) (held-passed (c .before .before)) _ _ (c .first-verdict .ensures) e
+    → let bytes = bytesOf (c .before .before .before .before .before .before .args .line .now) in
+    verdict (firstChecks bytes (length bytes)) ≡ v
+frame-answer c v e =
+    let sound = c .before .before in
+    frame-told _ _ (sound .before .before .decode .ensures) (held-passed sound) _ _ (c .first-verdict .ensures) e
 
 first-passed : (c : tie.After-enum-told2)
     → let bytes = bytesOf (c .before .before .before .before .before .before .before .before .args .line .now) in
     verdict (firstChecks bytes (length bytes)) ≡ Verdict.Passed
 first-passed c = frame-answer (c .before .before) _ (c .enum-told2 .given .1)
 
-design-is : (c : tie.After-frame-design) → c .frame-design .result ≡ frameDesign (bytesOf (c .before .before .before .before .before .before .before .before .before .args .line .now))
-design-is c = design-told _ _ (c .before .before .before .before .before .before .before .decode .ensures) (held-passed (c .before .before .before .before .before)) _ (c .frame-design .ensures)
+design-is : (c : tie.After-frame-design)
+    → let s = c .before .before .before .before .before .before .before .before .before in
+    c .frame-design .result ≡ frameDesign (bytesOf (s .args .line .now))
+design-is c =
+    let sound = c .before .before .before .before .before in
+    design-told _ _ (sound .before .before .decode .ensures) (held-passed sound) _ (c .frame-design .ensures)
 
 legal : (c : tie.After-frame-design) → Legal (c .frame-design .result)
 legal c = rw (design-is c) (first-frame _ _ (first-passed (c .before)) .legal)
@@ -76,8 +83,9 @@ refused-requires-2 c κs = search needs
 
 returns-2 : tie.Need-returns-2
 returns-2 c =
+    let tried = c .before .before .before .before in
     c .refused2 .ensures
-    ∙ frame-refused _ (line-passed (c .before .before .before .before .before .before)) _ (frame-answer (c .before .before .before .before) _ (c .before .before .cause .given .1))
+    ∙ frame-refused _ (line-passed (tried .before .before)) _ (frame-answer tried _ (c .before .before .cause .given .1))
 
 enum-told-2 : tie.Need-enum-told-2
 enum-told-2 c = search needs
@@ -99,9 +107,11 @@ measured-requires c κs = search needs
 
 returns-3 : tie.Need-returns-3
 returns-3 c =
-    let a = c .before .before .before .before in
+    let size = c .before in
+    let budget = size .before .before in
+    let a = budget .before in
     c .measured .ensures
-    ∙ text-is _ _ _ _ _ (c .before .before .before .budget-of .ensures) (c .before .before .limit-of .ensures) (c .before .size-of .ensures) (design-is a)
+    ∙ text-is _ _ _ _ _ (budget .budget-of .ensures) (size .before .limit-of .ensures) (size .size-of .ensures) (design-is a)
     ∙ frame-passed _ (line-passed (a .before .before .before .before .before)) (first-passed (a .before))
 
 pub report-spec : {M : Type 1} → statement M

@@ -35,7 +35,7 @@ cast-number : tie.Need-cast-number Inv-loop μ-loop
 cast-number c = search needs
 
 -- the byte that a turn reads
-byte-small : (c : tie.In-loop Inv-loop μ-loop) → Fits w8 (getD (c .before .before .args .t1) (c .before .before .args .from + c .before .loop .i) 0)
+byte-small : (c : tie.In-loop Inv-loop μ-loop) → let a = c .before .before .args in Fits w8 (getD (a .t1) (a .from + c .before .loop .i) 0)
 byte-small c = search needs
 
 add-number-2 : tie.Need-add-number-2 Inv-loop μ-loop
