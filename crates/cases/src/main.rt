@@ -3,6 +3,7 @@
 use checking::check;
 use design::Design;
 use design::Measured;
+use design::NO_PAIR;
 use design::Pair;
 use filling::fill;
 use libc::STDOUT_FILENO;
@@ -13,7 +14,6 @@ use values::Valued;
 
 // A design of one table, of kind 0 with q 8 and g 4.
 fn of_one_table(w: u32, alpha: u32, a: u32, b: u32) -> Design {
-    let none = Pair { a: 0, b: 0 };
     let first = Pair { a, b };
     Design {
         kind: 0,
@@ -22,7 +22,7 @@ fn of_one_table(w: u32, alpha: u32, a: u32, b: u32) -> Design {
         g: 4,
         alpha,
         m: 1,
-        pairs: [first, none, none, none],
+        pairs: [first, NO_PAIR, NO_PAIR, NO_PAIR],
     }
 }
 

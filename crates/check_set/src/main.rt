@@ -2,8 +2,8 @@
 ghost use lib.ListN.{length};
 ghost use Rattle.set_console.specs.Reading.{HoldsEverySet};
 use checking::check;
-use set_console::INITIAL;
-use set_console::OFFSETS;
+use design::limits::MOST_INITIAL;
+use design::limits::MOST_OFFSETS;
 use set_console::print_checked;
 use set_console::read_set;
 
@@ -18,7 +18,7 @@ fn read_and_check(initial: &mut [u32], offsets: &mut [i32])
 }
 
 fn main() {
-    let mut initial = [0u32; INITIAL];
-    let mut offsets = [0i32; OFFSETS];
+    let mut initial = [0u32; MOST_INITIAL];
+    let mut offsets = [0i32; MOST_OFFSETS];
     read_and_check(&mut initial, &mut offsets);
 }

@@ -19,6 +19,9 @@ pub struct Pair {
     pub b: u32,
 }
 
+// A pair of no bits, which stands where there is none.
+pub const NO_PAIR: Pair = Pair { a: 0, b: 0 };
+
 // Document 01's design. Pairs at m and beyond are not read.
 pub struct Design {
     pub kind: u32,

@@ -12,3 +12,8 @@ pub const MOST_TABLES: u32 = 4;
 pub const MOST_OFFSET_BITS: u32 = 8;
 
 pub const MOST_TABLE_BITS: u64 = 12;
+
+// What follows: tables of these lengths hold every legal set. That is proved where a program lends its tables.
+pub const MOST_INITIAL: usize = 8192;
+
+pub const MOST_OFFSETS: usize = 16384;

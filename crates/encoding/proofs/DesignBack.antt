@@ -12,7 +12,7 @@ use Rattle.refusal.specs.Checks.{verdict}
 use Rattle.refusal.proofs.Checks.{neither}
 use Rattle.design.specs.declared.Pair.{Pair}
 use Rattle.design.specs.declared.Design.{Design}
-use Rattle.design.specs.Cut.{tables, pairAt}
+use Rattle.design.specs.Cut.{tables, pairAt, noPair}
 use Rattle.design.specs.Legal.{Legal}
 use Rattle.design.specs.Same.{Same}
 use Rattle.design.proofs.LegalLaws.{limits}
@@ -26,7 +26,7 @@ use Rattle.encoding.proofs.DesignLaws.{tables-length, pair-bytes-length
 
 -- What is read past the last pair
 abbrev none : Pair
-none = record { a = 0; b = 0 }
+none = noPair
 
 -- The numbers of small pairs are bytes.
 record Small (pair : Pair) : Type 0 where

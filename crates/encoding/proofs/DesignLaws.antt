@@ -8,7 +8,7 @@ use lib.ListN.{length, drop, length-take, drop-of-length-le, List·getD-eq-defau
 use lib.Seq.{drop-cons, append-snoc}
 use Rattle.design.specs.declared.Pair.{Pair}
 use Rattle.design.specs.declared.Design.{Design}
-use Rattle.design.specs.Cut.{tables, pairAt}
+use Rattle.design.specs.Cut.{tables, pairAt, noPair}
 use Rattle.design.specs.Legal.{Legal}
 use Rattle.design.proofs.LegalLaws.{limits}
 use Rattle.encoding.specs.DesignBytes.{pairBytes, designBytes}
@@ -24,7 +24,7 @@ no-more d = omega (arith, length-take (d .m) (d .pairs))
 -- The pair past the last table is zeros, which no table of a legal design is,
 past-the-end : (d : Design) → pairAt d (length (tables d)) .a ≡ 0
 unfolding pairAt
-past-the-end d = ap (λ (pair : Pair). pair .a) (List·getD-eq-default (tables d) (record { a = 0; b = 0 }) (omega arith))
+past-the-end d = ap (λ (pair : Pair). pair .a) (List·getD-eq-default (tables d) noPair (omega arith))
 
 -- so a legal design has as many tables as its m says.
 pub tables-length : (d : Design) → Legal d → length (tables d) ≡ d .m
@@ -47,7 +47,7 @@ design-bytes-length d = omega (arith, pair-bytes-length (tables d))
 pairs-next : (d : Design) (i : ℕ) → i < length (tables d)
     → pairBytes (drop i (tables d)) ≡ pairAt d i .a ∷ pairAt d i .b ∷ pairBytes (drop (i + 1) (tables d))
 unfolding pairAt pairBytes
-pairs-next d i h = rw (add-one, drop-cons (tables d) i (record { a = 0; b = 0 }) h)
+pairs-next d i h = rw (add-one, drop-cons (tables d) i noPair h)
 
 two-more : (front rest : List ℕ) (first second : ℕ) → front ++ (first ∷ []) ++ (second ∷ []) ++ rest ≡ front ++ (first ∷ second ∷ rest)
 two-more front rest first second = append-snoc (front ++ (first ∷ [])) second rest ∙ append-snoc front first (second ∷ rest)

@@ -4,11 +4,11 @@ ghost use Rattle.set_console.specs.Reading.{HoldsEverySet};
 use console::Input;
 use console::read_byte;
 use design::Design;
+use design::limits::MOST_INITIAL;
+use design::limits::MOST_OFFSETS;
 use evaluating::Evaluated;
 use evaluating::evaluate;
 use libc::STDOUT_FILENO;
-use set_console::INITIAL;
-use set_console::OFFSETS;
 use set_console::read_set;
 use word_text::ReadWord;
 use word_text::WordText;
@@ -92,7 +92,7 @@ fn read_and_answer(initial: &mut [u32], offsets: &mut [i32])
 }
 
 fn main() {
-    let mut initial = [0u32; INITIAL];
-    let mut offsets = [0i32; OFFSETS];
+    let mut initial = [0u32; MOST_INITIAL];
+    let mut offsets = [0i32; MOST_OFFSETS];
     read_and_answer(&mut initial, &mut offsets);
 }

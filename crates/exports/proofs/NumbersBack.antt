@@ -6,6 +6,7 @@ use Prim.Native.Nat.{ℕ, zero, suc, _+_, _<_}
 use native.Mathlib.Omega.{arith}
 use lib.ListN.{length, getD, drop}
 use lib.Seq.{drop-cons, drop-length}
+use Rattle.design.specs.Cut.{noPair}
 use Rattle.design.specs.declared.Pair.{Pair}
 use Rattle.design.specs.declared.Design.{Design}
 use Rattle.exports.specs.Numbers.{designOf, numbersOf}
@@ -27,7 +28,7 @@ pub design-back : (d : Design) → length (d .pairs) ≡ 4 → designOf (numbers
 unfolding designOf numbersOf
 design-back d four =
     ap (λ (pairs : List Pair). record { kind = d .kind; w = d .w; q = d .q; g = d .g; alpha = d .alpha; m = d .m; pairs = pairs })
-    (entries-read (record { a = 0; b = 0 }) (d .pairs) 0 4 (sym four))
+    (entries-read noPair (d .pairs) 0 4 (sym four))
 
 pub numbers-back : (numbers : List ℕ) → length numbers ≡ 14 → numbersOf (designOf numbers) ≡ numbers
 unfolding designOf numbersOf

@@ -3,6 +3,7 @@ use mathlib.Core.List.{List, [], _∷_}
 use Prim.Native.Nat.{ℕ}
 use lib.ListN.{getD}
 use lib.IntN.{ℤ}
+use Rattle.design.specs.Cut.{noPair}
 use Rattle.design.specs.declared.Pair.{Pair}
 use Rattle.design.specs.declared.Design.{Design}
 use Rattle.reading.specs.declared.Reading.{Reading}
@@ -27,7 +28,7 @@ designOf numbers =
 
 -- Pair i of the four, read or not
 abbrev pub pairIn : Design → ℕ → Pair
-pairIn d i = getD (d .pairs) i (record { a = 0; b = 0 })
+pairIn d i = getD (d .pairs) i noPair
 
 -- The numbers that stand for a design
 unfoldable pub numbersOf : Design → List ℕ

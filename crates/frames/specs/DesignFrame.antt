@@ -6,6 +6,7 @@ use lib.Dec.{ltb, eqb}
 use lib.ListN.{getD}
 use Rattle.refusal.specs.declared.Cause.{Cause}
 use Rattle.refusal.specs.Checks.{Check, _↝_}
+use Rattle.design.specs.Cut.{noPair}
 use Rattle.design.specs.declared.Pair.{Pair}
 use Rattle.design.specs.declared.Design.{Design}
 use Rattle.design.specs.Legal.{designChecks}
@@ -25,7 +26,7 @@ unfoldable pub framePair : List ℕ → ℕ → Pair
 framePair bytes i =
     cond (ltb i (getD bytes 6 0))
     (record { a = getD bytes (7 + 2 * i) 0; b = getD bytes (8 + 2 * i) 0 })
-    (record { a = 0; b = 0 })
+    noPair
 
 unfoldable pub frameDesign : List ℕ → Design
 frameDesign bytes =

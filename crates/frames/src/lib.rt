@@ -7,6 +7,7 @@ ghost use Rattle.frames.specs.Hex.{digitValue};
 ghost use Rattle.frames.specs.Line.{lengthFails, decoded};
 ghost use Rattle.frames.specs.DesignFrame.{frameChecks, framePair, frameDesign, firstChecks};
 use design::Design;
+use design::NO_PAIR;
 use design::Pair;
 use design::legal::design_verdict;
 use refusal::Cause;
@@ -109,7 +110,7 @@ fn frame_pair(bytes: [u8; CAPACITY], i: usize) -> Pair
 {
     let m = bytes[6] as usize;
     if m <= i {
-        return Pair { a: 0, b: 0 };
+        return NO_PAIR;
     }
     Pair {
         a: bytes[7 + 2 * i] as u32,

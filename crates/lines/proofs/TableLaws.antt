@@ -16,10 +16,9 @@ use Rattle.design.proofs.LegalLaws.{limits}
 use Rattle.design.proofs.StoredLaws.{offset-total-small, initial-count-small}
 use Rattle.general.proofs.Sums.{sum-mono, sum-next}
 use Rattle.lines.specs.declared.Slot.{Slot}
-use Rattle.lines.specs.Slots.{lineCount, tableOf, offsetSlot}
+use Rattle.lines.specs.Slots.{lineCount, tableOf, offsetSlot, mostLines}
 
--- At most 8192 initial entries, 16384 offsets, and the two lines around them
-pub lines-small : (d : Design) → Legal d → lineCount d ≤ 24578
+pub lines-small : (d : Design) → Legal d → lineCount d ≤ mostLines
 unfolding lineCount
 lines-small d legal = omega (arith, initial-count-small d (limits d legal), offset-total-small d (limits d legal))
 

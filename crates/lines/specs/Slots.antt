@@ -2,6 +2,7 @@
 use mathlib.Core.Bool.{cond}
 use Prim.Native.Nat.{ℕ, suc, _+_, _-_}
 use lib.Dec.{leb, eqb}
+use Rattle.design.specs.Limits.{mostInitial, mostOffsets}
 use Rattle.design.specs.declared.Design.{Design}
 use Rattle.general.specs.Below.{sumBelow}
 use Rattle.design.specs.Stored.{initialCount, tableStart, offsetTotal}
@@ -10,6 +11,10 @@ use Rattle.lines.specs.declared.Slot.{Slot}
 -- How many lines a set has: the design's, one for each entry, and the last
 unfoldable pub lineCount : Design → ℕ
 lineCount d = initialCount d + offsetTotal d + 2
+
+-- No legal design's sets have more.
+abbrev pub mostLines : ℕ
+mostLines = mostInitial + mostOffsets + 2
 
 -- "table 0 first": the table of the offset at a place among all of them. The tables before it are those that end there or earlier.
 unfoldable pub tableOf : Design → ℕ → ℕ

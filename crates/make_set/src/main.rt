@@ -2,10 +2,10 @@
 ghost use lib.ListN.{length};
 ghost use Rattle.set_console.specs.Reading.{HoldsEverySet};
 use design::Design;
+use design::limits::MOST_INITIAL;
+use design::limits::MOST_OFFSETS;
 use filling::fill;
 use refusal::Verdict;
-use set_console::INITIAL;
-use set_console::OFFSETS;
 use set_console::begin;
 use set_console::print_line;
 
@@ -37,8 +37,8 @@ fn make(line: &[u8], initial: &mut [u32], offsets: &mut [i32])
 }
 
 fn main() {
-    let mut initial = [0u32; INITIAL];
-    let mut offsets = [0i32; OFFSETS];
+    let mut initial = [0u32; MOST_INITIAL];
+    let mut offsets = [0i32; MOST_OFFSETS];
     let line = console::read_line();
     let bytes = line.bytes;
     let count = line.count;

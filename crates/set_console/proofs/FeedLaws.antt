@@ -11,6 +11,7 @@ use mathlib.Core.Logic.{inl, inr}
 use borrow.Author.Tests.{not-true, not-false}
 use Rattle.refusal.specs.declared.Cause.{Cause}
 use Rattle.refusal.specs.declared.Verdict.{Verdict}
+use Rattle.lines.specs.Slots.{mostLines}
 use Rattle.reading.specs.declared.Reading.{Reading}
 use Rattle.reading.specs.declared.Read.{Read}
 use Rattle.reading.specs.ReadLine.{possible, finished, Session, session, verdictOn, after, readAnswer}
@@ -138,7 +139,7 @@ came-more initial offsets s next more came step =
     }
 
 -- A reading takes no more lines than a set has, so that it ends: what is left to take falls with each line.
-pub few-taken : (state : Reading) → possible state ≡ true → state .taken ≤ 24578
+pub few-taken : (state : Reading) → possible state ≡ true → state .taken ≤ mostLines
 few-taken state p =
     elim (decLt 0 (state .taken)) [
       | yes some ↦
@@ -148,9 +149,9 @@ few-taken state p =
     ]
 
 abbrev pub left : Bool → ℕ → ℕ
-left more taken = cond more (24579 - taken) 0
+left more taken = cond more (mostLines + 1 - taken) 0
 
-pub left-less : (taken next : ℕ) (before more : Bool) → taken ≤ 24578 → before ≡ true → (more ≡ true → next ≡ taken + 1)
+pub left-less : (taken next : ℕ) (before more : Bool) → taken ≤ mostLines → before ≡ true → (more ≡ true → next ≡ taken + 1)
     → left more next < left before taken
 left-less taken next before true few e moves = rw e (omega (arith, moves refl))
 left-less taken next before false few e moves = rw e (omega arith)

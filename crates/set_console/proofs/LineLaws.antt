@@ -4,11 +4,12 @@ use mathlib.Core.List.{List}
 use Prim.Native.Nat.{ℕ, _≤_, _<_}
 use lib.IntN.{ℤ}
 use Rattle.refusal.specs.declared.Verdict.{Verdict}
+use Rattle.design.specs.Limits.{mostInitial, mostOffsets}
 use Rattle.design.specs.declared.Design.{Design}
 use Rattle.design.proofs.StoredLaws.{initial-count-small, offset-total-small}
 use Rattle.design.proofs.LegalLaws.{limits}
 use Rattle.tables.proofs.SetLaws.{usable}
-use Rattle.lines.specs.Slots.{lineCount}
+use Rattle.lines.specs.Slots.{lineCount, mostLines}
 use Rattle.lines.proofs.TableLaws.{lines-small}
 use Rattle.writing.specs.Write.{writeVerdict}
 use Rattle.writing.proofs.WriteLaws.{given}
@@ -17,7 +18,7 @@ use Rattle.set_console.specs.Reading.{HoldsEverySet}
 -- A line that the writer gives is one of the set's, of which there are few.
 pub record Within (d : Design) (n : ℕ) : Type 0 where
   pub within : n < lineCount d
-  pub few : lineCount d ≤ 24578
+  pub few : lineCount d ≤ mostLines
 
 pub given-within : (d : Design) (initial : List ℕ) (offsets : List ℤ) (n buffer : ℕ)
     → writeVerdict d initial offsets n buffer ≡ Verdict.Passed → Within d n
@@ -25,8 +26,8 @@ given-within d initial offsets n buffer e =
     let told = given d initial offsets n buffer e in
     record { within = told .within; few = lines-small d (told .usable .legal) }
 
--- The largest legal set has 2^13 initial entries, and another 4 tables of 2^12 offsets.
-pub every-set : HoldsEverySet 8192 16384
+-- Tables that hold as many entries as a legal set may have
+pub every-set : HoldsEverySet mostInitial mostOffsets
 every-set d legal =
     record {
       legal = legal;

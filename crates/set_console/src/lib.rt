@@ -13,19 +13,13 @@ use checking::Checked;
 use console::KEPT;
 use console::LineEnd;
 use design::Design;
-use design::Pair;
+use design::NO_PAIR;
 use libc::STDOUT_FILENO;
 use reading::Reading;
 use refusal::Cause;
 use refusal::Verdict;
 use writing::Written;
 use writing::write_line;
-
-// Tables of these lengths hold every legal set: alpha is at most 13, and there are at most 4 tables of at most 12 bits. That is proved
-// where a program lends its tables.
-pub const INITIAL: usize = 8192;
-
-pub const OFFSETS: usize = 16384;
 
 // What came of taking a line: the state to go on with, and whether there is more to take.
 struct Step {
@@ -43,7 +37,6 @@ pub struct SetRead {
 pub fn begin() -> Reading
     ensures { λ r. ⌜ r .taken ≡ 0 ⌝ }
 {
-    let none = Pair { a: 0, b: 0 };
     Reading {
         design: Design {
             kind: 0,
@@ -52,7 +45,7 @@ pub fn begin() -> Reading
             g: 0,
             alpha: 0,
             m: 0,
-            pairs: [none, none, none, none],
+            pairs: [NO_PAIR; 4],
         },
         taken: 0,
     }

@@ -7,6 +7,7 @@ use lib.ListN.{length, getD}
 use lib.IntN.{ℤ}
 use borrow.Author.Tests.{le-ltb}
 use Rattle.refusal.specs.declared.Verdict.{Verdict}
+use Rattle.design.specs.Cut.{noPair}
 use Rattle.design.specs.declared.Design.{Design}
 use Rattle.design.specs.Same.{Same}
 use Rattle.tables.specs.Set.{tablesCheck}
@@ -125,7 +126,7 @@ module _ (d e : Design) (n : ℕ) (same : 0 < n → Same d e) (initial : List �
 
 -- What a reader leaves in the pairs beyond m: zeros on a first line,
 frame-zeros : (bytes : List ℕ) (i : ℕ) → frameDesign bytes .m ≤ i
-    → getD (frameDesign bytes .pairs) i (record { a = 0; b = 0 }) ≡ record { a = 0; b = 0 }
+    → getD (frameDesign bytes .pairs) i noPair ≡ noPair
 unfolding frameDesign framePair
 frame-zeros bytes zero h = rw (le-ltb _ _ h)
 frame-zeros bytes (suc zero) h = rw (le-ltb _ _ h)

@@ -7,6 +7,7 @@ use lib.ListN.{getD}
 use lib.IntN.{ℤ}
 use Rattle.refusal.specs.declared.Verdict.{Verdict}
 use Rattle.refusal.specs.Checks.{verdict}
+use Rattle.design.specs.Cut.{noPair}
 use Rattle.design.specs.declared.Design.{Design}
 use Rattle.design.specs.Same.{Same}
 use Rattle.design.specs.Legal.{designVerdict}
@@ -81,6 +82,6 @@ pub record Unread : Type 0 where
   -- "a reader leaves zeros there on an 01 line"
   pub zeros : (s : Session) (line : List ℕ) → s .state .taken ≡ 0 → verdictOn s line ≡ Verdict.Passed
       → (i : ℕ) → after s line .state .design .m ≤ i
-      → getD (after s line .state .design .pairs) i (record { a = 0; b = 0 }) ≡ record { a = 0; b = 0 }
+      → getD (after s line .state .design .pairs) i noPair ≡ noPair
   -- "and keeps them as they came on later lines"
   pub kept : (s : Session) (line : List ℕ) → 0 < s .state .taken → after s line .state .design ≡ s .state .design

@@ -5,6 +5,7 @@ use Prim.Native.Nat.{ℕ, _-_, _≤_, _<_}
 use native.Mathlib.Omega.{arith}
 use lib.ListN.{length, length-set}
 use lib.Pow.{pow-pos}
+use Rattle.design.specs.Limits.{mostInitial}
 use Rattle.design.specs.declared.Design.{Design}
 use Rattle.design.specs.Stored.{initialCount}
 use Rattle.design.proofs.LegalLaws.{limits}
@@ -39,7 +40,7 @@ loop-holds c = record { so-far = run-none _ _ 0; kept = refl; within = omega ari
 
 -- a turn's entry is one of the table's, and few as they are nothing wraps
 few : (c : tie.In-loop Inv-loop μ-loop) → let start = c .before .before .before .before .before in
-    (c .before .loop .word < initialCount (start .args .d)) × (initialCount (start .args .d) ≤ 8192)
+    (c .before .loop .word < initialCount (start .args .d)) × (initialCount (start .args .d) ≤ mostInitial)
 unfolding initialCount
 few c =
     let l = limits _ (c .before .before .before .before .before .pre .0) in

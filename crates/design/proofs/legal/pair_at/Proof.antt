@@ -6,12 +6,12 @@ use borrow.Author.Needs.{needs}
 use lib.ListN.{getD}
 use lib.Seq.{getD-take}
 use Rattle.design.specs.declared.Design.{Design}
-use Rattle.design.specs.Cut.{tables, pairAt}
+use Rattle.design.specs.Cut.{tables, pairAt, noPair}
 use Rattle.design.proofs.legal.pair_at.Statement.{statement}
 use Rattle.design.proofs.legal.pair_at.Tie as tie
 
 -- the pair at the place that the branch reads
-read : (d : Design) (i place : ℕ) → i ≡ place → i < d .m → getD (d .pairs) place (record { a = 0; b = 0 }) ≡ pairAt d i
+read : (d : Design) (i place : ℕ) → i ≡ place → i < d .m → getD (d .pairs) place noPair ≡ pairAt d i
 unfolding pairAt tables
 read d i place e h = rw (← e) (sym (getD-take _ _ _ _ h))
 

@@ -7,6 +7,7 @@ use native.Mathlib.Omega.{arith}
 use borrow.Author.Needs.{needs}
 use borrow.Author.Tests.{not-true}
 use lib.Pow.{pow-mono}
+use Rattle.design.specs.Limits.{mostTables}
 use Rattle.values.specs.Room.{finestUnit, entryBound}
 use Rattle.design.specs.declared.Design.{Design}
 use Rattle.design.specs.Stored.{initialCount}
@@ -16,7 +17,7 @@ use Rattle.evaluating.proofs.range.sums_in_range.Statement.{statement}
 use Rattle.evaluating.proofs.range.sums_in_range.Tie as tie
 
 module _ (d : Design) (l : Limits d) where
-  reach-small : (size : ℕ) → d .m * size ≤ 4 * size
+  reach-small : (size : ℕ) → d .m * size ≤ mostTables * size
   reach-small size = mul-le-mul-right size (l .m-high)
 
   limit-small : 2 ^ (d .q + d .g + 2) ≤ entryBound
