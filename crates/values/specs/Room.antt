@@ -15,8 +15,8 @@ abbrev pub finestUnit : ℕ
 finestUnit = 21
 
 -- Input words of w bits and s fraction bits: a number of s bits has a k-th power of k·s, and the argument is below 2^(w+k). Where the
--- function rises, what does not cancel of the value's part is below 2^(k·(s+1)). Where it falls, nothing cancels, and the number's part, n^k
--- times the argument, is below 2^(k·(s+1)+w).
+-- function rises, what does not cancel of the value's side is below 2^(k·(s+1)). Where it falls, nothing cancels, and the number's side,
+-- n^k times the argument, is below 2^(k·(s+1)+w).
 pub record Room (row : Row) (w s : ℕ) : Type 0 where
   pub degree : row .k ≤ highestDegree
   pub w-small : w ≤ widestWord

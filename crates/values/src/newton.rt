@@ -24,8 +24,8 @@ fn is_above(k: u32, limit: u64, r: u64) -> bool
     limit < r * r
 }
 
-// The k-th root of the limit, rounded down, for a limit whose root is below 2^(p+1). Of degree 1 the limit is its own root. The first step is
-// taken from 2^p, so that its division is a shift.
+// The k-th root of the limit, rounded down, for a limit whose root is below 2^(p+1). Of degree 1 the limit is its own root. The first
+// step is taken from 2^p, so that its division is a shift.
 pub(crate) fn floor_root(k: u32, p: u32, limit: u64) -> u64
     requires { ⌜ RootInput k p limit ⌝ }
     ensures { λ r. ⌜ r ≡ rootFrom k limit (p + 1) 0 ⌝ }

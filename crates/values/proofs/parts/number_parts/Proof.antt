@@ -46,7 +46,8 @@ divisor-part-requires c κs = coarser-input (c .args .s) (omega arith) (c .pre .
 
 -- the two numbers of this call
 both : (c : tie.After-divisor-part) → let a = c .before .args in
-    One (a .row) (a .w) (a .s) (a .x) (c .divisor-part .result) (a .low) × One (a .row) (a .w) (a .s) (a .x) (c .divisor-part .result) (a .high)
+    One (a .row) (a .w) (a .s) (a .x) (c .divisor-part .result) (a .low)
+    × One (a .row) (a .w) (a .s) (a .x) (c .divisor-part .result) (a .high)
 both c =
     let p = c .before .pre in
     (one _ _ _ _ _ _ (c .divisor-part .ensures) (p .0) (p .1 .0), one _ _ _ _ _ _ (c .divisor-part .ensures) (p .0) (p .1 .1))

@@ -43,7 +43,9 @@ outside-requires-3 c κs = search needs
 
 returns-3 : tie.Need-returns-3
 unfolding widthChecks
-returns-3 c = let w = c .before .before in rw (kind-passed (w .before .before), w-passed w, tested (c .before .outside3 .ensures) (c .if3 .taken))
+returns-3 c =
+    let w = c .before .before in
+    rw (kind-passed (w .before .before), w-passed w, tested (c .before .outside3 .ensures) (c .if3 .taken))
 
 outside-requires-4 : tie.Need-outside-requires-4
 outside-requires-4 c κs = search needs
