@@ -4,7 +4,7 @@ use native.Mathlib.Omega.{arith}
 use borrow.Author.Needs.{needs}
 use Rattle.design.specs.Stored.{initialCount}
 use Rattle.design.proofs.LegalLaws.{limits}
-use Rattle.lines.specs.Slots.{lineCount}
+use Rattle.lines.specs.Slots.{lineCount, mostLines}
 use Rattle.lines.proofs.TableLaws.{lines-small}
 use Rattle.lines.proofs.line_count.Statement.{statement}
 use Rattle.lines.proofs.line_count.Tie as tie
@@ -16,7 +16,7 @@ offset-total-requires : tie.Need-offset-total-requires
 offset-total-requires c κs = search needs
 
 -- the entries are few
-few : (c : tie.After-offset-total) → c .before .pow2 .result + c .offset-total .result ≤ 24576
+few : (c : tie.After-offset-total) → c .before .pow2 .result + c .offset-total .result + 2 ≤ mostLines
 unfolding lineCount initialCount
 few c = omega (arith, lines-small _ (c .before .before .pre), c .before .pow2 .ensures, c .offset-total .ensures)
 
