@@ -39,4 +39,5 @@ module _ (d : Design) (l : Limits d) (i : ℕ) (h : i < d .m) where
   -- so what it adds is the product of two bounds.
   pub table-budget-small : tableBudget d i ≤ shareBound
   unfolding tableBudget
-  table-budget-small = mul-le-mul (le-of-lt reach-small) (largest-spread-small (row d) (d .w) (fractionBits d) (aOf d i) (slopewise d l i h))
+  table-budget-small =
+      mul-le-mul (le-of-lt reach-small) (largest-spread-small (row d) (d .w) (fractionBits d) (aOf d i) (slopewise d l i h))

@@ -2,8 +2,8 @@
 use Prim.Native.Nat.{ℕ, _+_, _*_, _^_, _≤_, _<_}
 use Rattle.values.specs.Room.{productBound}
 
--- Offsets of a segment are asked for: Hi + Lo and b are not 0, so that j is odd and no product is 0, and the largest product that its slopes
--- and its table's b and p can lead to is small.
+-- Offsets of a segment are asked for: Hi + Lo and b are not 0, so that j is odd and no product is 0, and the largest product that its
+-- slopes and its table's b and p can lead to is small.
 pub record OffsetInput (slopes b p : ℕ) : Type 0 where
   pub b-low : 1 ≤ b
   pub slopes-low : 1 ≤ slopes

@@ -4,7 +4,18 @@
 use mathlib.Core.Path.{_≡_}
 use mathlib.Core.Bool.{Bool, true, false, cond}
 use Prim.Native.Nat.{ℕ, suc, _+_, _*_, _^_, _≤_, _<_}
-use native.Mathlib.Nat.{le-refl, le-trans, le-of-lt, lt-of-not-le, mul-le-mul, mul-le-mul-left, mul-le-mul-right, le-of-mul-le-mul-right, le-add-right, pow-le-pow-left}
+use native.Mathlib.Nat.{
+  le-refl,
+  le-trans,
+  le-of-lt,
+  lt-of-not-le,
+  mul-le-mul,
+  mul-le-mul-left,
+  mul-le-mul-right,
+  le-of-mul-le-mul-right,
+  le-add-right,
+  pow-le-pow-left,
+}
 use native.Mathlib.Decide.{decLe}
 use native.Mathlib.Omega.{arith}
 use Rattle.values.specs.declared.rows.Row.{Row}

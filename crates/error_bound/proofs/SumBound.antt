@@ -85,10 +85,12 @@ module _ (d : Design) (l : Limits d) (x : ℕ) (x-lt : x < 2 ^ d .w) where
 
   ordered-at : (i : ℕ) → i < d .m → loAt d i (segmentWord d i x) ≤ hiAt d i (segmentWord d i x)
   unfolding hiAt loAt
-  ordered-at i h = ordered (row d) (d .w) (fractionBits d) (aOf d i) (segmentWord d i x) (slopewise d l i h) (segment-word-lt d l i x h x-lt) .1
+  ordered-at i h =
+      ordered (row d) (d .w) (fractionBits d) (aOf d i) (segmentWord d i x) (slopewise d l i h) (segment-word-lt d l i x h x-lt) .1
 
   table-of : (i : ℕ) → i < d .m → let A = segmentWord d i x in
-      Table (hiAt d i A) (loAt d i A) (done d x i) (left d x i) (added (writtenOffset d x i)) (taken (writtenOffset d x i)) (tableBudget d i)
+      Table (hiAt d i A) (loAt d i A) (done d x i) (left d x i) (added (writtenOffset d x i)) (taken (writtenOffset d x i))
+      (tableBudget d i)
   unfolding writtenOffset
   table-of i h =
       table _ _ _ _ _ _ _ _ (sym (add-sub-of-le (ordered-at i h))) (share-enough i h) (offset-low d l x i h) (offset-high d l x i h)

@@ -1,7 +1,16 @@
 -- From a sum within the budget of the exact value to the word: it is faithful, and it meets the second bound.
 use mathlib.Core.Path.{_≡_, ap}
 use Prim.Native.Nat.{ℕ, _+_, _-_, _*_, _/_, _^_, _≤_, _<_}
-use native.Mathlib.Nat.{le-trans, le-of-lt, lt-of-not-le, mul-le-mul-left, le-div-iff-mul-le, mul-div-le, lt-mul-div-succ, lt-of-mul-lt-mul-left}
+use native.Mathlib.Nat.{
+  le-trans,
+  le-of-lt,
+  lt-of-not-le,
+  mul-le-mul-left,
+  le-div-iff-mul-le,
+  mul-div-le,
+  lt-mul-div-succ,
+  lt-of-mul-lt-mul-left,
+}
 use native.Mathlib.Decide.{decLe}
 use native.Mathlib.Omega.{arith}
 use lib.Pow.{pow-add, pow-pos, pow-mono}

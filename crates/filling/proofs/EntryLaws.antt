@@ -47,7 +47,8 @@ module _ (d : Design) where
   unfolding tableEntries
   table-length i = list-length _ (offsetCount d i)
 
-  table-at : (i A index : ℕ) (z : ℤ) → Entry d i A index → getD (tableEntries d i) (A * storedCount d i + index) z ≡ storedOffset d i A index
+  table-at : (i A index : ℕ) (z : ℤ) → Entry d i A index
+      → getD (tableEntries d i) (A * storedCount d i + index) z ≡ storedOffset d i A index
   unfolding tableEntries offsetCount
   table-at i A index z entry =
       list-at _ (offsetCount d i) (A * storedCount d i + index) z (digits-lt (entry .A-lt) (entry .index-lt))

@@ -5,7 +5,18 @@ use mathlib.Core.Bool.{Bool, true, false, or-true}
 use mathlib.Core.Logic.{⊎-elim}
 use Prim.Native.Nat.{ℕ, zero, suc, _+_, _*_, _≤_, _<_}
 use lib.IntN.{ℤ, _+ℤ_}
-use native.Mathlib.Nat.{eq-or-lt-of-le, le-of-suc-le-suc, not-suc-le-zero, le-trans, le-step, le-refl, le-add-right, le-max-left, le-max-right, max-le}
+use native.Mathlib.Nat.{
+  eq-or-lt-of-le,
+  le-of-suc-le-suc,
+  not-suc-le-zero,
+  le-trans,
+  le-step,
+  le-refl,
+  le-add-right,
+  le-max-left,
+  le-max-right,
+  max-le,
+}
 use native.Mathlib.Numerals.{add-one}
 use native.Mathlib.Omega.{arith}
 use Rattle.refusal.proofs.Checks.{neither}

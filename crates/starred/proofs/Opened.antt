@@ -30,7 +30,7 @@ use Rattle.checking.specs.Check.{faithfulAt, findingBelow, checkVerdict, checkA
 
 unfoldable pub calls-opened : Unit {0}
 unfolding
-    entries-opened tables-opened admittedCheck fillVerdict listBelow initialEntries storedOffset tableEntries offsetsBelow offsetEntries initialAfter
-    offsetsAfter wordChecks evaluateVerdict evaluateAnswer evaluateTold outputCheck roomVerdict batchBelow placeVerdict batchAnswer
+    entries-opened tables-opened admittedCheck fillVerdict listBelow initialEntries storedOffset tableEntries offsetsBelow offsetEntries
+    initialAfter offsetsAfter wordChecks evaluateVerdict evaluateAnswer evaluateTold outputCheck roomVerdict batchBelow placeVerdict batchAnswer
     checksBelow batchVerdict outputAfter passing batchTold faithfulAt findingBelow checkVerdict checkAnswer checkTold
 calls-opened = tt

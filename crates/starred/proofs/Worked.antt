@@ -87,7 +87,8 @@ pub record Worked : Type 0 where
   pub numbers : map numberOf causes
       ≡ 1 ∷ 2 ∷ 3 ∷ 4 ∷ 5 ∷ 6 ∷ 7 ∷ 8 ∷ 9 ∷ 10 ∷ 11 ∷ 12 ∷ 13 ∷ 14 ∷ 15 ∷ 16 ∷ 17 ∷ 18 ∷ 19 ∷ []
   -- L for g 4, q 8, w 8: kind 2, x 0, and kind 3, x 255
-  pub other-kinds : (valueOf 2 8 8 4 0 ≡ Valued.Value (record { 0 = pos 5792 })) × (valueOf 3 8 8 4 255 ≡ Valued.Value (record { 0 = pos 2899 }))
+  pub other-kinds : (valueOf 2 8 8 4 0 ≡ Valued.Value (record { 0 = pos 5792 }))
+      × (valueOf 3 8 8 4 255 ≡ Valued.Value (record { 0 = pos 2899 }))
   -- 2 before 3: w 5 with q 5
   pub w-before-q : valueOf 0 5 5 4 0 ≡ Valued.Refused Cause.InputWidth
   -- alpha 13 passes, and so do w 16, q 16, q+g 20 and a+b 12: 8192 and 4096 entries of 24 bits
@@ -150,7 +151,8 @@ unfolding
     Encode.digitOf Encode.hexOf Encode.sumByte Encode.withSum Encode.lineOf DesignBytes.pairBytes DesignBytes.designBytes
     Slots.lineCount Slots.tableOf Slots.offsetSlot Slots.slotOf Lines.frameHead Lines.entryWidth Lines.entryNumber Lines.entryFits
     Lines.frameOf Lines.lineAt Write.numberCheck Write.askedChecks Write.writeVerdict Write.writeAnswer ReadLine.possible
-    ReadLine.stateCheck ReadLine.designAfter ReadLine.dueFails ReadLine.dueChecks ReadLine.readVerdict ReadLine.verdictOn ReadLine.after ReadLine.readAnswer
+    ReadLine.stateCheck ReadLine.designAfter ReadLine.dueFails ReadLine.dueChecks ReadLine.readVerdict ReadLine.verdictOn
+    ReadLine.after ReadLine.readAnswer
     Words.decimalWithin Words.decimal Words.textOf Report.lineText Report.designText Report.refusedText Report.reportVerdict Report.reportOf
     Decimal.allDecimal Decimal.isDecimal Decimal.decimalNumber Decimal.wordIn
 worked =

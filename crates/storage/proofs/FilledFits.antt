@@ -34,7 +34,8 @@ module _ (d : Design) (l : Limits d) where
   unfolding fits
   initial-fits A h = lt-ltb (initialAt d A) (2 ^ (8 * entryBytes)) (omega (arith, initial-small d l A h))
 
-  offset-fits : (i A index : ℕ) → i < d .m → A < 2 ^ aOf d i → index < storedCount d i → fitsSigned entryBytes (storedOffset d i A index) ≡ true
+  offset-fits : (i A index : ℕ) → i < d .m → A < 2 ^ aOf d i → index < storedCount d i
+      → fitsSigned entryBytes (storedOffset d i A index) ≡ true
   unfolding storedOffset offsetAt offsetOf signed
   offset-fits i A index i-lt A-lt index-lt =
       let B = storedWord d i index in

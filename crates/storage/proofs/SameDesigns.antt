@@ -60,7 +60,20 @@ unfolding
 opened = tt
 
 -- Those of them that a rewrite has to be told to look into
-ruleset insides = (aOf, bOf, storedCount, offsetCount, tableBreaks, tableBudget, initialAt, offsetFor, placeVerdict, wordAt, faithfulAt, slotOf)
+ruleset insides = (
+  aOf,
+  bOf,
+  storedCount,
+  offsetCount,
+  tableBreaks,
+  tableBudget,
+  initialAt,
+  offsetFor,
+  placeVerdict,
+  wordAt,
+  faithfulAt,
+  slotOf,
+)
 
 -- The design with other pairs
 abbrev with-pairs : Design → List Pair → Design

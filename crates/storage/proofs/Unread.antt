@@ -92,7 +92,8 @@ finished-same d e zero same = not-begun (at d 0) refl ∙ sym (not-begun (at e 0
 finished-same d e (suc n) same = later-finished d e (same (omega arith)) (suc n) (omega arith)
 
 -- The design that counts, the line's or the state's
-design-same : (d e : Design) (n : ℕ) → (0 < n → Same d e) → (bytes : List ℕ) → Same (designAfter (at d n) bytes) (designAfter (at e n) bytes)
+design-same : (d e : Design) (n : ℕ) → (0 < n → Same d e) → (bytes : List ℕ)
+    → Same (designAfter (at d n) bytes) (designAfter (at e n) bytes)
 unfolding designAfter
 design-same d e zero same bytes = search
 design-same d e (suc n) same bytes =

@@ -16,7 +16,8 @@ use Rattle.tables.specs.Inputs.{Usable}
 use Rattle.tables.specs.Set.{tablesCheck, setChecks}
 
 module _ (d : Design) (initial offsets : ℕ) where
-  pub set-refused : (cause : Cause) → designVerdict d ≡ Verdict.Refused cause → verdict (setChecks d initial offsets) ≡ Verdict.Refused cause
+  pub set-refused : (cause : Cause) → designVerdict d ≡ Verdict.Refused cause
+      → verdict (setChecks d initial offsets) ≡ Verdict.Refused cause
   unfolding setChecks designVerdict
   set-refused cause e = rw (verdict-append, e)
 

@@ -2,7 +2,20 @@
 use mathlib.Core.Path.{_≡_, refl}
 use mathlib.Core.Bool.{Bool, true, false, cond}
 use Prim.Native.Nat.{ℕ, zero, suc, _+_, _^_, _≤_, _<_}
-use native.Mathlib.Nat.{le-trans, le-antisymm, pow-le-pow-left, not-le-of-lt, lt-of-not-le, le-div-iff-mul-le, div-lt-iff-lt-mul, two-pow-succ, add-assoc, pow-suc, mul-zero, zero-add}
+use native.Mathlib.Nat.{
+  le-trans,
+  le-antisymm,
+  pow-le-pow-left,
+  not-le-of-lt,
+  lt-of-not-le,
+  le-div-iff-mul-le,
+  div-lt-iff-lt-mul,
+  two-pow-succ,
+  add-assoc,
+  pow-suc,
+  mul-zero,
+  zero-add,
+}
 use native.Mathlib.Decide.{decLe}
 use native.Mathlib.Omega.{arith}
 use lib.Dec.{leb}

@@ -3,7 +3,22 @@
 use mathlib.Core.Path.{sym, ap, _∙_}
 use mathlib.Core.Bool.{Bool, true, false, cond}
 use Prim.Native.Nat.{ℕ, suc, _+_, _-_, _*_, _^_, _≤_, _<_}
-use native.Mathlib.Nat.{le-trans, le-refl, le-of-lt, mul-le-mul, mul-le-mul-left, mul-le-mul-right, le-of-mul-le-mul-right, pow-le-pow-left, lt-mul-div-succ, mul-div-le, one-le-mul, le-of-eq, add-sub-of-le, le-of-mul-le-mul-left}
+use native.Mathlib.Nat.{
+  le-trans,
+  le-refl,
+  le-of-lt,
+  mul-le-mul,
+  mul-le-mul-left,
+  mul-le-mul-right,
+  le-of-mul-le-mul-right,
+  pow-le-pow-left,
+  lt-mul-div-succ,
+  mul-div-le,
+  one-le-mul,
+  le-of-eq,
+  add-sub-of-le,
+  le-of-mul-le-mul-left,
+}
 use native.Mathlib.Omega.{arith}
 use lib.Pow.{pow-add, pow-pos}
 use Rattle.values.specs.declared.rows.Row.{Row}

@@ -92,7 +92,8 @@ shared-slice-read-entry : tie.Need-shared-slice-read-entry Inv-loop μ-loop Inv-
 shared-slice-read-entry c = numbers (c .before) .0
 
 -- the first word of an interval is its start
-searched-start : (faithful : ℕ → Bool) (answer : Checked) (start : ℕ) → Searched faithful answer start → Searched faithful answer (start + 0)
+searched-start : (faithful : ℕ → Bool) (answer : Checked) (start : ℕ) → Searched faithful answer start
+    → Searched faithful answer (start + 0)
 searched-start faithful answer start s = rw add-zero s
 
 loop-holds : tie.Need-loop-holds Inv-loop μ-loop Inv-words μ-words

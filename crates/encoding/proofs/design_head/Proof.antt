@@ -43,7 +43,8 @@ returns c =
     let has-w = has-byte (kind .with .result) (w .with2 .result) (d .w) (omega (arith, widths)) has-kind (w .with2 .ensures) in
     let has-q = has-byte (w .with2 .result) (q .with3 .result) (d .q) (omega (arith, widths)) has-w (q .with3 .ensures) in
     let has-g = has-byte (q .with3 .result) (g .with4 .result) (d .g) (omega (arith, widths)) has-q (g .with4 .ensures) in
-    let has-alpha = has-byte (g .with4 .result) (alpha .with5 .result) (d .alpha) (omega (arith, l .alpha-high)) has-g (alpha .with5 .ensures) in
+    let has-alpha = has-byte (g .with4 .result) (alpha .with5 .result) (d .alpha) (omega (arith, l .alpha-high)) has-g
+    (alpha .with5 .ensures) in
     has-byte (alpha .with5 .result) (c .with6 .result) (d .m) (omega (arith, l .m-high)) has-alpha (c .with6 .ensures)
 
 pub design-head-spec : {M : Type 1} → statement M

@@ -29,7 +29,8 @@ absolute-requires c κs =
     rw (odd-is c) (omega (arith, small, pow-mono {i = a .b} {j = 31} (omega arith)))
 
 -- |j|
-absolute-is : (c : tie.After-absolute) → c .absolute .result ≡ natAbs (oddNumber (c .before .before .args .b) (c .before .before .args .word))
+absolute-is : (c : tie.After-absolute)
+    → c .absolute .result ≡ natAbs (oddNumber (c .before .before .args .b) (c .before .before .args .word))
 absolute-is c = c .absolute .ensures ∙ rw (odd-is (c .before))
 
 mul-t : tie.Need-mul-t

@@ -45,7 +45,8 @@ mul-output : tie.Need-mul-output Inv-loop μ-loop
 mul-output c = omega arith
 
 slice-write-output : tie.Need-slice-write-output Inv-loop μ-loop
-slice-write-output c = omega (arith, full (c .before .before .before), c .before .before .before .before .before .before .before .pre .1 .1 .1)
+slice-write-output c =
+    omega (arith, full (c .before .before .before), c .before .before .before .before .before .before .before .pre .1 .1 .1)
 
 add-n : tie.Need-add-n Inv-loop μ-loop
 add-n c = omega arith

@@ -53,7 +53,8 @@ line-count-requires c κs = legal c
 returns-3 : tie.Need-returns-3
 returns-3 c =
     let b = c .before in
-    rw (c .line-count .ensures) (lines-tried (b .before .before .before .before .before .args .state) (b .before .before .before .if1 .left) (legal b))
+    rw (c .line-count .ensures)
+    (lines-tried (b .before .before .before .before .before .args .state) (b .before .before .before .if1 .left) (legal b))
 
 pub is-possible-spec : {M : Type 1} → statement M
 is-possible-spec =

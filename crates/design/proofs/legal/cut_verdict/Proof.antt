@@ -28,7 +28,8 @@ m-passed : (c : tie.Else3) → outside 1 mostTables (c .before .before .before .
 m-passed c = tested (c .before .outside2 .ensures) (c .if3 .left)
 
 segments-passed : (c : tie.Else4)
-    → let d = c .before .before .before .before .before .before .before .before .args .d in someBelow (d .m) (tableBreaks TableRule.SegmentBits d) ≡ false
+    → let d = c .before .before .before .before .before .before .before .before .args .d in
+    someBelow (d .m) (tableBreaks TableRule.SegmentBits d) ≡ false
 segments-passed c = tested (c .before .some-table-breaks .ensures) (c .if4 .left)
 
 offsets-passed : (c : tie.Else5)
@@ -52,7 +53,8 @@ outside-requires-2 c κs = search needs
 
 returns-3 : tie.Need-returns-3
 unfolding cutChecks
-returns-3 c = rw (alpha-passed (c .before .before .before .before), w-passed (c .before .before), tested (c .before .outside2 .ensures) (c .if3 .taken))
+returns-3 c =
+    rw (alpha-passed (c .before .before .before .before), w-passed (c .before .before), tested (c .before .outside2 .ensures) (c .if3 .taken))
 
 some-table-breaks-requires : tie.Need-some-table-breaks-requires
 some-table-breaks-requires c κs = inside 1 mostTables _ (m-passed c) .1
@@ -61,7 +63,12 @@ returns-4 : tie.Need-returns-4
 unfolding cutChecks
 returns-4 c =
     let b = c .before .before in
-    rw (alpha-passed (b .before .before .before .before), w-passed (b .before .before), m-passed b, tested (c .before .some-table-breaks .ensures) (c .if4 .taken))
+    rw (
+      alpha-passed (b .before .before .before .before),
+      w-passed (b .before .before),
+      m-passed b,
+      tested (c .before .some-table-breaks .ensures) (c .if4 .taken),
+    )
 
 some-table-breaks-requires-2 : tie.Need-some-table-breaks-requires-2
 some-table-breaks-requires-2 c κs = inside 1 mostTables _ (m-passed (c .before .before)) .1

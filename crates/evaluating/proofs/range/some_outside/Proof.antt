@@ -39,7 +39,8 @@ loop-less c = omega arith
 loop-again : tie.Need-loop-again Inv-loop μ-loop
 loop-again c = (
   ⊎-elim (λ w. w .1 ∙ sym (some-here _ _ (sym (c .before .outside .ensures) ∙ w .0 .taken)))
-      (λ w. w .1 ∙ c .before .before .before .before .loop .inv .0 ∙ sym (some-not-here _ _ (sym (c .before .outside .ensures) ∙ w .0 .left)))
+      (λ w. w .1 ∙ c .before .before .before .before .loop .inv .0
+      ∙ sym (some-not-here _ _ (sym (c .before .outside .ensures) ∙ w .0 .left)))
       (c .if1 .came),
   omega arith,
 )

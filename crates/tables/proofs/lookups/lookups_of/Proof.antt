@@ -1,4 +1,4 @@
--- `tables::lookups::lookups_of` meets its contract: nothing lies before the first table, and each of the others follows from the one before.
+-- `tables::lookups::lookups_of` meets its contract: nothing lies before the first table, and each other follows from the one before.
 use mathlib.Core.Path.{refl}
 use borrow.Author.Needs.{needs}
 use Rattle.general.specs.Below.{sumBelow}

@@ -47,7 +47,8 @@ module _ (offsets : List ℤ) (sum held : ℤ) (place here : ℕ) (held-is : hel
   added : toZ w64 (ofZ w64 made) ≡ sum +ℤ offset
   added = ap (λ (y : ℤ). toZ w64 (ofZ w64 y)) made-is ∙ toZ-ofZ w64 (sum +ℤ offset) sum-fits
 
-  promised : (units (toZ w64 (ofZ w64 made)) ≡ units (sum +ℤ getD offsets place (pos 0))) × (mag (toZ w64 (ofZ w64 made)) ≤ mag sum + 2 ^ 32)
+  promised : (units (toZ w64 (ofZ w64 made)) ≡ units (sum +ℤ getD offsets place (pos 0)))
+      × (mag (toZ w64 (ofZ w64 made)) ≤ mag sum + 2 ^ 32)
   promised = (
     ap units (added ∙ ap (λ (n : ℕ). sum +ℤ getD offsets n (pos 0)) here-is),
     subst (λ (z : ℤ). mag z ≤ mag sum + 2 ^ 32) (sym added) (omega (arith, mag-add sum offset)),
