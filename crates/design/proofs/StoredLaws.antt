@@ -1,10 +1,10 @@
 -- The entries that a set stores: each lies at a place of its own, and every place is one of an entry.
-use mathlib.Core.Path.{_≡_, refl, sym}
-use Prim.Native.Nat.{ℕ, zero, suc, _+_, _-_, _/_, _%_, _^_, _≤_, _<_}
+use mathlib.Core.Path.{_≡_, refl, sym, _∙_}
+use Prim.Native.Nat.{ℕ, zero, suc, _+_, _-_, _*_, _/_, _%_, _^_, _≤_, _<_}
 use native.Mathlib.Nat.{le-refl, le-step, le-trans, mod-lt, mod-add-div, not-suc-le-zero, div-lt-iff-lt-mul}
 use native.Mathlib.Decide.{decLt}
 use native.Mathlib.Omega.{arith}
-use lib.Arith.{digits-lt}
+use lib.Arith.{digits-lt, digits-div, digits-mod}
 use lib.IntN.{ℤ}
 use lib.Pow.{pow-add, pow-mono, pow-pos}
 use lib.Signed.{mag}
@@ -78,6 +78,25 @@ module _ (d : Design) where
   pub place-below : (n i A index : ℕ) → i < n → Entry d i A index → storedPlace d i A index < tableStart d n
   unfolding tableStart
   place-below n i A index h entry = le-trans (place-in-table i A index entry) (sum-mono (offsetCount d) (suc i) n h)
+
+  -- An entry's table is not before another's where their places are the same.
+  not-before : (i A index j A' index' : ℕ) → Entry d i A index → storedPlace d i A index ≡ storedPlace d j A' index' → ¬ (i < j)
+  unfolding storedPlace
+  not-before i A index j A' index' entry e h = omega (arith, place-below j i A index h entry)
+
+  -- Different entries lie at different places.
+  pub place-apart : (i A index j A' index' : ℕ) → Entry d i A index → Entry d j A' index'
+      → storedPlace d i A index ≡ storedPlace d j A' index' → (i ≡ j) × (A ≡ A') × (index ≡ index')
+  unfolding storedPlace
+  place-apart i A index j A' index' entry other e =
+      let i-is : i ≡ j = omega (arith, not-before i A index j A' index' entry e, not-before j A' index' i A index other (sym e)) in
+      let there : Entry d i A' index' = rw i-is other in
+      let same : storedPlace d i A index ≡ storedPlace d i A' index' = e ∙ rw i-is in
+      let rest : A * storedCount d i + index ≡ A' * storedCount d i + index' = omega (arith, same) in (
+        i-is,
+        cc (digits-div A (entry .index-lt), digits-div A' (there .index-lt)),
+        cc (digits-mod A (entry .index-lt), digits-mod A' (there .index-lt)),
+      )
 
   -- Every place before the end of the first n tables is one of an entry of theirs.
   pub entry-at : (n p : ℕ) → p < tableStart d n → EntryAt d n p
