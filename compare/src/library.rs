@@ -233,7 +233,7 @@ pub fn check(d: &Design, initial: &[u32], offsets: &[i32]) -> Result<Checked, u8
         )
     };
     let first = settled(refusal, first, UNTOUCHED)?;
-    // An accepted design has w ≤ 16; 2^w stands for none.
+    // An accepted design has few bits; 2^w stands for none.
     if first == 1 << d.w {
         return Ok(Checked::Faithful);
     }

@@ -10,7 +10,7 @@ use lib.IntN.{ℤ}
 use borrow.Author.Tests.{not-true}
 use Rattle.refusal.specs.declared.Verdict.{Verdict}
 use Rattle.refusal.specs.Told.{accepted}
-use Rattle.refusal.proofs.Checks.{both, both-so}
+use Rattle.general.proofs.Tests.{both, both-so}
 use Rattle.values.proofs.FaithfulLaws.{faithful-test, faithful-tested}
 use Rattle.design.specs.declared.Design.{Design}
 use Rattle.general.proofs.Sums.{below-suc}

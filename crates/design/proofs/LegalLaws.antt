@@ -4,7 +4,8 @@ use mathlib.Core.Bool.{false}
 use Prim.Native.Nat.{ℕ, _+_, _-_, _≤_, _<_}
 use native.Mathlib.Omega.{arith}
 use borrow.Author.Tests.{ltb-false, leb-false, eqb-true, not-false}
-use Rattle.refusal.proofs.Checks.{passed-append, none-fails, neither, inside}
+use Rattle.refusal.proofs.Checks.{passed-append, none-fails, inside}
+use Rattle.general.proofs.Tests.{neither}
 use Rattle.design.specs.Limits.{leastInitialBits, mostInitialBits, mostTables, mostOffsetBits, mostTableBits}
 use Rattle.values.specs.Rows.{Lawful}
 use Rattle.values.specs.Room.{Room}

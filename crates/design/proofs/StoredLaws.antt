@@ -27,7 +27,7 @@ use Rattle.design.specs.Stored.{
 }
 use Rattle.design.proofs.LegalLaws.{Limits}
 
--- What a segment stores: B reads one of its offsets, whose size is that of B's own, and each belongs to a B that reads it.
+-- What a segment stores: B reads one of its offsets, which is as large as B's own, and each belongs to a B.
 module _ (d : Design) (i : ℕ) where
   pub count-pos : 0 < storedCount d i
   unfolding storedCount
@@ -37,13 +37,9 @@ module _ (d : Design) (i : ℕ) where
   unfolding storedIndex storedCount
   index-lt B h = h
 
-  pub word-lt : (index : ℕ) → index < storedCount d i → storedWord d i index < 2 ^ bOf d i
+  pub word-lt : 1 ≤ bOf d i → (index : ℕ) → index < storedCount d i → storedWord d i index < 2 ^ bOf d i
   unfolding storedWord storedCount
-  word-lt index h = h
-
-  pub index-word : (index : ℕ) → index < storedCount d i → storedIndex d i (storedWord d i index) ≡ index
-  unfolding storedIndex storedWord
-  index-word index h = refl
+  word-lt b-low index h = h
 
   pub from-size : (B : ℕ) (stored : ℤ) → mag (offsetFrom d i B stored) ≡ mag stored
   unfolding offsetFrom

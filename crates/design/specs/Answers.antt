@@ -5,7 +5,6 @@ use Rattle.refusal.specs.Numbers.{numberOf}
 use Rattle.refusal.specs.Told.{Told, accepted, refused, told}
 use Rattle.design.specs.declared.Design.{Design}
 use Rattle.design.specs.declared.Measured.{Measured}
-use Rattle.design.specs.declared.Quantity.{Quantity}
 use Rattle.design.specs.Legal.{designVerdict}
 use Rattle.design.specs.Budget.{budget, size}
 
@@ -26,12 +25,3 @@ budgetTold d = told (designVerdict d) (budget d)
 
 unfoldable pub sizeTold : Design → Told ℕ
 sizeTold d = told (designVerdict d) (size d)
-
--- Both answers, and what they tell, by the quantity that is asked for
-abbrev pub answerTo : Quantity → Design → Measured
-answerTo Quantity.Budget d = budgetAnswer d
-answerTo Quantity.Size d = sizeAnswer d
-
-abbrev pub toldOf : Quantity → Design → Told ℕ
-toldOf Quantity.Budget d = budgetTold d
-toldOf Quantity.Size d = sizeTold d

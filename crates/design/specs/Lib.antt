@@ -6,3 +6,4 @@ pub mod Same
 pub mod Legal
 pub mod Budget
 pub mod Answers
+pub mod Inner

@@ -1,6 +1,6 @@
--- Document 01, "What is turned down, by place", 5 to 8: the limits of a cut, and how large they let a set get. No other definition names
--- these numbers.
-use Prim.Native.Nat.{ℕ, _+_, _*_, _^_}
+-- Document 01, "What is turned down, by place", 5 to 8: the limits of a cut, and how large they let a set get. Other definitions cite these
+-- names; only that a design has room for 4 pairs stands apart.
+use Prim.Native.Nat.{ℕ, _*_, _^_}
 
 -- "alpha not 2..13"
 abbrev pub leastInitialBits : ℕ

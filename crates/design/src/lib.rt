@@ -1,7 +1,8 @@
 // A design: how the input word is cut up, how many entries that takes, its error budget and whether that is below the limit.
 
 ghost use mathlib.Core.Path.{_≡_};
-ghost use Rattle.design.specs.Answers.{budgetAnswer, sizeAnswer, toldBy, budgetTold, sizeTold, answerTo, toldOf};
+ghost use Rattle.design.specs.Answers.{budgetAnswer, sizeAnswer, toldBy, budgetTold, sizeTold};
+ghost use Rattle.design.specs.Inner.{answerTo, toldOf};
 
 pub mod legal;
 pub mod limits;

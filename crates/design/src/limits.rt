@@ -1,4 +1,4 @@
-// The limits of a cut, document 01's refusals 5 to 8. No other code knows these numbers.
+// The limits of a cut, document 01's refusals 5 to 8. Other code goes by these names, or by the four pairs of a design.
 
 // alpha
 pub const LEAST_INITIAL_BITS: u32 = 2;

@@ -9,7 +9,8 @@ use lib.Seq.{ext-getD, length-take-le, getD-take, getD-drop, drop-cons}
 use borrow.Author.Tests.{eqb-true, eq-eqb, lt-ltb, not-false}
 use Rattle.refusal.specs.declared.Verdict.{Verdict}
 use Rattle.refusal.specs.Checks.{verdict}
-use Rattle.refusal.proofs.Checks.{neither}
+use Rattle.design.specs.Limits.{mostTables}
+use Rattle.general.proofs.Tests.{neither}
 use Rattle.design.specs.declared.Pair.{Pair}
 use Rattle.design.specs.declared.Design.{Design}
 use Rattle.design.specs.Cut.{tables, pairAt, noPair}
@@ -75,12 +76,12 @@ pair-in (a ∷ b ∷ rest) (suc i) h =
     rw (three-more, two-more) (pair-in rest i (omega arith))
 
 -- The pairs of the design that bytes hold: m of them, each at its place.
-module _ (bytes : List ℕ) (few : getD bytes 6 0 ≤ 4) where
+module _ (bytes : List ℕ) (few : getD bytes 6 0 ≤ mostTables) where
   read-length : length (tables (frameDesign bytes)) ≡ getD bytes 6 0
   unfolding tables frameDesign
   read-length = length-take-le (getD bytes 6 0) _ few
 
-  one-of-four : (i : ℕ) → i < 4 → getD (frameDesign bytes .pairs) i none ≡ framePair bytes i
+  one-of-four : (i : ℕ) → i < mostTables → getD (frameDesign bytes .pairs) i none ≡ framePair bytes i
   unfolding frameDesign
   one-of-four zero h = refl
   one-of-four (suc zero) h = refl
@@ -112,7 +113,7 @@ passing f e =
 
 -- The pairs of a frame that passes are what its bytes hold from byte 7 on.
 module _ (f : List ℕ) (passed : Passing f) (short : Short f) where
-  few : getD (withSum f) 6 0 ≤ 4
+  few : getD (withSum f) 6 0 ≤ mostTables
   few = omega (arith, passed .count)
 
   twice : length (drop 7 f) ≡ 2 * getD (withSum f) 6 0

@@ -8,7 +8,8 @@ use native.Mathlib.Decide.{decLt}
 use lib.ListN.{length}
 use borrow.Author.Tests.{ltb-true, lt-ltb, le-ltb}
 use Rattle.refusal.specs.Checks.{outside}
-use Rattle.refusal.proofs.Checks.{inside, both}
+use Rattle.refusal.proofs.Checks.{inside}
+use Rattle.general.proofs.Tests.{both}
 use Rattle.frames.specs.Hex.{digitValue, allDigits, bytesOf}
 use Rattle.encoding.specs.Encode.{digitOf, hexOf}
 

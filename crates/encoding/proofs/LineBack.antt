@@ -7,7 +7,7 @@ use native.Mathlib.Omega.{arith}
 use lib.ListN.{length, take, getD, length-append}
 use lib.Seq.{take-all, take-suc, length-take-le}
 use borrow.Author.Tests.{eqb-false, ne-eqb, le-ltb, not-false}
-use Rattle.refusal.proofs.Checks.{neither}
+use Rattle.general.proofs.Tests.{neither}
 use Rattle.frames.specs.Hex.{allDigits, bytesOf}
 use Rattle.frames.specs.Line.{sumFails, longestLine, lengthFails, digitsFail, isEmpty, lineFails}
 use Rattle.frames.proofs.LineLaws.{sound-length}

@@ -10,7 +10,7 @@ abbrev pub held : Frame → List ℕ
 held frame = take (frame .count) (frame .bytes)
 
 -- A frame of so many bytes has room for a number of `width` more, at most 4.
-pub record Room (count width : ℕ) : Type 0 where
+pub record WidthInput (count width : ℕ) : Type 0 where
   pub narrow : width ≤ 4
   pub room : count + width ≤ capacity
 

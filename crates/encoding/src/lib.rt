@@ -8,7 +8,7 @@ ghost use Rattle.general.specs.Lists.{over};
 ghost use Rattle.encoding.specs.Bytes.{bigEndian};
 ghost use Rattle.encoding.specs.Encode.{digitOf, hexOf, lineOf};
 ghost use Rattle.encoding.specs.DesignBytes.{designBytes};
-ghost use Rattle.encoding.specs.Inputs.{held, Room, PutInput};
+ghost use Rattle.encoding.specs.Inputs.{held, WidthInput, PutInput};
 
 pub mod numbers;
 
@@ -36,7 +36,7 @@ impl Frame {
 
     // inner: the frame with a number of `width` bytes behind what it has.
     pub fn with(self, width: usize, number: u32) -> Frame
-        requires { ⌜ Room (self .count) width ⌝ }
+        requires { ⌜ WidthInput (self .count) width ⌝ }
         ensures { λ r. ⌜ held r ≡ held self ++ bigEndian width number ⌝ }
         ensures { λ r. ⌜ r .count ≡ self .count + width ⌝ }
     {

@@ -5,7 +5,7 @@ ghost use Prim.Native.Nat.{_*_, _^_, _<_};
 ghost use lib.ListN.{take, drop};
 ghost use Rattle.encoding.specs.Bytes.{numberIn, entryBytes, fitsSigned, fromComplement};
 ghost use Rattle.encoding.specs.Bytes as Bytes;
-ghost use Rattle.encoding.specs.Inputs.{Room};
+ghost use Rattle.encoding.specs.Inputs.{WidthInput};
 use frames::CAPACITY;
 
 // How many bytes an entry takes.
@@ -13,7 +13,7 @@ pub const ENTRY_BYTES: usize = 3;
 
 // inner: the number in `width` bytes, from a place on.
 pub fn number_in(bytes: [u8; CAPACITY], from: usize, width: usize) -> u32
-    requires { ⌜ Room from width ⌝ }
+    requires { ⌜ WidthInput from width ⌝ }
     ensures { λ r. ⌜ r ≡ numberIn (take width (drop from bytes)) ⌝ }
 {
     let mut number: u32 = 0;

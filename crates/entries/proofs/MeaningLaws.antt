@@ -135,7 +135,7 @@ unfolding offsetAt hiAt hi
 entry-means d i A B = offset-means _ _ _ _ B (omega arith)
 
 -- What B reads tells B's offset.
-pub read-back : (d : Design) (i A B : ℕ) → B < 2 ^ bOf d i
+pub stored-back : (d : Design) (i A B : ℕ) → 1 ≤ bOf d i → B < 2 ^ bOf d i
     → offsetFrom d i B (offsetAt d i A (storedWord d i (storedIndex d i B))) ≡ offsetAt d i A B
 unfolding offsetFrom storedWord storedIndex
-read-back d i A B h = refl
+stored-back d i A B b-low h = refl

@@ -12,7 +12,7 @@ use borrow.Author.Tests.{le-ltb, lt-leb}
 use Rattle.refusal.specs.declared.Verdict.{Verdict}
 use Rattle.refusal.specs.Checks.{verdict}
 use Rattle.refusal.proofs.Checks.{verdict-append}
-use Rattle.entries.proofs.MeaningLaws.{read-back}
+use Rattle.entries.proofs.MeaningLaws.{stored-back}
 use Rattle.design.proofs.StoredLaws.{index-lt}
 use Rattle.design.specs.Stored.{storedIndex, offsetPlace}
 use Rattle.values.specs.Inputs.{InRange}
@@ -107,7 +107,7 @@ module _ (d : Design) (admitted : Admitted d) (x : ℕ) (x-lt : x < 2 ^ d .w) wh
         let A = segmentWord d i x in
         let B = offsetWord d i x in
         rw (filled .offset-entry i A (storedIndex d i B) h (segment-word-lt d l i x h x-lt) (index-lt d i B (offset-word-lt d i x)))
-        (read-back d i A B (offset-word-lt d i x))
+        (stored-back d i A B (l .table i h .b-low) (offset-word-lt d i x))
 
     pub sum-is : sumAt d initial offsets x ≡ pos (plus - minus)
     unfolding sumAt
@@ -144,9 +144,9 @@ module _ (d : Design) (admitted : Admitted d) (x : ℕ) (x-lt : x < 2 ^ d .w) wh
         (good-word (row d) (lawful d l) (d .w) (d .q) (d .g) (2 ^ d .w + x) (plus - minus) (budget d) range near within
         (omega (arith, l .widths .q-low)))
 
-    pub word3 : WordHolds d initial offsets x
+    pub word-holds : WordHolds d initial offsets x
     unfolding margin scaledWord
-    word3 =
+    word-holds =
         record {
           Y = plus - minus;
           sum = sum-is;
@@ -163,13 +163,13 @@ module _ (d : Design) (admitted : Admitted d) (initial : List ℕ) (offsets : Li
   set-passes : verdict (setChecks d (length initial) (length offsets)) ≡ Verdict.Passed
   set-passes = set-passed d _ _ (usable-set d admitted initial offsets filled)
 
-  check3 : checkAnswer d initial offsets ≡ Checked.Faithful
+  check-holds : checkAnswer d initial offsets ≡ Checked.Faithful
   unfolding checkVerdict
-  check3 =
+  check-holds =
       check-means d initial offsets set-passes .is-faithful
       (λ x h. record {
         has-word = not-outside d admitted x h initial offsets filled;
-        faithful = word3 d admitted x h initial offsets filled .faithful;
+        faithful = word-holds d admitted x h initial offsets filled .faithful;
       })
 
   module _ (words output : List ℕ) (in-range : (n : ℕ) → n < length words → getD words n 0 < 2 ^ d .w)
@@ -189,8 +189,8 @@ module _ (d : Design) (admitted : Admitted d) (initial : List ℕ) (offsets : Li
     unfolding outputAfter
     output-is = rw (accepted, length-map words (wordAt d initial offsets)) refl
 
-    batch3 : BatchHolds d initial offsets words output
-    batch3 =
+    batch-holds : BatchHolds d initial offsets words output
+    batch-holds =
         record {
           accepted = accepted;
           contents = output-is;
@@ -204,8 +204,8 @@ module _ (d : Design) (admitted : Admitted d) (initial : List ℕ) (offsets : Li
 pub error-bound : ErrorBound
 error-bound d admitted =
     record {
-      each-word = λ initial offsets filled x h. word3 d admitted x h initial offsets filled;
-      each-batch = batch3 d admitted;
-      check = check3 d admitted;
+      each-word = λ initial offsets filled x h. word-holds d admitted x h initial offsets filled;
+      each-batch = batch-holds d admitted;
+      check = check-holds d admitted;
       fill = EntryLaws.filled d;
     }

@@ -6,6 +6,7 @@ use Prim.Native.Nat.{ℕ, zero, suc, _+_, _<_}
 use native.Mathlib.Omega.{arith}
 use lib.ListN.{length, getD, drop}
 use lib.Seq.{drop-cons, drop-length}
+use Rattle.design.specs.Limits.{mostTables}
 use Rattle.design.specs.Cut.{noPair}
 use Rattle.design.specs.declared.Pair.{Pair}
 use Rattle.design.specs.declared.Design.{Design}
@@ -24,11 +25,11 @@ entries-read other list i (suc n) e =
     let more : i < length list = omega arith in
     rw (drop-cons list i other) (ap (λ (rest : _). getD list i other ∷ rest) (entries-read other list (suc i) n (omega arith)))
 
-pub design-back : (d : Design) → length (d .pairs) ≡ 4 → designOf (numbersOf d) ≡ d
+pub design-back : (d : Design) → length (d .pairs) ≡ mostTables → designOf (numbersOf d) ≡ d
 unfolding designOf numbersOf
 design-back d four =
     ap (λ (pairs : List Pair). record { kind = d .kind; w = d .w; q = d .q; g = d .g; alpha = d .alpha; m = d .m; pairs = pairs })
-    (entries-read noPair (d .pairs) 0 4 (sym four))
+    (entries-read noPair (d .pairs) 0 mostTables (sym four))
 
 pub numbers-back : (numbers : List ℕ) → length numbers ≡ 14 → numbersOf (designOf numbers) ≡ numbers
 unfolding designOf numbersOf

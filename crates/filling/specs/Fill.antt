@@ -7,9 +7,8 @@ use lib.ListN.{length, getD}
 use lib.IntN.{ℤ, pos}
 use Rattle.refusal.specs.declared.Cause.{Cause}
 use Rattle.refusal.specs.declared.Verdict.{Verdict}
-use Rattle.refusal.specs.Checks.{Check, _↝_, verdict}
+use Rattle.refusal.specs.Checks.{Check, _↝_, verdict, leaves}
 use Rattle.tables.specs.Set.{setChecks}
-use Rattle.general.specs.Lists.{leaves}
 use Rattle.general.specs.Below.{listBelow}
 use Rattle.design.specs.declared.Design.{Design}
 use Rattle.design.specs.Cut.{aOf}

@@ -12,7 +12,7 @@ use Rattle.refusal.specs.Checks.{verdict}
 use Rattle.frames.specs.declared.Decoded.{Decoded}
 use Rattle.frames.specs.Hex.{allDigits, bytesOf}
 use Rattle.frames.specs.Line.{sumFails, longestLine, lengthFails, digitsFail, isEmpty, lineFails, lineChecks, padded, decoded}
-use Rattle.refusal.proofs.Checks.{neither}
+use Rattle.general.proofs.Tests.{neither}
 
 pub record SoundLength (digits : ℕ) : Type 0 where
   pub even : digits ≡ 2 * (digits / 2)

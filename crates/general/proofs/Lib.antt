@@ -1,4 +1,5 @@
 -- Laws of sums, tests and lists, one file a subject.
+pub mod Tests
 pub mod Sums
 pub mod ListLaws
 pub mod WritingLaws

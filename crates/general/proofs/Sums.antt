@@ -19,7 +19,7 @@ use native.Mathlib.Nat.{
 }
 use native.Mathlib.Numerals.{add-one}
 use native.Mathlib.Omega.{arith}
-use Rattle.refusal.proofs.Checks.{neither}
+use Rattle.general.proofs.Tests.{neither}
 use Rattle.general.specs.Below.{sumBelow, someBelow, largest, signedSum}
 
 -- a number below suc n is n or below n

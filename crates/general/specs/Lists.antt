@@ -2,8 +2,6 @@
 use mathlib.Core.List.{List, [], _∷_, _++_}
 use Prim.Native.Nat.{ℕ, _+_}
 use lib.ListN.{length, take, drop}
-use Rattle.refusal.specs.declared.Verdict.{Verdict}
-use Rattle.refusal.specs.Checks.{ifPassed}
 
 unfoldable pub total : List ℕ → ℕ
 total [] = 0
@@ -12,8 +10,3 @@ total (n ∷ ns) = n + total ns
 -- The table with the entries written over it from place n on
 unfoldable pub over : {A : Type 0} → List A → ℕ → List A → List A
 over table n entries = take n table ++ entries ++ drop (n + length entries) table
-
--- Document 01: what a call leaves in a lent buffer that it writes from the start. "Elements beyond .. are untouched", and a refusal "leaves
--- every buffer untouched".
-abbrev pub leaves : {A : Type 0} → Verdict → List A → List A → List A
-leaves verdict entries before = ifPassed verdict (entries ++ drop (length entries) before) (λ cause. before)

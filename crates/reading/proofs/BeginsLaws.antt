@@ -9,7 +9,7 @@ use lib.Dec.{eqb}
 use lib.ListN.{length, take, drop, getD}
 use lib.Seq.{take-nil}
 use borrow.Author.Tests.{eqb-true, eq-eqb, ne-eqb}
-use Rattle.refusal.proofs.Checks.{both}
+use Rattle.general.proofs.Tests.{both}
 use Rattle.reading.specs.ReadLine.{begins}
 
 pub begins-append : (head rest : List ℕ) → begins (head ++ rest) head ≡ true

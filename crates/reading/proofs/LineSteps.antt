@@ -13,7 +13,8 @@ use borrow.Author.Tests.{eqb-true, le-leb, lt-leb, not-false}
 use Rattle.refusal.specs.declared.Cause.{Cause}
 use Rattle.refusal.specs.declared.Verdict.{Verdict}
 use Rattle.refusal.specs.Checks.{_↝_, verdict}
-use Rattle.refusal.proofs.Checks.{after, verdict-append, neither}
+use Rattle.refusal.proofs.Checks.{after, verdict-append}
+use Rattle.general.proofs.Tests.{neither}
 use Rattle.design.specs.declared.Design.{Design}
 use Rattle.tables.specs.Set.{tablesCheck}
 use Rattle.frames.specs.DesignFrame.{frameDesign, firstChecks}

@@ -10,7 +10,8 @@ use borrow.Author.Tests.{leb-true, leb-false, le-leb, lt-leb, eqb-true, eq-eqb, 
 use Rattle.refusal.specs.declared.Cause.{Cause}
 use Rattle.refusal.specs.declared.Verdict.{Verdict}
 use Rattle.refusal.specs.Checks.{Check, _↝_, verdict, passes}
-use Rattle.refusal.proofs.Checks.{neither, none-fails, passed-append, both, verdict-append}
+use Rattle.general.proofs.Tests.{neither, both}
+use Rattle.refusal.proofs.Checks.{none-fails, passed-append, verdict-append}
 use Rattle.refusal.proofs.Answers.{only-passed}
 use Rattle.design.specs.Legal.{designVerdict}
 use Rattle.tables.specs.Inputs.{Usable}
@@ -24,7 +25,7 @@ use Rattle.lines.specs.Slots.{lineCount, slotOf}
 use Rattle.lines.specs.Lines.{frameHead, entryWidth}
 use Rattle.reading.specs.declared.Reading.{Reading}
 use Rattle.reading.specs.Inputs.{Begun}
-use Rattle.reading.specs.ReadLine.{possible, finished, stateCheck, designAfter, headFails, dueFails, dueChecks, readVerdict}
+use Rattle.reading.specs.ReadLine.{possible, finished, stateCheck, designAfter, headFails, laterFails, dueChecks, readVerdict}
 
 -- A later frame is not the one due, by its bytes and their number.
 abbrev pub notDue : Reading → List ℕ → ℕ → Bool
@@ -55,7 +56,7 @@ module _ (state : Reading) where
         ∷ tablesCheck (state .design) initial offsets ∷ []
 
     pub later-checks : 0 < state .taken → dueChecks state initial offsets bytes ≡ laterChecks
-    unfolding dueChecks dueFails
+    unfolding dueChecks laterFails
     later-checks h = rw (later-design bytes h, ne-eqb (state .taken) 0 (λ z. omega arith))
 
   -- the state

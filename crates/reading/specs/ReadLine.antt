@@ -48,9 +48,9 @@ begins (byte ∷ bytes) (first ∷ rest) = eqb byte first && begins bytes rest
 unfoldable pub headFails : List ℕ → ℕ → List ℕ → ℕ → Bool
 headFails head width bytes count = not (eqb count (length head + width + 1)) || not (begins bytes head)
 
--- "After 04 nothing more is due."
-unfoldable pub dueFails : Reading → List ℕ → Bool
-dueFails state bytes =
+-- 16 of a line with others taken before it: "After 04 nothing more is due", or it is not the frame that is due.
+unfoldable pub laterFails : Reading → List ℕ → Bool
+laterFails state bytes =
     let d = state .design in
     let slot = slotOf d (state .taken) in
     leb (lineCount d) (state .taken) || headFails (frameHead d slot) (entryWidth slot) bytes (length bytes)
@@ -58,7 +58,7 @@ dueFails state bytes =
 -- "16, on an 01 line 1 to 9, then 10", of a sound line's bytes, for tables of these lengths: with no line taken the first frame is due.
 unfoldable pub dueChecks : Reading → ℕ → ℕ → List ℕ → List Check
 dueChecks state initial offsets bytes =
-    cond (eqb (state .taken) 0) (firstChecks bytes (length bytes)) (dueFails state bytes ↝ Cause.Frame ∷ [])
+    cond (eqb (state .taken) 0) (firstChecks bytes (length bytes)) (laterFails state bytes ↝ Cause.Frame ∷ [])
     ++ tablesCheck (designAfter state bytes) initial offsets ∷ []
 
 unfoldable pub dueVerdict : Reading → ℕ → ℕ → List ℕ → Verdict

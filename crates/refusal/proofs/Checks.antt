@@ -1,6 +1,6 @@
 -- A list of checks after another: a refusal of the first list stands, and a list that passes leaves the verdict to the second.
 use mathlib.Core.Path.{_≡_, refl, sym, ap, _∙_}
-use mathlib.Core.Bool.{Bool, true, false, _||_, _&&_, true≢false}
+use mathlib.Core.Bool.{Bool, true, false}
 use mathlib.Core.List.{List, [], _∷_, _++_}
 use Prim.Native.Nat.{ℕ, _≤_}
 use native.Mathlib.Omega.{arith}
@@ -9,6 +9,7 @@ use lib.Dec.{ltb}
 use Rattle.refusal.specs.declared.Cause.{Cause}
 use Rattle.refusal.specs.declared.Verdict.{Verdict}
 use Rattle.refusal.specs.Checks.{Check, verdict, refuses, outside}
+use Rattle.general.proofs.Tests.{neither}
 
 abbrev pub after : Verdict → Verdict → Verdict
 after Verdict.Passed later = later
@@ -26,17 +27,6 @@ verdict-append (check ∷ checks) second =
     ∙ after-refuses (check .fails) (check .cause) (verdict checks) (verdict second)
 
 -- What a list that passes tells.
-pub neither : (a b : Bool) → a || b ≡ false → (a ≡ false) × (b ≡ false)
-neither true b e = absurd (true≢false e)
-neither false b e = (refl, e)
-
-pub both : (a b : Bool) → a && b ≡ true → (a ≡ true) × (b ≡ true)
-both true b e = (refl, e)
-both false b e = absurd (true≢false (sym e))
-
-pub both-so : (a b : Bool) → a ≡ true → b ≡ true → a && b ≡ true
-both-so a b e f = rw (e, f) refl
-
 passed : (fails : Bool) (cause : Cause) (later : Verdict) → refuses fails cause later ≡ Verdict.Passed
     → (fails ≡ false) × (later ≡ Verdict.Passed)
 passed true cause later e = let z : _≡_ {A = ℕ} 0 1 = cc in absurd (omega arith)
@@ -65,7 +55,3 @@ passed-append first second e = both-passed (verdict first) (verdict second) (sym
 -- A number that is not outside lies between the two ends.
 pub inside : (low high n : ℕ) → outside low high n ≡ false → (low ≤ n) × (n ≤ high)
 inside low high n e = let b = neither (ltb n low) (ltb high n) e in (ltb-false n low (b .0), ltb-false high n (b .1))
-
--- What a branch on a call's answer tells of the test that the call promises.
-pub tested : {test result answer : Bool} → result ≡ test → result ≡ answer → test ≡ answer
-tested promise branch = sym promise ∙ branch

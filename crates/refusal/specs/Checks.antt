@@ -1,8 +1,9 @@
 -- Checks in order: the first that fails gives the refusal.
 use mathlib.Core.Bool.{Bool, true, false, _||_}
-use mathlib.Core.List.{List, [], _∷_}
+use mathlib.Core.List.{List, [], _∷_, _++_}
 use Prim.Native.Nat.{ℕ}
 use lib.Dec.{ltb}
+use lib.ListN.{length, drop}
 use Rattle.refusal.specs.declared.Cause.{Cause}
 use Rattle.refusal.specs.declared.Verdict.{Verdict}
 
@@ -32,6 +33,11 @@ ifPassed (Verdict.Refused cause) answer refusal = refusal cause
 -- Whether nothing was turned down
 abbrev pub passes : Verdict → Bool
 passes v = ifPassed v true (λ cause. false)
+
+-- Document 01: what a call leaves in a lent buffer that it writes from the start. "Elements beyond .. are untouched", and a refusal "leaves
+-- every buffer untouched".
+abbrev pub leaves : {A : Type 0} → Verdict → List A → List A → List A
+leaves v entries before = ifPassed v (entries ++ drop (length entries) before) (λ cause. before)
 
 -- n is not within low..high
 abbrev pub outside : ℕ → ℕ → ℕ → Bool

@@ -6,9 +6,9 @@ use lib.Dec.{lit<}
 use lib.IntN.{ℤ, pos, negℤ}
 use lib.ListN.{take}
 use Rattle.refusal.specs.Numbers.{verdictNumber}
+use Rattle.design.specs.Cut.{noPair}
 use Rattle.values.specs.declared.Valued.{Valued}
 use Rattle.values.specs.Value.{valueOf}
-use Rattle.design.specs.declared.Pair.{Pair}
 use Rattle.design.specs.declared.Design.{Design}
 use Rattle.design.specs.Budget.{budget, limit, Admitted}
 use Rattle.evaluating.specs.declared.Evaluated.{Evaluated}
@@ -30,11 +30,8 @@ G-with g a b =
       g = g;
       alpha = 5;
       m = 1;
-      pairs = record { a = a; b = b } ∷ none ∷ none ∷ none ∷ [];
+      pairs = record { a = a; b = b } ∷ noPair ∷ noPair ∷ noPair ∷ [];
     }
-  where
-    none : Pair
-    none = record { a = 0; b = 0 }
 
 abbrev pub G : Design
 G = G-with 4 3 3

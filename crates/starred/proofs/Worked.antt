@@ -151,7 +151,7 @@ unfolding
     Encode.digitOf Encode.hexOf Encode.sumByte Encode.withSum Encode.lineOf DesignBytes.pairBytes DesignBytes.designBytes
     Slots.lineCount Slots.tableOf Slots.offsetSlot Slots.slotOf Lines.frameHead Lines.entryWidth Lines.entryNumber Lines.entryFits
     Lines.frameOf Lines.lineAt Write.numberCheck Write.askedChecks Write.writeVerdict Write.writeAnswer ReadLine.possible
-    ReadLine.stateCheck ReadLine.designAfter ReadLine.dueFails ReadLine.dueChecks ReadLine.readVerdict ReadLine.verdictOn
+    ReadLine.stateCheck ReadLine.designAfter ReadLine.laterFails ReadLine.dueChecks ReadLine.readVerdict ReadLine.verdictOn
     ReadLine.after ReadLine.readAnswer
     Words.decimalWithin Words.decimal Words.textOf Report.lineText Report.designText Report.refusedText Report.reportVerdict Report.reportOf
     Decimal.allDecimal Decimal.isDecimal Decimal.decimalNumber Decimal.wordIn

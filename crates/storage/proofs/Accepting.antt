@@ -11,7 +11,7 @@ use lib.Seq.{take-at, take-add}
 use lib.IntN.{ℤ}
 use borrow.Author.Tests.{eqb-true, not-false}
 use Rattle.refusal.specs.declared.Verdict.{Verdict}
-use Rattle.refusal.proofs.Checks.{neither}
+use Rattle.general.proofs.Tests.{neither}
 use Rattle.design.specs.declared.Design.{Design}
 use Rattle.tables.specs.Inputs.{Usable}
 use Rattle.tables.proofs.SetLaws.{usable, set-lengths}

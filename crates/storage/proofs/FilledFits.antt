@@ -19,7 +19,6 @@ use Rattle.filling.specs.Fill.{fillVerdict, initialAfter, offsetsAfter, Filled,
 use Rattle.entries.proofs.EntryBounds.{initial-small, magnitude-small, slopes-reach}
 use Rattle.filling.proofs.EntryLaws as EntryLaws
 use Rattle.encoding.specs.Bytes.{fits, fitsSigned, entryBytes}
-use Rattle.filling.proofs.EntryLaws as EntryLaws
 use Rattle.storage.specs.Sets.{TableSet, Storable}
 use Rattle.storage.proofs.Fitting.{lines-fit}
 
@@ -39,7 +38,7 @@ module _ (d : Design) (l : Limits d) where
   unfolding storedOffset offsetAt offsetOf signed
   offset-fits i A index i-lt A-lt index-lt =
       let B = storedWord d i index in
-      either-fits entryBytes _ (omega (arith, magnitude-small _ _ _ B (slopes-reach d l i A i-lt A-lt) (word-lt d i index index-lt)))
+      either-fits entryBytes _ (omega (arith, magnitude-small _ _ _ B (slopes-reach d l i A i-lt A-lt) (word-lt d i (l .table i i-lt .b-low) index index-lt)))
       (sameSign (row d .rising) (oddNumber (bOf d i) B))
 
 -- Legality is enough; the fill writes an admitted design only.

@@ -8,7 +8,8 @@ use borrow.Author.Tests.{ltb-false, lt-ltb, le-ltb}
 use Rattle.refusal.specs.declared.Cause.{Cause}
 use Rattle.refusal.specs.declared.Verdict.{Verdict}
 use Rattle.refusal.specs.Checks.{verdict, refuses}
-use Rattle.refusal.proofs.Checks.{verdict-append, passed-append, none-fails, neither}
+use Rattle.refusal.proofs.Checks.{verdict-append, passed-append, none-fails}
+use Rattle.general.proofs.Tests.{neither}
 use Rattle.design.specs.declared.Design.{Design}
 use Rattle.design.specs.Stored.{initialCount, offsetTotal}
 use Rattle.design.specs.Legal.{designChecks, designVerdict, Legal}

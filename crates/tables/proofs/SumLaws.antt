@@ -2,14 +2,14 @@
 use mathlib.Core.Path.{_≡_, sym, ap, _∙_}
 use mathlib.Core.Bool.{false, true≢false}
 use mathlib.Core.List.{List}
-use Prim.Native.Nat.{ℕ, _+_, _*_, _^_, _≤_, _<_, min}
+use Prim.Native.Nat.{ℕ, _+_, _^_, _≤_, _<_, min}
 use native.Mathlib.Nat.{min-comm, min-eq-left, zero-min}
 use native.Mathlib.Omega.{arith}
 use borrow.Author.Tests.{leb-false}
 use lib.Dec.{T, leb, ltb}
 use lib.IntN.{ℤ, pos, negsuc, natAbs, _+ℤ_, +ℤ-assoc, +ℤ-idr}
 use lib.Signed.{mag, nonNeg}
-use Rattle.refusal.proofs.Checks.{neither}
+use Rattle.general.proofs.Tests.{neither}
 use Rattle.tables.specs.Inputs.{Summed}
 use Rattle.general.proofs.Sums.{signed-next}
 use Rattle.design.specs.declared.Design.{Design}

@@ -25,7 +25,7 @@ pub record SameInterval (d : Design) (near x : ℕ) : Type 0 where
   pub word : x < 2 ^ d .w
   pub same : initialWord d near ≡ initialWord d x
 
--- A lookup whose numbers are small: it shifts by fewer bits than a word of the machine has and begins where a fourth table may.
+-- A lookup whose numbers are small: it shifts by fewer bits than a word of the machine has and begins among the offsets.
 pub record Small (lookup : Lookup) : Type 0 where
   pub shift-small : lookup .shift < 32
   pub b-small : lookup .b < 32

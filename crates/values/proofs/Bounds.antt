@@ -44,9 +44,6 @@ module _ {row : Row} {w s : ℕ} (room : Room row w s) where
   pub words-few : 2 ^ w ≤ wordBound
   words-few = pow-mono (room .w-small)
 
-  pub exponent-small : row .k * s + row .k ≤ 63
-  exponent-small = omega (arith, room .power)
-
 pub coarser-input : {row : Row} {w s X : ℕ} (t : ℕ) → t ≤ s → FloorInput row w s X → FloorInput row w t X
 coarser-input t h fit = record { lawful = fit .lawful; room = coarser t h (fit .room); range = fit .range }
 

@@ -3,7 +3,7 @@ use mathlib.Core.Path.{_≡_}
 use mathlib.Core.Bool.{true}
 use Prim.Native.Nat.{ℕ}
 use borrow.Author.Tests.{ltb-true, lt-ltb}
-use Rattle.refusal.proofs.Checks.{both, both-so}
+use Rattle.general.proofs.Tests.{both, both-so}
 use Rattle.values.specs.declared.rows.Row.{Row}
 use Rattle.values.specs.Faithful.{Faithful, isFaithful}
 

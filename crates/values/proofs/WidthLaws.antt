@@ -10,7 +10,8 @@ use borrow.Author.Tests.{leb-true, ltb-false}
 use lib.Dec.{leb}
 use Rattle.refusal.specs.declared.Verdict.{Verdict}
 use Rattle.refusal.specs.Checks.{verdict}
-use Rattle.refusal.proofs.Checks.{both, none-fails, neither, inside}
+use Rattle.general.proofs.Tests.{both, neither}
+use Rattle.refusal.proofs.Checks.{none-fails, inside}
 use Rattle.values.specs.declared.widths.Limits.{Limits}
 use Rattle.values.specs.Rows.{rows, kinds, rowOf, Lawful}
 use Rattle.values.specs.Room.{Room, highestDegree, widestWord, finestUnit}

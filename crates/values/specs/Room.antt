@@ -1,4 +1,5 @@
--- What the machine's 64 bits can hold, apart from the mathematics: how wide input words may be, and how fine units, for a row.
+-- What inner calls have room for, apart from the mathematics: how wide input words may be, and how fine units, so that 64 bits hold every
+-- number on the way, for a row.
 use mathlib.Core.Bool.{false}
 use mathlib.Core.Path.{_≡_}
 use Prim.Native.Nat.{ℕ, _+_, _*_, _/_, _^_, _≤_}

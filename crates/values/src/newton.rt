@@ -7,7 +7,7 @@ ghost use Rattle.values.specs.Newton.{newtonStep};
 ghost use Rattle.values.specs.Inputs.{RootInput, Stepwise, StepInput};
 use general::pow2;
 
-// A step from r. A further degree has its own arm here,
+// A step from r, of degree 2. A further degree gets an arm here, in the test below and in `number_parts`.
 fn step(k: u32, limit: u64, r: u64) -> u64
     requires { ⌜ StepInput k limit r ⌝ }
     ensures { λ r'. ⌜ r' ≡ newtonStep k limit r ⌝ }
@@ -15,7 +15,7 @@ fn step(k: u32, limit: u64, r: u64) -> u64
     (r + limit / r) / 2
 }
 
-// and here: whether r lies above the root.
+// Whether r lies above the root, of degree 2.
 fn is_above(k: u32, limit: u64, r: u64) -> bool
     requires { ⌜ Stepwise k ⌝ }
     requires { ⌜ r < 2 ^ 32 ⌝ }

@@ -8,11 +8,10 @@ use lib.IntN.{ℤ}
 use Rattle.refusal.specs.declared.Cause.{Cause}
 use Rattle.refusal.specs.declared.Verdict.{Verdict}
 use Rattle.refusal.specs.Numbers.{numberOf}
-use Rattle.refusal.specs.Checks.{Check, _↝_, verdict, ifPassed}
+use Rattle.refusal.specs.Checks.{Check, _↝_, verdict, ifPassed, leaves}
 use Rattle.refusal.specs.Told.{Told, accepted, refused, told}
 use Rattle.design.specs.declared.Design.{Design}
 use Rattle.tables.specs.Set.{setChecks}
-use Rattle.general.specs.Lists.{leaves}
 use Rattle.lines.specs.Slots.{lineCount, slotOf}
 use Rattle.lines.specs.Lines.{entryFits, lineAt}
 use Rattle.writing.specs.declared.Written.{Written}

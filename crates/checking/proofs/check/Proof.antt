@@ -35,12 +35,6 @@ module _ (d : Design) (initial : List ℕ) (offsets : List ℤ) where
       → r ≡ found (findingBelow (2 ^ d .w) (faithfulAt d initial offsets)) → Promised r
   searched e r r-is = promised r (r-is ∙ sym (check-searches d initial offsets e))
 
-set-verdict-requires : tie.Need-set-verdict-requires
-set-verdict-requires c κs = search needs
-
-enum-known-cause : tie.Need-enum-known-cause
-enum-known-cause c = search needs
-
 returns : tie.Need-returns
 unfolding checkVerdict
 returns c = refused _ _ _ _ (sym (c .before .before .before .set-verdict .ensures) ∙ c .before .cause .given .1)
@@ -71,4 +65,12 @@ returns-2 c =
 pub check-spec : {M : Type 1} → statement M
 check-spec =
     tie.close
-    (tie.spec set-verdict-requires enum-known-cause returns enum-told lookups-of-requires row-of-requires search-requires returns-2)
+    (tie.spec
+    (λ c κs. search needs)
+    (λ c. search needs)
+    returns
+    enum-told
+    lookups-of-requires
+    row-of-requires
+    search-requires
+    returns-2)

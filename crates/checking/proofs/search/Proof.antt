@@ -6,7 +6,7 @@ use native.Mathlib.Nat.{zero-mul, add-zero, add-assoc}
 use native.Mathlib.Omega.{arith}
 use lib.ListN.{length}
 use borrow.Author.Tests.{not-true, not-false}
-use Rattle.refusal.proofs.Checks.{tested}
+use Rattle.general.proofs.Tests.{tested}
 use Rattle.values.specs.Room.{wordBound}
 use Rattle.design.proofs.LegalLaws.{limits}
 use Rattle.checking.specs.declared.Checked.{Checked}

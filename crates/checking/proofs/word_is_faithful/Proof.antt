@@ -8,7 +8,7 @@ use lib.ListN.{getD}
 use lib.IntN.{ℤ, pos, _+ℤ_}
 use lib.Pow.{shr-lt}
 use borrow.Author.Needs.{needs}
-use Rattle.refusal.proofs.Checks.{tested}
+use Rattle.general.proofs.Tests.{tested}
 use Rattle.values.specs.declared.TableUnits.{TableUnits}
 use Rattle.values.specs.declared.OutputUnits.{OutputUnits}
 use Rattle.values.specs.declared.rows.Row.{Row}
@@ -59,12 +59,6 @@ module _ (d : Design) (entry : ℕ) (offsets : List ℤ) (x : ℕ) (sum : TableU
       let inside : sumOutside d (sumAt d initial offsets x) ≡ false = rw sum-is at (tested outside-is e) in
       rw (row-is, one-is, word-is, sum-is, inside)
 
-sum-from-requires : tie.Need-sum-from-requires
-sum-from-requires c κs = search needs
-
-sum-outside-requires : tie.Need-sum-outside-requires
-sum-outside-requires c κs = search needs
-
 returns : tie.Need-returns
 returns c initial entry-is =
     no-word _ _ _ _ _ _ (c .before .before .sum-from .ensures) (c .before .sum-outside .ensures) initial entry-is
@@ -104,8 +98,8 @@ pub word-is-faithful-spec : {M : Type 1} → statement M
 word-is-faithful-spec =
     tie.close
     (tie.spec
-    sum-from-requires
-    sum-outside-requires
+    (λ c κs. search needs)
+    (λ c κs. search needs)
     returns
     pow2-requires
     add-is-faithful

@@ -5,14 +5,13 @@ use Rattle.report_text.proofs.TextLaws.{text-counts}
 use Rattle.console.proofs.print_refused.Statement.{statement}
 use Rattle.console.proofs.print_refused.Tie as tie
 
-refused-requires : tie.Need-refused-requires
-refused-requires c κs = search needs
-
 print-requires : tie.Need-print-requires
 print-requires c κs = counts _ _ (rw (c .refused .ensures) (text-counts _))
 
-returns : tie.Need-returns
-returns c = search needs
-
 pub print-refused-spec : {M : Type 1} → statement M
-print-refused-spec = tie.close (tie.spec refused-requires print-requires returns)
+print-refused-spec =
+    tie.close
+    (tie.spec
+    (λ c κs. search needs)
+    print-requires
+    (λ c. search needs))

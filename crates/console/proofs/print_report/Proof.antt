@@ -6,15 +6,14 @@ use Rattle.report_text.proofs.TextLaws.{text-counts}
 use Rattle.console.proofs.print_report.Statement.{statement}
 use Rattle.console.proofs.print_report.Tie as tie
 
-report-requires : tie.Need-report-requires
-report-requires c κs = search needs
-
 print-requires : tie.Need-print-requires
 unfolding reportOf
 print-requires c κs = counts _ _ (rw (c .report .ensures) (text-counts _))
 
-returns : tie.Need-returns
-returns c = search needs
-
 pub print-report-spec : {M : Type 1} → statement M
-print-report-spec = tie.close (tie.spec report-requires print-requires returns)
+print-report-spec =
+    tie.close
+    (tie.spec
+    (λ c κs. search needs)
+    print-requires
+    (λ c. search needs))

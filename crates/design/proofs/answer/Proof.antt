@@ -7,7 +7,8 @@ use Rattle.design.specs.declared.Design.{Design}
 use Rattle.design.specs.declared.Measured.{Measured}
 use Rattle.design.specs.declared.Quantity.{Quantity}
 use Rattle.design.specs.Legal.{designVerdict, Legal}
-use Rattle.design.specs.Answers.{budgetAnswer, sizeAnswer, toldBy, budgetTold, sizeTold, answerTo, toldOf}
+use Rattle.design.specs.Answers.{budgetAnswer, sizeAnswer, toldBy, budgetTold, sizeTold}
+use Rattle.design.specs.Inner.{answerTo, toldOf}
 use Rattle.design.proofs.answer.Statement.{statement}
 use Rattle.design.proofs.answer.Tie as tie
 
@@ -17,12 +18,6 @@ refused : (d : Design) (quantity : Quantity) (cause : Cause) → designVerdict d
 unfolding budgetAnswer sizeAnswer budgetTold sizeTold
 refused d Quantity.Budget cause e = (rw e, rw e)
 refused d Quantity.Size cause e = (rw e, rw e)
-
-design-verdict-requires : tie.Need-design-verdict-requires
-design-verdict-requires c κs = search needs
-
-enum-known-cause : tie.Need-enum-known-cause
-enum-known-cause c = search needs
 
 returns : tie.Need-returns
 returns c =
@@ -36,14 +31,8 @@ enum-told c = search needs
 legal : (c : tie.After-enum-told) → Legal (c .before .before .before .args .d)
 legal c = sym (c .before .before .design-verdict .ensures) ∙ c .enum-told .given .1
 
-enum-told-2 : tie.Need-enum-told-2
-enum-told-2 c = search needs
-
 budget-of-requires : tie.Need-budget-of-requires
 budget-of-requires c κs = legal (c .before .before)
-
-enum-told-3 : tie.Need-enum-told-3
-enum-told-3 c = search needs
 
 size-of-requires : tie.Need-size-of-requires
 size-of-requires c κs = legal (c .before .before)
@@ -60,13 +49,13 @@ pub answer-spec : {M : Type 1} → statement M
 answer-spec =
     tie.close
     (tie.spec
-    design-verdict-requires
-    enum-known-cause
+    (λ c κs. search needs)
+    (λ c. search needs)
     returns
     enum-told
-    enum-told-2
+    (λ c. search needs)
     budget-of-requires
-    enum-told-3
+    (λ c. search needs)
     size-of-requires
     returns-2
     returns-3)

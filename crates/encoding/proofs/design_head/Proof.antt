@@ -6,27 +6,6 @@ use Rattle.encoding.proofs.NumberBytes.{has-byte}
 use Rattle.encoding.proofs.design_head.Statement.{statement}
 use Rattle.encoding.proofs.design_head.Tie as tie
 
-of-kind-requires : tie.Need-of-kind-requires
-of-kind-requires c κs = search needs
-
-with-requires : tie.Need-with-requires
-with-requires c κs = search needs
-
-with-requires-2 : tie.Need-with-requires-2
-with-requires-2 c κs = search needs
-
-with-requires-3 : tie.Need-with-requires-3
-with-requires-3 c κs = search needs
-
-with-requires-4 : tie.Need-with-requires-4
-with-requires-4 c κs = search needs
-
-with-requires-5 : tie.Need-with-requires-5
-with-requires-5 c κs = search needs
-
-with-requires-6 : tie.Need-with-requires-6
-with-requires-6 c κs = search needs
-
 returns : tie.Need-returns
 returns c =
     let alpha = c .before in
@@ -51,11 +30,11 @@ pub design-head-spec : {M : Type 1} → statement M
 design-head-spec =
     tie.close
     (tie.spec
-    of-kind-requires
-    with-requires
-    with-requires-2
-    with-requires-3
-    with-requires-4
-    with-requires-5
-    with-requires-6
+    (λ c κs. search needs)
+    (λ c κs. search needs)
+    (λ c κs. search needs)
+    (λ c κs. search needs)
+    (λ c κs. search needs)
+    (λ c κs. search needs)
+    (λ c κs. search needs)
     returns)

@@ -5,19 +5,19 @@ use Rattle.encoding.specs.Encode.{digitOf}
 use Rattle.encoding.proofs.digit_of.Statement.{statement}
 use Rattle.encoding.proofs.digit_of.Tie as tie
 
-add-result : tie.Need-add-result
-add-result c = search needs
-
 returns : tie.Need-returns
 unfolding digitOf
 returns c = rw (lt-ltb _ _ (c .if1 .taken))
-
-add-result-2 : tie.Need-add-result-2
-add-result-2 c = search needs
 
 returns-2 : tie.Need-returns-2
 unfolding digitOf
 returns-2 c = rw (le-ltb _ _ (c .if1 .left))
 
 pub digit-of-spec : {M : Type 1} → statement M
-digit-of-spec = tie.close (tie.spec add-result returns add-result-2 returns-2)
+digit-of-spec =
+    tie.close
+    (tie.spec
+    (λ c. search needs)
+    returns
+    (λ c. search needs)
+    returns-2)

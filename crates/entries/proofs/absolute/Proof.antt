@@ -46,13 +46,17 @@ cast-result-2 c =
     let o = other _ (s .fits .j) (s .pre) (c .if1 .left) in
     rw (other-read _ (s .fits .j) (s .pre) (c .if1 .left)) (o .0, omega arith)
 
-returns : tie.Need-returns
-returns c = search needs
-
 returns-2 : tie.Need-returns-2
 returns-2 c =
     let s = c .before in
     rw (other-read _ (s .fits .j) (s .pre) (c .if1 .left)) (other _ (s .fits .j) (s .pre) (c .if1 .left) .1)
 
 pub absolute-spec : {M : Type 1} → statement M
-absolute-spec = tie.close (tie.spec cast-result sub-result cast-result-2 returns returns-2)
+absolute-spec =
+    tie.close
+    (tie.spec
+    cast-result
+    sub-result
+    cast-result-2
+    (λ c. search needs)
+    returns-2)

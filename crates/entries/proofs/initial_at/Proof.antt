@@ -15,7 +15,6 @@ use Rattle.entries.specs.Entries.{valueAt, endValues, initialAt}
 use Rattle.entries.proofs.EntryBounds.{interval-input, unit-small, half-sum-below}
 use Rattle.entries.proofs.initial_at.Statement.{statement}
 use Rattle.entries.proofs.initial_at.Tie as tie
-use Rattle.entries.proofs.initial_at.Tie as tie
 
 module _ (d : Design) (A : ℕ) (legal : Legal d) (A-lt : A < initialCount d) where
   interval : SegmentInput (d .w) (d .alpha) A
@@ -60,18 +59,6 @@ value-at-requires c κs = let p = c .before .before .pre in (p .0, (p .1 .0, bot
 value-at-requires-2 : tie.Need-value-at-requires-2
 value-at-requires-2 c κs = let p = c .before .before .before .pre in (p .0, (p .1 .0, both-ends (c .before) .1))
 
-add-values : tie.Need-add-values
-add-values c = search needs
-
-add-result : tie.Need-add-result
-add-result c = search needs
-
-cast-result : tie.Need-cast-result
-cast-result c = search needs
-
-add-result-2 : tie.Need-add-result-2
-add-result-2 c = search needs
-
 sub-pow2 : tie.Need-sub-pow2
 sub-pow2 c = omega (arith, limits _ (c .before .before .before .before .before .before .pre .0) .widths)
 
@@ -106,10 +93,10 @@ initial-at-spec =
     segment-end-requires
     value-at-requires
     value-at-requires-2
-    add-values
-    add-result
-    cast-result
-    add-result-2
+    (λ c. search needs)
+    (λ c. search needs)
+    (λ c. search needs)
+    (λ c. search needs)
     sub-pow2
     pow2-requires
     add-result-3

@@ -36,9 +36,6 @@ add-result c = omega (arith, word-small c)
 cast-result : tie.Need-cast-result
 cast-result c = record { sfits = omega (arith, word-small c) }
 
-pow2-requires : tie.Need-pow2-requires
-pow2-requires c κs = search needs
-
 cast-result-2 : tie.Need-cast-result-2
 cast-result-2 c = rw (c .pow2 .ensures) (record { sfits = omega (arith, pow-mono {i = c .before .args .b} {j = 32} (omega arith)) })
 
@@ -56,4 +53,11 @@ returns c =
 pub odd-number-spec : {M : Type 1} → statement M
 odd-number-spec =
     tie.close
-    (tie.spec mul-result add-result cast-result pow2-requires cast-result-2 sub-result returns)
+    (tie.spec
+    mul-result
+    add-result
+    cast-result
+    (λ c κs. search needs)
+    cast-result-2
+    sub-result
+    returns)

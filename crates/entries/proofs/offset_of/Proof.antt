@@ -15,9 +15,6 @@ use Rattle.entries.proofs.MeaningLaws.{offset-means}
 use Rattle.entries.proofs.offset_of.Statement.{statement}
 use Rattle.entries.proofs.offset_of.Tie as tie
 
-odd-number-requires : tie.Need-odd-number-requires
-odd-number-requires c κs = search needs
-
 -- j, as its bits are read
 odd-is : (c : tie.After-odd-number) → toZ w64 (ofZ w64 (c .odd-number .result)) ≡ oddNumber (c .before .args .b) (c .before .args .word)
 odd-is c = toZ-ofZ w64 _ (record { sfits = c .odd-number .ok }) ∙ c .odd-number .ensures
@@ -36,9 +33,6 @@ absolute-is c = c .absolute .ensures ∙ rw (odd-is (c .before))
 mul-t : tie.Need-mul-t
 mul-t c = rw (absolute-is c) (omega (arith, half-product-small _ _ _ _ (c .before .before .pre .0 .small) (c .before .before .pre .1)))
 
-pow2-requires : tie.Need-pow2-requires
-pow2-requires c κs = search needs
-
 unit-le : (c : tie.After-pow2) → c .pow2 .result ≤ 2 ^ c .before .before .before .args .p
 unit-le c = omega (arith, pow-pos (c .before .before .before .args .p))
 
@@ -46,9 +40,6 @@ mul-t-2 : tie.Need-mul-t-2
 mul-t-2 c =
     let s = c .before .before .before in
     rw (absolute-is (c .before)) (omega (arith, product-small _ _ _ _ (s .pre .0 .small) (s .pre .1) _ (unit-le c)))
-
-div-t : tie.Need-div-t
-div-t c = search needs
 
 with-sign-requires : tie.Need-with-sign-requires
 with-sign-requires c κs =
@@ -73,11 +64,11 @@ pub offset-of-spec : {M : Type 1} → statement M
 offset-of-spec =
     tie.close
     (tie.spec
-    odd-number-requires
+    (λ c κs. search needs)
     absolute-requires
     mul-t
-    pow2-requires
+    (λ c κs. search needs)
     mul-t-2
-    div-t
+    (λ c. search needs)
     with-sign-requires
     returns)

@@ -17,7 +17,6 @@ use Rattle.entries.specs.Entries.{hiAt, loAt}
 use Rattle.entries.proofs.EntryBounds.{slopes-fit}
 use Rattle.entries.proofs.slope_sum.Statement.{statement}
 use Rattle.entries.proofs.slope_sum.Tie as tie
-use Rattle.entries.proofs.slope_sum.Tie as tie
 
 -- the ends and the slopes that the calls give, as the definitions have them
 module _ (d : Design) (i A : ℕ) (legal : Legal d) (at : (i < d .m) × (A < 2 ^ aOf d i)) (pair : Pair) (pair-is : pair ≡ pairAt d i) where

@@ -38,11 +38,14 @@ returns-2 c =
     let s = c .before in
     other-is _ (s .pre) ∙ by-test _ (s .pre) _ _ (s .fits .j) false (c .if1 .left)
 
-cast-count : tie.Need-cast-count
-cast-count c = search needs
-
 sub-result : tie.Need-sub-result
 sub-result c = other-fits _ (c .before .pre)
 
 pub with-sign-spec : {M : Type 1} → statement M
-with-sign-spec = tie.close (tie.spec cast-count sub-result returns returns-2)
+with-sign-spec =
+    tie.close
+    (tie.spec
+    (λ c. search needs)
+    sub-result
+    returns
+    returns-2)

@@ -13,29 +13,14 @@ abbrev μ-loop : tie.MeasureT-loop
 new-requires : tie.Need-new-requires Inv-loop μ-loop
 new-requires c κs = tt
 
-loop-holds : tie.Need-loop-holds Inv-loop μ-loop
-loop-holds c = search needs
-
 read-byte-requires : tie.Need-read-byte-requires Inv-loop μ-loop
 read-byte-requires c κs = tt
-
-enum-known-b : tie.Need-enum-known-b Inv-loop μ-loop
-enum-known-b c = search needs
-
-enum-told : tie.Need-enum-told Inv-loop μ-loop
-enum-told c = search needs
 
 last-line-requires : tie.Need-last-line-requires Inv-loop μ-loop
 last-line-requires c κs = tt
 
-returns : tie.Need-returns Inv-loop μ-loop
-returns c = search needs
-
 word-requires : tie.Need-word-requires Inv-loop μ-loop
 word-requires c κs = tt
-
-returns-2 : tie.Need-returns-2 Inv-loop μ-loop
-returns-2 c = search needs
 
 with-requires : tie.Need-with-requires Inv-loop μ-loop
 with-requires c κs = tt
@@ -46,12 +31,6 @@ sub-turns c = omega arith
 loop-less : tie.Need-loop-less Inv-loop μ-loop
 loop-less c = omega arith
 
-loop-again : tie.Need-loop-again Inv-loop μ-loop
-loop-again c = search needs
-
-returns-3 : tie.Need-returns-3 Inv-loop μ-loop
-returns-3 c = search needs
-
 pub read-word-spec : {M : Type 1} → statement M
 read-word-spec =
     tie.close
@@ -59,16 +38,16 @@ read-word-spec =
     Inv-loop
     μ-loop
     new-requires
-    loop-holds
+    (λ c. search needs)
     read-byte-requires
-    enum-known-b
-    enum-told
+    (λ c. search needs)
+    (λ c. search needs)
     last-line-requires
-    returns
+    (λ c. search needs)
     word-requires
-    returns-2
+    (λ c. search needs)
     with-requires
     sub-turns
     loop-less
-    loop-again
-    returns-3)
+    (λ c. search needs)
+    (λ c. search needs))

@@ -45,12 +45,6 @@ set-passed : (c : tie.After-enum-told) →
     verdict (setChecks (a .d) (length (a .initial .now)) (length (a .offsets .now))) ≡ Verdict.Passed
 set-passed c = sym (c .before .before .set-verdict .ensures) ∙ c .enum-told .given .1
 
-set-verdict-requires : tie.Need-set-verdict-requires
-set-verdict-requires c κs = search needs
-
-enum-known-cause : tie.Need-enum-known-cause
-enum-known-cause c = search needs
-
 returns : tie.Need-returns
 returns c = refused _ _ _ _ _ (sym (c .before .before .before .set-verdict .ensures) ∙ c .before .cause .given .1)
 
@@ -69,4 +63,11 @@ returns-2 c = answered _ _ _ _ (set-passed (c .before .before)) _ (c .word-answe
 pub evaluate-spec : {M : Type 1} → statement M
 evaluate-spec =
     tie.close
-    (tie.spec set-verdict-requires enum-known-cause returns enum-told lookups-of-requires word-answer-requires returns-2)
+    (tie.spec
+    (λ c κs. search needs)
+    (λ c. search needs)
+    returns
+    enum-told
+    lookups-of-requires
+    word-answer-requires
+    returns-2)

@@ -62,12 +62,6 @@ words-passed : (c : tie.After-enum-told2) →
     (i : ℕ) → i < length (a .words .now) → placeVerdict (a .d) (a .initial .now) (a .offsets .now) (a .words .now) i ≡ Verdict.Passed
 words-passed c = batch-passed _ _ _ (sym (c .before .before .words-verdict .ensures) ∙ c .enum-told2 .given .1)
 
-room-verdict-requires : tie.Need-room-verdict-requires
-room-verdict-requires c κs = search needs
-
-enum-known-cause : tie.Need-enum-known-cause
-enum-known-cause c = search needs
-
 returns : tie.Need-returns
 returns c = room-refused _ _ _ _ _ _ (sym (c .before .before .before .room-verdict .ensures) ∙ c .before .cause .given .1)
 
@@ -80,25 +74,16 @@ lookups-of-requires c κs = room-tells _ _ _ _ _ (room-passed c) .0 .legal
 words-verdict-requires : tie.Need-words-verdict-requires
 words-verdict-requires c κs = (room-tells _ _ _ _ _ (room-passed (c .before)) .0, c .lookups-of .ensures)
 
-enum-known-answer : tie.Need-enum-known-answer
-enum-known-answer c = search needs
-
 returns-2 : tie.Need-returns-2
 returns-2 c =
     word-refused _ _ _ _ _ (room-passed (c .before .before .before .before .before)) _ _
     (sym (c .before .before .before .words-verdict .ensures) ∙ c .before .answer .given .1)
-
-enum-told-2 : tie.Need-enum-told-2
-enum-told-2 c = search needs
 
 write-words-requires : tie.Need-write-words-requires
 write-words-requires c κs =
     let b = c .before .before .before .before in
     let tells = room-tells _ _ _ _ _ (room-passed (b .before)) in
     (tells .0, (b .lookups-of .ensures, (words-passed (c .before), tells .1)))
-
-same-length : tie.Need-same-length
-same-length c = search needs
 
 returns-3 : tie.Need-returns-3
 returns-3 c =
@@ -110,15 +95,15 @@ pub evaluate-batch-spec : {M : Type 1} → statement M
 evaluate-batch-spec =
     tie.close
     (tie.spec
-    room-verdict-requires
-    enum-known-cause
+    (λ c κs. search needs)
+    (λ c. search needs)
     returns
     enum-told
     lookups-of-requires
     words-verdict-requires
-    enum-known-answer
+    (λ c. search needs)
     returns-2
-    enum-told-2
+    (λ c. search needs)
     write-words-requires
-    same-length
+    (λ c. search needs)
     returns-3)

@@ -38,12 +38,6 @@ set-passed : (c : tie.After-enum-told) →
     verdict (setChecks (a .d) (length (a .initial .now)) (length (a .offsets .now))) ≡ Verdict.Passed
 set-passed c = sym (c .before .before .set-verdict .ensures) ∙ c .enum-told .given .1
 
-set-verdict-requires : tie.Need-set-verdict-requires
-set-verdict-requires c κs = search needs
-
-enum-known-cause : tie.Need-enum-known-cause
-enum-known-cause c = search needs
-
 returns : tie.Need-returns
 returns c = sym (refused _ _ _ _ _ _ (sym (c .before .before .before .set-verdict .ensures) ∙ c .before .cause .given .1))
 
@@ -59,4 +53,10 @@ returns-3 c = sym (long _ _ _ _ _ (set-passed (c .before)) (c .if1 .left))
 pub room-verdict-spec : {M : Type 1} → statement M
 room-verdict-spec =
     tie.close
-    (tie.spec set-verdict-requires enum-known-cause returns enum-told returns-2 returns-3)
+    (tie.spec
+    (λ c κs. search needs)
+    (λ c. search needs)
+    returns
+    enum-told
+    returns-2
+    returns-3)

@@ -31,9 +31,6 @@ shared-slice-read-word-answer c = omega arith
 word-answer-requires : tie.Need-word-answer-requires Inv-loop μ-loop
 word-answer-requires c κs = c .before .before .before .before .before .pre
 
-enum-known-cause : tie.Need-enum-known-cause Inv-loop μ-loop
-enum-known-cause c = search needs
-
 returns : tie.Need-returns Inv-loop μ-loop
 unfolding placeVerdict
 returns c =
@@ -74,7 +71,7 @@ summed-verdict-spec =
     mul-word-answer
     shared-slice-read-word-answer
     word-answer-requires
-    enum-known-cause
+    (λ c. search needs)
     returns
     enum-told
     add-i

@@ -26,9 +26,6 @@ within c = omega (arith, c .before .pow2 .ensures)
 sum-of-requires : tie.Need-sum-of-requires
 sum-of-requires c κs = let p = c .before .before .before .pre in (p .0, (p .1, within c))
 
-sum-outside-requires : tie.Need-sum-outside-requires
-sum-outside-requires c κs = search needs
-
 -- the sum's test, as the calls promise it
 tested : (c : tie.After-sum-outside) →
     let a = c .before .before .before .before .before .args in
@@ -58,4 +55,11 @@ returns-3 c =
 pub word-answer-spec : {M : Type 1} → statement M
 word-answer-spec =
     tie.close
-    (tie.spec pow2-requires returns sum-of-requires sum-outside-requires returns-2 word-of-requires returns-3)
+    (tie.spec
+    pow2-requires
+    returns
+    sum-of-requires
+    (λ c κs. search needs)
+    returns-2
+    word-of-requires
+    returns-3)

@@ -3,15 +3,6 @@ use borrow.Author.Needs.{needs}
 use Rattle.exports.proofs.dorykleth_budget.Statement.{statement}
 use Rattle.exports.proofs.dorykleth_budget.Tie as tie
 
-design-of-requires : tie.Need-design-of-requires
-design-of-requires c κs = search needs
-
-budget-requires : tie.Need-budget-requires
-budget-requires c κs = search needs
-
-put-measure-requires : tie.Need-put-measure-requires
-put-measure-requires c κs = search needs
-
 returns : tie.Need-returns
 returns c =
     let a = c .before .before in
@@ -19,4 +10,9 @@ returns c =
 
 pub dorykleth-budget-spec : {M : Type 1} → statement M
 dorykleth-budget-spec =
-    tie.close (tie.spec design-of-requires budget-requires put-measure-requires returns)
+    tie.close
+    (tie.spec
+    (λ c κs. search needs)
+    (λ c κs. search needs)
+    (λ c κs. search needs)
+    returns)

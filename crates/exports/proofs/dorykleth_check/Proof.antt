@@ -5,30 +5,12 @@ use Rattle.exports.proofs.WordCount.{few-bits, faithful-legal}
 use Rattle.exports.proofs.dorykleth_check.Statement.{statement}
 use Rattle.exports.proofs.dorykleth_check.Tie as tie
 
-design-of-requires : tie.Need-design-of-requires
-design-of-requires c κs = search needs
-
-check-requires : tie.Need-check-requires
-check-requires c κs = search needs
-
 enum-told : tie.Need-enum-told
 enum-told c = search needs
 
 -- a design whose set is faithful is legal
 pow2-requires : tie.Need-pow2-requires
 pow2-requires c κs = few-bits _ (faithful-legal _ _ _ (sym (c .before .before .check .ensures .0) ∙ c .enum-told .given .1))
-
-enum-known-x : tie.Need-enum-known-x
-enum-known-x c = search needs
-
-cast-first : tie.Need-cast-first
-cast-first c = search needs
-
-enum-known-cause : tie.Need-enum-known-cause
-enum-known-cause c = search needs
-
-number-requires : tie.Need-number-requires
-number-requires c κs = search needs
 
 returns : tie.Need-returns
 returns c =
@@ -53,14 +35,14 @@ pub dorykleth-check-spec : {M : Type 1} → statement M
 dorykleth-check-spec =
     tie.close
     (tie.spec
-    design-of-requires
-    check-requires
+    (λ c κs. search needs)
+    (λ c κs. search needs)
     enum-told
     pow2-requires
-    enum-known-x
-    cast-first
-    enum-known-cause
-    number-requires
+    (λ c. search needs)
+    (λ c. search needs)
+    (λ c. search needs)
+    (λ c κs. search needs)
     returns
     returns-2
     returns-3)

@@ -4,21 +4,6 @@ use borrow.Author.Needs.{needs}
 use Rattle.exports.proofs.dorykleth_evaluate.Statement.{statement}
 use Rattle.exports.proofs.dorykleth_evaluate.Tie as tie
 
-design-of-requires : tie.Need-design-of-requires
-design-of-requires c κs = search needs
-
-evaluate-requires : tie.Need-evaluate-requires
-evaluate-requires c κs = search needs
-
-enum-known-units : tie.Need-enum-known-units
-enum-known-units c = search needs
-
-enum-known-cause : tie.Need-enum-known-cause
-enum-known-cause c = search needs
-
-number-requires : tie.Need-number-requires
-number-requires c κs = search needs
-
 returns : tie.Need-returns
 returns c =
     let m = c .before in
@@ -35,10 +20,10 @@ pub dorykleth-evaluate-spec : {M : Type 1} → statement M
 dorykleth-evaluate-spec =
     tie.close
     (tie.spec
-    design-of-requires
-    evaluate-requires
-    enum-known-units
-    enum-known-cause
-    number-requires
+    (λ c κs. search needs)
+    (λ c κs. search needs)
+    (λ c. search needs)
+    (λ c. search needs)
+    (λ c κs. search needs)
     returns
     returns-2)

@@ -3,15 +3,6 @@ use borrow.Author.Needs.{needs}
 use Rattle.exports.proofs.dorykleth_size.Statement.{statement}
 use Rattle.exports.proofs.dorykleth_size.Tie as tie
 
-design-of-requires : tie.Need-design-of-requires
-design-of-requires c κs = search needs
-
-size-requires : tie.Need-size-requires
-size-requires c κs = search needs
-
-put-measure-requires : tie.Need-put-measure-requires
-put-measure-requires c κs = search needs
-
 returns : tie.Need-returns
 returns c =
     let a = c .before .before in
@@ -19,4 +10,9 @@ returns c =
 
 pub dorykleth-size-spec : {M : Type 1} → statement M
 dorykleth-size-spec =
-    tie.close (tie.spec design-of-requires size-requires put-measure-requires returns)
+    tie.close
+    (tie.spec
+    (λ c κs. search needs)
+    (λ c κs. search needs)
+    (λ c κs. search needs)
+    returns)

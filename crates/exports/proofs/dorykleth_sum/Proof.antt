@@ -14,18 +14,6 @@ use Rattle.exports.proofs.SumCall.{set-refuses, word-refuses, none-refu
 use Rattle.exports.proofs.dorykleth_sum.Statement.{statement}
 use Rattle.exports.proofs.dorykleth_sum.Tie as tie
 
-design-of-requires : tie.Need-design-of-requires
-design-of-requires c κs = search needs
-
-set-verdict-requires : tie.Need-set-verdict-requires
-set-verdict-requires c κs = search needs
-
-enum-known-cause : tie.Need-enum-known-cause
-enum-known-cause c = search needs
-
-number-requires : tie.Need-number-requires
-number-requires c κs = search needs
-
 returns : tie.Need-returns
 returns c =
     let m = c .before .before in
@@ -45,9 +33,6 @@ set-passed c = sym (c .before .before .set-verdict .ensures) ∙ c .enum-told .g
 
 pow2-requires : tie.Need-pow2-requires
 pow2-requires c κs = few-bits _ (usable _ _ _ (set-passed c) .legal)
-
-number-requires-2 : tie.Need-number-requires-2
-number-requires-2 c κs = search needs
 
 returns-2 : tie.Need-returns-2
 returns-2 c =
@@ -79,14 +64,14 @@ pub dorykleth-sum-spec : {M : Type 1} → statement M
 dorykleth-sum-spec =
     tie.close
     (tie.spec
-    design-of-requires
-    set-verdict-requires
-    enum-known-cause
-    number-requires
+    (λ c κs. search needs)
+    (λ c κs. search needs)
+    (λ c. search needs)
+    (λ c κs. search needs)
     returns
     enum-told
     pow2-requires
-    number-requires-2
+    (λ c κs. search needs)
     returns-2
     lookups-of-requires
     sum-of-requires

@@ -6,18 +6,6 @@ use mir.ValLaws.{toZ-ofZ}
 use Rattle.exports.proofs.dorykleth_value.Statement.{statement}
 use Rattle.exports.proofs.dorykleth_value.Tie as tie
 
-value-requires : tie.Need-value-requires
-value-requires c κs = search needs
-
-enum-known-found : tie.Need-enum-known-found
-enum-known-found c = search needs
-
-enum-known-cause : tie.Need-enum-known-cause
-enum-known-cause c = search needs
-
-number-requires : tie.Need-number-requires
-number-requires c κs = search needs
-
 returns : tie.Need-returns
 returns c =
     let m = c .before .before in
@@ -33,4 +21,10 @@ returns-2 c =
 pub dorykleth-value-spec : {M : Type 1} → statement M
 dorykleth-value-spec =
     tie.close
-    (tie.spec value-requires enum-known-found enum-known-cause number-requires returns returns-2)
+    (tie.spec
+    (λ c κs. search needs)
+    (λ c. search needs)
+    (λ c. search needs)
+    (λ c κs. search needs)
+    returns
+    returns-2)

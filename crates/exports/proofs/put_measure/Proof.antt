@@ -4,22 +4,15 @@ use borrow.Author.Needs.{needs}
 use Rattle.exports.proofs.put_measure.Statement.{statement}
 use Rattle.exports.proofs.put_measure.Tie as tie
 
-enum-known-measured : tie.Need-enum-known-measured
-enum-known-measured c = search needs
-
-enum-known-measured-2 : tie.Need-enum-known-measured-2
-enum-known-measured-2 c = search needs
-
-number-requires : tie.Need-number-requires
-number-requires c κs = search needs
-
-returns : tie.Need-returns
-returns c = search needs
-
 returns-2 : tie.Need-returns-2
 returns-2 c = rw (c .before .before .measured2 .given .1) (c .number .ensures, refl)
 
 pub put-measure-spec : {M : Type 1} → statement M
 put-measure-spec =
     tie.close
-    (tie.spec enum-known-measured enum-known-measured-2 number-requires returns returns-2)
+    (tie.spec
+    (λ c. search needs)
+    (λ c. search needs)
+    (λ c κs. search needs)
+    (λ c. search needs)
+    returns-2)

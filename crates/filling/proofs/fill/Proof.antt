@@ -12,12 +12,6 @@ use Rattle.filling.proofs.FillLaws.{refused-before, not-admitted, admit
 use Rattle.filling.proofs.fill.Statement.{statement}
 use Rattle.filling.proofs.fill.Tie as tie
 
-set-verdict-requires : tie.Need-set-verdict-requires
-set-verdict-requires c κs = search needs
-
-enum-known-cause : tie.Need-enum-known-cause
-enum-known-cause c = search needs
-
 returns : tie.Need-returns
 returns c =
     refuses _ _ _ (refused-before _ _ _ (sym (c .before .before .before .set-verdict .ensures) ∙ c .before .cause .given .1))
@@ -52,12 +46,6 @@ fill-initial-requires c κs = let u = set (c .before .before .before .before) in
 fill-offsets-requires : tie.Need-fill-offsets-requires
 fill-offsets-requires c κs = let u = set (c .before .before .before .before .before .before .before .before) in (u .legal, u .offsets-long)
 
-same-length : tie.Need-same-length
-same-length c = search needs
-
-same-length-2 : tie.Need-same-length-2
-same-length-2 c = search needs
-
 returns-3 : tie.Need-returns-3
 returns-3 c =
     let e = c .before .before .before .before .before .before .before in
@@ -70,8 +58,8 @@ pub fill-spec : {M : Type 1} → statement M
 fill-spec =
     tie.close
     (tie.spec
-    set-verdict-requires
-    enum-known-cause
+    (λ c κs. search needs)
+    (λ c. search needs)
     returns
     enum-told
     limit-of-requires
@@ -79,6 +67,6 @@ fill-spec =
     returns-2
     fill-initial-requires
     fill-offsets-requires
-    same-length
-    same-length-2
+    (λ c. search needs)
+    (λ c. search needs)
     returns-3)

@@ -4,6 +4,7 @@ use Prim.Native.Nat.{_+_, _-_, _^_, _≤_, _<_}
 use native.Mathlib.Omega.{arith}
 use lib.ListN.{length}
 use lib.Pow.{pow-mono}
+use Rattle.design.specs.Limits.{mostInTable, mostTableBits}
 use Rattle.values.specs.declared.rows.Row.{Row}
 use Rattle.design.specs.declared.Pair.{Pair}
 use Rattle.design.specs.Cut.{aOf}
@@ -38,10 +39,10 @@ count-is : (c : tie.After-pow2 Inv-loop μ-loop)
     → c .pow2 .result ≡ 2 ^ aOf (c .before .before .before .args .d) (c .before .before .before .args .i)
 count-is c = rw (c .before .before .pair-at .ensures) at (c .pow2 .ensures)
 
-few : (c : tie.After-pow2 Inv-loop μ-loop) → c .pow2 .result ≤ 2 ^ 12
+few : (c : tie.After-pow2 Inv-loop μ-loop) → c .pow2 .result ≤ mostInTable
 few c =
     let table = c .before .before .before .pre .0 in
-    rw (count-is c) (pow-mono {j = 12} (omega (arith, limits _ (table .legal) .table _ (table .i-lt))))
+    rw (count-is c) (pow-mono {j = mostTableBits} (omega (arith, limits _ (table .legal) .table _ (table .i-lt))))
 
 -- this turn's segment is one of them
 here : (c : tie.In-loop Inv-loop μ-loop) → let a = c .before .before .before .before .before .args in

@@ -20,17 +20,8 @@ Inv-loop line count bytes₀ sum₀ i₀ bytes sum i = BytesRead line bytes sum 
 abbrev μ-loop : tie.MeasureT-loop
 μ-loop line count bytes₀ sum₀ i₀ bytes sum i = count - i
 
-unsound-requires : tie.Need-unsound-requires Inv-loop μ-loop
-unsound-requires c κs = search needs
-
 returns : tie.Need-returns Inv-loop μ-loop
 returns c = c .unsound .ensures ∙ empty-refused _ (eq-eqb _ _ (c .before .if1 .taken))
-
-length-fails-requires : tie.Need-length-fails-requires Inv-loop μ-loop
-length-fails-requires c κs = search needs
-
-unsound-requires-2 : tie.Need-unsound-requires-2 Inv-loop μ-loop
-unsound-requires-2 c κs = search needs
 
 returns-2 : tie.Need-returns-2 Inv-loop μ-loop
 returns-2 c = c .unsound2 .ensures ∙ length-refused _ (sym (c .before .before .length-fails .ensures) ∙ c .before .if2 .taken)
@@ -50,9 +41,6 @@ mul-digit c = omega arith
 shared-slice-read-digit : tie.Need-shared-slice-read-digit Inv-loop μ-loop
 shared-slice-read-digit c = omega arith
 
-digit-requires : tie.Need-digit-requires Inv-loop μ-loop
-digit-requires c κs = search needs
-
 mul-digit-2 : tie.Need-mul-digit-2 Inv-loop μ-loop
 mul-digit-2 c = omega arith
 
@@ -61,12 +49,6 @@ add-digit c = omega arith
 
 shared-slice-read-digit-2 : tie.Need-shared-slice-read-digit-2 Inv-loop μ-loop
 shared-slice-read-digit-2 c = omega arith
-
-digit-requires-2 : tie.Need-digit-requires-2 Inv-loop μ-loop
-digit-requires-2 c κs = search needs
-
-unsound-requires-3 : tie.Need-unsound-requires-3 Inv-loop μ-loop
-unsound-requires-3 c κs = search needs
 
 two-digits : (c : tie.After-digit2 Inv-loop μ-loop)
     → Digits (c .before .before .before .before .before .before .before .before .before .before .args .line .now)
@@ -105,9 +87,6 @@ loop-again c =
     let so-far = c .before .before .before .before .before .before .before .loop .inv in
     step so-far (two-digits (c .before .before)) (c .before .if3 .left) (leb-false _ _ (c .if4 .left))
 
-unsound-requires-4 : tie.Need-unsound-requires-4 Inv-loop μ-loop
-unsound-requires-4 c κs = search needs
-
 returns-5 : tie.Need-returns-5 Inv-loop μ-loop
 returns-5 c =
     let passed = c .before .before .before in
@@ -125,20 +104,20 @@ decode-spec =
     (tie.spec
     Inv-loop
     μ-loop
-    unsound-requires
+    (λ c κs. search needs)
     returns
-    length-fails-requires
-    unsound-requires-2
+    (λ c κs. search needs)
+    (λ c κs. search needs)
     returns-2
     loop-holds
     mul-digit
     shared-slice-read-digit
-    digit-requires
+    (λ c κs. search needs)
     mul-digit-2
     add-digit
     shared-slice-read-digit-2
-    digit-requires-2
-    unsound-requires-3
+    (λ c κs. search needs)
+    (λ c κs. search needs)
     returns-3
     mul-byte
     add-byte
@@ -148,6 +127,6 @@ decode-spec =
     add-i
     loop-less
     loop-again
-    unsound-requires-4
+    (λ c κs. search needs)
     returns-4
     returns-5)

@@ -9,12 +9,6 @@ use Rattle.refusal.proofs.Checks.{inside}
 use Rattle.frames.proofs.digit.Statement.{statement}
 use Rattle.frames.proofs.digit.Tie as tie
 
-outside-requires : tie.Need-outside-requires
-outside-requires c κs = search needs
-
-outside-requires-2 : tie.Need-outside-requires-2
-outside-requires-2 c κs = search needs
-
 -- a character that is not refused is one from 'A' to 'F'
 letter : (c : tie.Else2) → outside 65 70 (c .before .before .before .before .args .c) ≡ false
 letter c = sym (c .before .outside2 .ensures) ∙ c .if2 .left
@@ -42,8 +36,8 @@ pub digit-spec : {M : Type 1} → statement M
 digit-spec =
     tie.close
     (tie.spec
-    outside-requires
-    outside-requires-2
+    (λ c κs. search needs)
+    (λ c κs. search needs)
     returns
     sub-result
     returns-2

@@ -24,12 +24,6 @@ module _ (bytes : List ℕ) (count : ℕ) where
   unfolding firstChecks designVerdict
   design-decides e = rw (verdict-append, e)
 
-frame-verdict-requires : tie.Need-frame-verdict-requires
-frame-verdict-requires c κs = search needs
-
-enum-known-cause : tie.Need-enum-known-cause
-enum-known-cause c = search needs
-
 returns : tie.Need-returns
 returns c =
     let v = c .before .before .before in
@@ -37,12 +31,6 @@ returns c =
 
 enum-told : tie.Need-enum-told
 enum-told c = search needs
-
-frame-design-requires : tie.Need-frame-design-requires
-frame-design-requires c κs = search needs
-
-design-verdict-requires : tie.Need-design-verdict-requires
-design-verdict-requires c κs = search needs
 
 returns-2 : tie.Need-returns-2
 returns-2 c =
@@ -54,10 +42,10 @@ pub first-verdict-spec : {M : Type 1} → statement M
 first-verdict-spec =
     tie.close
     (tie.spec
-    frame-verdict-requires
-    enum-known-cause
+    (λ c κs. search needs)
+    (λ c. search needs)
     returns
     enum-told
-    frame-design-requires
-    design-verdict-requires
+    (λ c κs. search needs)
+    (λ c κs. search needs)
     returns-2)

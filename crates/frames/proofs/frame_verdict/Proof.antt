@@ -24,20 +24,11 @@ twice-fits m fits = omega arith
 due-fits : (k m : ℕ) → k ≤ 8 → Fits w8 m → Fits w64 (k + 2 * m)
 due-fits k m h fits = omega arith
 
-array-read-due : tie.Need-array-read-due
-array-read-due c = search needs
-
-cast-due : tie.Need-cast-due
-cast-due c = search needs
-
 mul-due : tie.Need-mul-due
 mul-due c = twice-fits _ (search needs)
 
 add-due : tie.Need-add-due
 add-due c = due-fits _ _ (omega arith) (search needs)
-
-array-read-if1 : tie.Need-array-read-if1
-array-read-if1 c = search needs
 
 -- The verdict by the two tests: the frame kind is 1, and the number of bytes is 8 + 2m.
 module _ (bytes : List ℕ) (count : ℕ) where
@@ -69,4 +60,12 @@ returns-2 c =
 
 pub frame-verdict-spec : {M : Type 1} → statement M
 frame-verdict-spec =
-    tie.close (tie.spec array-read-due cast-due mul-due add-due array-read-if1 returns returns-2)
+    tie.close
+    (tie.spec
+    (λ c. search needs)
+    (λ c. search needs)
+    mul-due
+    add-due
+    (λ c. search needs)
+    returns
+    returns-2)

@@ -7,11 +7,12 @@ use lib.Pow.{pow-lt}
 use Rattle.general.proofs.pow2.Statement.{statement}
 use Rattle.general.proofs.pow2.Tie as tie
 
-shl-result : tie.Need-shl-result
-shl-result c = search needs
-
 returns : tie.Need-returns
 returns c = ap (λ (n : ℕ). n % 2 ^ 64) (one-mul _) ∙ mod-eq-of-lt (pow-lt c.pre)
 
 pub pow2-spec : {M : Type 1} → statement M
-pow2-spec = tie.close (tie.spec shl-result returns)
+pow2-spec =
+    tie.close
+    (tie.spec
+    (λ c. search needs)
+    returns)

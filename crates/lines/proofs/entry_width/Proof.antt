@@ -8,15 +8,6 @@ use Rattle.lines.proofs.entry_width.Tie as tie
 enum-told : tie.Need-enum-told
 enum-told c = search needs
 
-enum-told-2 : tie.Need-enum-told-2
-enum-told-2 c = search needs
-
-enum-told-3 : tie.Need-enum-told-3
-enum-told-3 c = search needs
-
-enum-told-4 : tie.Need-enum-told-4
-enum-told-4 c = search needs
-
 returns : tie.Need-returns
 unfolding entryWidth
 returns c = ap entryWidth (sym (c .enum-told .given .1))
@@ -36,4 +27,12 @@ returns-4 c = ap entryWidth (sym (c .enum-told4 .given .1))
 pub entry-width-spec : {M : Type 1} → statement M
 entry-width-spec =
     tie.close
-    (tie.spec enum-told enum-told-2 enum-told-3 enum-told-4 returns returns-2 returns-3 returns-4)
+    (tie.spec
+    enum-told
+    (λ c. search needs)
+    (λ c. search needs)
+    (λ c. search needs)
+    returns
+    returns-2
+    returns-3
+    returns-4)

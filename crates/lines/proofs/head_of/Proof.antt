@@ -8,39 +8,6 @@ use Rattle.lines.proofs.head_of.Tie as tie
 enum-told : tie.Need-enum-told
 enum-told c = search needs
 
-design-frame-requires : tie.Need-design-frame-requires
-design-frame-requires c κs = search needs
-
-enum-known-slot : tie.Need-enum-known-slot
-enum-known-slot c = search needs
-
-of-kind-requires : tie.Need-of-kind-requires
-of-kind-requires c κs = search needs
-
-with-requires : tie.Need-with-requires
-with-requires c κs = search needs
-
-enum-known-slot-2 : tie.Need-enum-known-slot-2
-enum-known-slot-2 c = search needs
-
-of-kind-requires-2 : tie.Need-of-kind-requires-2
-of-kind-requires-2 c κs = search needs
-
-with-requires-2 : tie.Need-with-requires-2
-with-requires-2 c κs = search needs
-
-with-requires-3 : tie.Need-with-requires-3
-with-requires-3 c κs = search needs
-
-enum-known-slot-3 : tie.Need-enum-known-slot-3
-enum-known-slot-3 c = search needs
-
-of-kind-requires-3 : tie.Need-of-kind-requires-3
-of-kind-requires-3 c κs = search needs
-
-with-requires-4 : tie.Need-with-requires-4
-with-requires-4 c κs = search needs
-
 returns : tie.Need-returns
 unfolding frameHead
 returns c = rw (c .before .enum-told .given .1) (c .design-frame .ensures)
@@ -64,17 +31,17 @@ head-of-spec =
     tie.close
     (tie.spec
     enum-told
-    design-frame-requires
-    enum-known-slot
-    of-kind-requires
-    with-requires
-    enum-known-slot-2
-    of-kind-requires-2
-    with-requires-2
-    with-requires-3
-    enum-known-slot-3
-    of-kind-requires-3
-    with-requires-4
+    (λ c κs. search needs)
+    (λ c. search needs)
+    (λ c κs. search needs)
+    (λ c κs. search needs)
+    (λ c. search needs)
+    (λ c κs. search needs)
+    (λ c κs. search needs)
+    (λ c κs. search needs)
+    (λ c. search needs)
+    (λ c κs. search needs)
+    (λ c κs. search needs)
     returns
     returns-2
     returns-3

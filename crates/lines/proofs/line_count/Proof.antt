@@ -12,9 +12,6 @@ use Rattle.lines.proofs.line_count.Tie as tie
 pow2-requires : tie.Need-pow2-requires
 pow2-requires c κs = omega (arith, limits _ (c .pre) .alpha-high)
 
-offset-total-requires : tie.Need-offset-total-requires
-offset-total-requires c κs = search needs
-
 -- the entries are few
 few : (c : tie.After-offset-total) → c .before .pow2 .result + c .offset-total .result + 2 ≤ mostLines
 unfolding lineCount initialCount
@@ -32,4 +29,10 @@ returns c = rw (c .before .pow2 .ensures, c .offset-total .ensures)
 
 pub line-count-spec : {M : Type 1} → statement M
 line-count-spec =
-    tie.close (tie.spec pow2-requires offset-total-requires add-result add-result-2 returns)
+    tie.close
+    (tie.spec
+    pow2-requires
+    (λ c κs. search needs)
+    add-result
+    add-result-2
+    returns)

@@ -28,17 +28,8 @@ entries-are c = c .pow2 .ensures
 cast-entries : tie.Need-cast-entries
 cast-entries c = omega (arith, entries-are c, initial-count-small _ (limits _ (c .before .before .pre .legal)))
 
-sub-t7 : tie.Need-sub-t7
-sub-t7 c = search needs
-
 returns-2 : tie.Need-returns-2
 returns-2 c = sym (slot-initial _ _ _ (omega arith) (omega (arith, entries-are (c .before))))
-
-cast-if3 : tie.Need-cast-if3
-cast-if3 c = search needs
-
-cast-if3-2 : tie.Need-cast-if3-2
-cast-if3-2 c = search needs
 
 offset-total-requires : tie.Need-offset-total-requires
 offset-total-requires c κs = c .before .before .before .pre .legal
@@ -47,12 +38,6 @@ add-if3 : tie.Need-add-if3
 add-if3 c =
     let l = limits _ (c .before .before .before .before .pre .legal) in
     omega (arith, entries-are (c .before .before), initial-count-small _ l, c .offset-total .ensures, offset-total-small _ l)
-
-sub-offset-slot : tie.Need-sub-offset-slot
-sub-offset-slot c = search needs
-
-sub-offset-slot-2 : tie.Need-sub-offset-slot-2
-sub-offset-slot-2 c = search needs
 
 offset-slot-requires : tie.Need-offset-slot-requires
 offset-slot-requires c κs =
@@ -78,14 +63,14 @@ slot-of-spec =
     cast-line
     pow2-requires
     cast-entries
-    sub-t7
+    (λ c. search needs)
     returns-2
-    cast-if3
-    cast-if3-2
+    (λ c. search needs)
+    (λ c. search needs)
     offset-total-requires
     add-if3
-    sub-offset-slot
-    sub-offset-slot-2
+    (λ c. search needs)
+    (λ c. search needs)
     offset-slot-requires
     returns-3
     returns-4)

@@ -4,7 +4,7 @@ use borrow.Author.Needs.{needs}
 use lib.ListN.{length}
 use Rattle.refusal.specs.declared.Verdict.{Verdict}
 use Rattle.refusal.specs.Checks.{verdict}
-use Rattle.refusal.proofs.Checks.{tested}
+use Rattle.general.proofs.Tests.{tested}
 use Rattle.frames.specs.Line.{capacity}
 use Rattle.frames.specs.DesignFrame.{firstChecks}
 use Rattle.frames.proofs.FrameLaws.{first-frame}
@@ -19,15 +19,6 @@ full s = search needs
 due : (c : tie.After-enum-told) → let a = c .before .before .before .args in verdict (firstChecks (a .bytes) (a .count)) ≡ Verdict.Passed
 due c = sym (c .before .before .first-verdict .ensures) ∙ c .enum-told .given .1
 
-first-verdict-requires : tie.Need-first-verdict-requires
-first-verdict-requires c κs = search needs
-
-enum-known-cause : tie.Need-enum-known-cause
-enum-known-cause c = search needs
-
-refused-requires : tie.Need-refused-requires
-refused-requires c κs = search needs
-
 returns : tie.Need-returns
 returns c =
     let a = c .before .before .before .before in
@@ -38,14 +29,8 @@ returns c =
 enum-told : tie.Need-enum-told
 enum-told c = search needs
 
-frame-design-requires : tie.Need-frame-design-requires
-frame-design-requires c κs = search needs
-
 tables-short-requires : tie.Need-tables-short-requires
 tables-short-requires c κs = rw (c .frame-design .ensures) (first-frame _ _ (due (c .before)) .legal)
-
-refused-requires-2 : tie.Need-refused-requires-2
-refused-requires-2 c κs = search needs
 
 returns-2 : tie.Need-returns-2
 returns-2 c =
@@ -70,13 +55,13 @@ pub first-line-spec : {M : Type 1} → statement M
 first-line-spec =
     tie.close
     (tie.spec
-    first-verdict-requires
-    enum-known-cause
-    refused-requires
+    (λ c κs. search needs)
+    (λ c. search needs)
+    (λ c κs. search needs)
     returns
     enum-told
-    frame-design-requires
+    (λ c κs. search needs)
     tables-short-requires
-    refused-requires-2
+    (λ c κs. search needs)
     returns-2
     returns-3)

@@ -30,9 +30,6 @@ module _ (state : Reading) (some : state .taken ≡ 0 → ⊥) where
 returns : tie.Need-returns
 returns c = sym (first-possible _ (c .if1 .taken))
 
-design-verdict-requires : tie.Need-design-verdict-requires
-design-verdict-requires c κs = search needs
-
 enum-told : tie.Need-enum-told
 enum-told c = search needs
 
@@ -40,9 +37,6 @@ returns-2 : tie.Need-returns-2
 returns-2 c =
     let a = c .before .before in
     illegal _ (a .before .if1 .left) _ (sym (a .design-verdict .ensures) ∙ c .enum-told .given .1)
-
-enum-told-2 : tie.Need-enum-told-2
-enum-told-2 c = search needs
 
 legal : (c : tie.After-enum-told2) → Legal (c .before .before .before .before .before .args .state .design)
 legal c = sym (c .before .before .design-verdict .ensures) ∙ c .enum-told2 .given .1
@@ -61,9 +55,9 @@ is-possible-spec =
     tie.close
     (tie.spec
     returns
-    design-verdict-requires
+    (λ c κs. search needs)
     enum-told
     returns-2
-    enum-told-2
+    (λ c. search needs)
     line-count-requires
     returns-3)

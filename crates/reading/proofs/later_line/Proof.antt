@@ -7,7 +7,7 @@ use native.Mathlib.Omega.{arith}
 use borrow.Author.Needs.{needs}
 use lib.IntN.{ℤ}
 use lib.ListN.{length}
-use Rattle.refusal.proofs.Checks.{tested}
+use Rattle.general.proofs.Tests.{tested}
 use Rattle.design.specs.declared.Design.{Design}
 use Rattle.design.specs.Legal.{Legal}
 use Rattle.tables.specs.Set.{tablesCheck}
@@ -78,12 +78,6 @@ frame-told c answer branch =
     due-told _ _ _ _ (h .before .slot-of .ensures) (h .head-of .ensures .0) (h .head-of .ensures .1) _ _ _ _ _
     (c .before .entry-width .ensures) (c .head-fails .ensures) branch
 
-line-count-requires : tie.Need-line-count-requires
-line-count-requires c κs = search needs
-
-refused-requires : tie.Need-refused-requires
-refused-requires c κs = search needs
-
 returns : tie.Need-returns
 returns c =
     let a = c .before .before in
@@ -91,23 +85,11 @@ returns c =
     refused-outcome _ (s .args .initial .now) (s .args .offsets .now) _ _ _ (c .refused .ensures)
     (nothing-due _ _ (full s) (s .pre .0) _ (s .pre .1) _ _ (rw (a .line-count .ensures) at (c .before .if1 .taken)))
 
-slot-of-requires : tie.Need-slot-of-requires
-slot-of-requires c κs = search needs
-
-head-of-requires : tie.Need-head-of-requires
-head-of-requires c κs = search needs
-
-entry-width-requires : tie.Need-entry-width-requires
-entry-width-requires c κs = search needs
-
 head-fails-requires : tie.Need-head-fails-requires
 head-fails-requires c κs =
     let h = c .before in
     frame-fits _ _ _ _ (h .before .slot-of .ensures) (h .head-of .ensures .0) (h .head-of .ensures .1) _
     (h .before .before .before .before .before .before .pre .1 .legal) (c .entry-width .ensures)
-
-refused-requires-2 : tie.Need-refused-requires-2
-refused-requires-2 c κs = search needs
 
 returns-2 : tie.Need-returns-2
 returns-2 c =
@@ -115,12 +97,6 @@ returns-2 c =
     let s = a .before .before .before .before .before .before .before .before in
     refused-outcome _ (s .args .initial .now) (s .args .offsets .now) _ _ _ (c .refused2 .ensures)
     (other-due _ _ (full s) (s .pre .0) _ (s .pre .1) _ _ (frame-told a _ (c .before .if2 .taken)))
-
-tables-short-requires : tie.Need-tables-short-requires
-tables-short-requires c κs = search needs
-
-refused-requires-3 : tie.Need-refused-requires-3
-refused-requires-3 c κs = search needs
 
 returns-3 : tie.Need-returns-3
 returns-3 c =
@@ -154,12 +130,6 @@ add-t14 c =
     .before .before in
     omega (arith, s .pre .1 .within, lines-small _ (s .pre .1 .legal))
 
-same-length : tie.Need-same-length
-same-length c = search needs
-
-same-length-2 : tie.Need-same-length-2
-same-length-2 c = search needs
-
 returns-4 : tie.Need-returns-4
 returns-4 c =
     let st = c .before .before .before .before in
@@ -178,20 +148,20 @@ pub later-line-spec : {M : Type 1} → statement M
 later-line-spec =
     tie.close
     (tie.spec
-    line-count-requires
-    refused-requires
+    (λ c κs. search needs)
+    (λ c κs. search needs)
     returns
-    slot-of-requires
-    head-of-requires
-    entry-width-requires
+    (λ c κs. search needs)
+    (λ c κs. search needs)
+    (λ c κs. search needs)
     head-fails-requires
-    refused-requires-2
+    (λ c κs. search needs)
     returns-2
-    tables-short-requires
-    refused-requires-3
+    (λ c κs. search needs)
+    (λ c κs. search needs)
     returns-3
     store-requires
     add-t14
-    same-length
-    same-length-2
+    (λ c. search needs)
+    (λ c. search needs)
     returns-4)

@@ -20,61 +20,28 @@ bytes-small s i =
 enum-told : tie.Need-enum-told
 enum-told c = search needs
 
-enum-known-slot : tie.Need-enum-known-slot
-enum-known-slot c = search needs
-
-number-in-requires : tie.Need-number-in-requires
-number-in-requires c κs = search needs
-
-cast-initial : tie.Need-cast-initial
-cast-initial c = search needs
-
-mul-initial : tie.Need-mul-initial
-mul-initial c = search needs
-
 slice-write-initial : tie.Need-slice-write-initial
 slice-write-initial c =
     let s = c .before .before .before .before .before in
     rw (c .before .before .slot .given .1) at (s .pre .0)
-
-enum-known-slot-2 : tie.Need-enum-known-slot-2
-enum-known-slot-2 c = search needs
-
-number-in-requires-2 : tie.Need-number-in-requires-2
-number-in-requires-2 c κs = search needs
 
 from-complement-requires : tie.Need-from-complement-requires
 from-complement-requires c κs =
     let s = c .before .before .before .before .before in
     rw (c .number-in2 .ensures) (bytes-number entryBytes _ (s .args .from) (bytes-small s))
 
-cast-t14 : tie.Need-cast-t14
-cast-t14 c = search needs
-
-mul-t15 : tie.Need-mul-t15
-mul-t15 c = search needs
-
 slice-set-from-offsets : tie.Need-slice-set-from-offsets
 slice-set-from-offsets c =
     let s = c .before .before .before .before .before .before in
     rw (c .before .before .before .slot2 .given .1) at (s .pre .0)
 
-enum-told-2 : tie.Need-enum-told-2
-enum-told-2 c = search needs
-
 returns : tie.Need-returns
 unfolding initialStored offsetsStored
 returns c = rw (c .enum-told .given .1) (refl, refl)
 
-same-length : tie.Need-same-length
-same-length c = search needs
-
 returns-2 : tie.Need-returns-2
 unfolding initialStored offsetsStored
 returns-2 c = rw (c .before .before .slot .given .1, ← c .number-in .ensures) (refl, refl)
-
-same-length-2 : tie.Need-same-length-2
-same-length-2 c = search needs
 
 returns-3 : tie.Need-returns-3
 unfolding initialStored offsetsStored
@@ -93,21 +60,21 @@ store-spec =
     tie.close
     (tie.spec
     enum-told
-    enum-known-slot
-    number-in-requires
-    cast-initial
-    mul-initial
+    (λ c. search needs)
+    (λ c κs. search needs)
+    (λ c. search needs)
+    (λ c. search needs)
     slice-write-initial
-    enum-known-slot-2
-    number-in-requires-2
+    (λ c. search needs)
+    (λ c κs. search needs)
     from-complement-requires
-    cast-t14
-    mul-t15
+    (λ c. search needs)
+    (λ c. search needs)
     slice-set-from-offsets
-    enum-told-2
+    (λ c. search needs)
     returns
-    same-length
+    (λ c. search needs)
     returns-2
-    same-length-2
+    (λ c. search needs)
     returns-3
     returns-4)

@@ -24,20 +24,11 @@ made-bits-word c = with-word (made-limit (c .before .before)) _ (c .word3 .ensur
 abbrev made-bits : (c : tie.After-decimal3) → Made (c .decimal3 .result) 80
 made-bits c = with-decimal (made-bits-word (c .before)) _ (c .decimal3 .ensures)
 
-new-requires : tie.Need-new-requires
-new-requires c κs = search needs
-
-slice-aggregate-word : tie.Need-slice-aggregate-word
-slice-aggregate-word c = search needs
-
 word-requires : tie.Need-word-requires
 word-requires c κs = room (empty (c .before .new .ensures)) _ (omega arith)
 
 decimal-requires : tie.Need-decimal-requires
 decimal-requires c κs = room (made-budget-word c) _ (omega arith)
-
-slice-aggregate-word-2 : tie.Need-slice-aggregate-word-2
-slice-aggregate-word-2 c = search needs
 
 word-requires-2 : tie.Need-word-requires-2
 word-requires-2 c κs = room (made-budget (c .before)) _ (omega arith)
@@ -45,23 +36,14 @@ word-requires-2 c κs = room (made-budget (c .before)) _ (omega arith)
 decimal-requires-2 : tie.Need-decimal-requires-2
 decimal-requires-2 c κs = room (made-limit-word c) _ (omega arith)
 
-slice-aggregate-word-3 : tie.Need-slice-aggregate-word-3
-slice-aggregate-word-3 c = search needs
-
 word-requires-3 : tie.Need-word-requires-3
 word-requires-3 c κs = room (made-limit (c .before)) _ (omega arith)
 
 decimal-requires-3 : tie.Need-decimal-requires-3
 decimal-requires-3 c κs = room (made-bits-word c) _ (omega arith)
 
-slice-aggregate-word-4 : tie.Need-slice-aggregate-word-4
-slice-aggregate-word-4 c = search needs
-
 word-requires-4 : tie.Need-word-requires-4
 word-requires-4 c κs = room (made-bits (c .before .before)) _ (omega arith)
-
-slice-aggregate-word-5 : tie.Need-slice-aggregate-word-5
-slice-aggregate-word-5 c = search needs
 
 word-requires-5 : tie.Need-word-requires-5
 word-requires-5 c κs = room (made-bits (c .before .before)) _ (omega arith)
@@ -82,19 +64,19 @@ pub measured-spec : {M : Type 1} → statement M
 measured-spec =
     tie.close
     (tie.spec
-    new-requires
-    slice-aggregate-word
+    (λ c κs. search needs)
+    (λ c. search needs)
     word-requires
     decimal-requires
-    slice-aggregate-word-2
+    (λ c. search needs)
     word-requires-2
     decimal-requires-2
-    slice-aggregate-word-3
+    (λ c. search needs)
     word-requires-3
     decimal-requires-3
-    slice-aggregate-word-4
+    (λ c. search needs)
     word-requires-4
-    slice-aggregate-word-5
+    (λ c. search needs)
     word-requires-5
     returns
     returns-2)

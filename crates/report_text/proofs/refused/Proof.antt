@@ -12,26 +12,11 @@ made-word c = with-word (empty (c .before .before .new .ensures)) _ (c .word .en
 abbrev made-number : (c : tie.After-decimal) → Made (c .decimal .result) 28
 made-number c = with-decimal (made-word (c .before .before)) _ (c .decimal .ensures)
 
-new-requires : tie.Need-new-requires
-new-requires c κs = search needs
-
-slice-aggregate-word : tie.Need-slice-aggregate-word
-slice-aggregate-word c = search needs
-
 word-requires : tie.Need-word-requires
 word-requires c κs = room (empty (c .before .new .ensures)) _ (omega arith)
 
-number-requires : tie.Need-number-requires
-number-requires c κs = search needs
-
-cast-decimal : tie.Need-cast-decimal
-cast-decimal c = search needs
-
 decimal-requires : tie.Need-decimal-requires
 decimal-requires c κs = room (made-word (c .before)) _ (omega arith)
-
-slice-aggregate-word-2 : tie.Need-slice-aggregate-word-2
-slice-aggregate-word-2 c = search needs
 
 word-requires-2 : tie.Need-word-requires-2
 word-requires-2 c κs = room (made-number (c .before)) _ (omega arith)
@@ -46,12 +31,12 @@ pub refused-spec : {M : Type 1} → statement M
 refused-spec =
     tie.close
     (tie.spec
-    new-requires
-    slice-aggregate-word
+    (λ c κs. search needs)
+    (λ c. search needs)
     word-requires
-    number-requires
-    cast-decimal
+    (λ c κs. search needs)
+    (λ c. search needs)
     decimal-requires
-    slice-aggregate-word-2
+    (λ c. search needs)
     word-requires-2
     returns)

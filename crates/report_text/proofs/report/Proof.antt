@@ -55,15 +55,6 @@ text-is : (d e : Design) (b l n : ℕ) → b ≡ budget d → l ≡ limit d → 
 unfolding designText withinLimit
 text-is d e b l n b-is l-is n-is same = rw (b-is, l-is, n-is, same)
 
-decode-requires : tie.Need-decode-requires
-decode-requires c κs = search needs
-
-enum-known-sound : tie.Need-enum-known-sound
-enum-known-sound c = search needs
-
-refused-requires : tie.Need-refused-requires
-refused-requires c κs = search needs
-
 returns : tie.Need-returns
 returns c =
     c .refused .ensures
@@ -72,26 +63,11 @@ returns c =
 enum-told : tie.Need-enum-told
 enum-told c = search needs
 
-first-verdict-requires : tie.Need-first-verdict-requires
-first-verdict-requires c κs = search needs
-
-enum-known-cause : tie.Need-enum-known-cause
-enum-known-cause c = search needs
-
-refused-requires-2 : tie.Need-refused-requires-2
-refused-requires-2 c κs = search needs
-
 returns-2 : tie.Need-returns-2
 returns-2 c =
     let tried = c .before .before .before .before in
     c .refused2 .ensures
     ∙ frame-refused _ (line-passed (tried .before .before)) _ (frame-answer tried _ (c .before .before .cause .given .1))
-
-enum-told-2 : tie.Need-enum-told-2
-enum-told-2 c = search needs
-
-frame-design-requires : tie.Need-frame-design-requires
-frame-design-requires c κs = search needs
 
 budget-of-requires : tie.Need-budget-of-requires
 budget-of-requires c κs = legal c
@@ -101,9 +77,6 @@ limit-of-requires c κs = legal (c .before)
 
 size-of-requires : tie.Need-size-of-requires
 size-of-requires c κs = legal (c .before .before)
-
-measured-requires : tie.Need-measured-requires
-measured-requires c κs = search needs
 
 returns-3 : tie.Need-returns-3
 returns-3 c =
@@ -118,19 +91,19 @@ pub report-spec : {M : Type 1} → statement M
 report-spec =
     tie.close
     (tie.spec
-    decode-requires
-    enum-known-sound
-    refused-requires
+    (λ c κs. search needs)
+    (λ c. search needs)
+    (λ c κs. search needs)
     returns
     enum-told
-    first-verdict-requires
-    enum-known-cause
-    refused-requires-2
+    (λ c κs. search needs)
+    (λ c. search needs)
+    (λ c κs. search needs)
     returns-2
-    enum-told-2
-    frame-design-requires
+    (λ c. search needs)
+    (λ c κs. search needs)
     budget-of-requires
     limit-of-requires
     size-of-requires
-    measured-requires
+    (λ c κs. search needs)
     returns-3)

@@ -6,24 +6,6 @@ use Rattle.writing.proofs.WriteLaws.{line-given}
 use Rattle.set_console.proofs.print_line.Statement.{statement}
 use Rattle.set_console.proofs.print_line.Tie as tie
 
-slice-aggregate-write-line : tie.Need-slice-aggregate-write-line
-slice-aggregate-write-line c = search needs
-
-write-line-requires : tie.Need-write-line-requires
-write-line-requires c κs = search needs
-
-enum-known-digits : tie.Need-enum-known-digits
-enum-known-digits c = search needs
-
-slice-aggregate-print-digits : tie.Need-slice-aggregate-print-digits
-slice-aggregate-print-digits c = search needs
-
-print-digits-requires : tie.Need-print-digits-requires
-print-digits-requires c κs = search needs
-
-enum-told : tie.Need-enum-told
-enum-told c = search needs
-
 returns : tie.Need-returns
 returns c told =
     let m = c .before .before .before .before in
@@ -36,11 +18,11 @@ pub print-line-spec : {M : Type 1} → statement M
 print-line-spec =
     tie.close
     (tie.spec
-    slice-aggregate-write-line
-    write-line-requires
-    enum-known-digits
-    slice-aggregate-print-digits
-    print-digits-requires
-    enum-told
+    (λ c. search needs)
+    (λ c κs. search needs)
+    (λ c. search needs)
+    (λ c. search needs)
+    (λ c κs. search needs)
+    (λ c. search needs)
     returns
     returns-2)

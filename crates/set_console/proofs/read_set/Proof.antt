@@ -13,14 +13,8 @@ Inv-loop initial₀ offsets₀ state₀ more₀ initial offsets state more = Cam
 abbrev μ-loop : tie.MeasureT-loop
 μ-loop initial₀ offsets₀ state₀ more₀ initial offsets state more = left more (state .taken)
 
-begin-requires : tie.Need-begin-requires Inv-loop μ-loop
-begin-requires c κs = search needs
-
 loop-holds : tie.Need-loop-holds Inv-loop μ-loop
 loop-holds c = came-none _ _ _ (c .begin .ensures) (first-possible _ (c .begin .ensures))
-
-take-line-requires : tie.Need-take-line-requires Inv-loop μ-loop
-take-line-requires c κs = search needs
 
 loop-less : tie.Need-loop-less Inv-loop μ-loop
 loop-less c =
@@ -33,9 +27,6 @@ loop-again : tie.Need-loop-again Inv-loop μ-loop
 loop-again c =
     let t = c .before .before .before .before in
     came-more _ _ _ _ _ (t .before .before .before .before .loop .inv) (t .take-line .ensures)
-
-is-finished-requires : tie.Need-is-finished-requires Inv-loop μ-loop
-is-finished-requires c κs = search needs
 
 same-length : tie.Need-same-length Inv-loop μ-loop
 same-length c = c .before .before .loop .inv .initial-length
@@ -52,12 +43,12 @@ read-set-spec =
     (tie.spec
     Inv-loop
     μ-loop
-    begin-requires
+    (λ c κs. search needs)
     loop-holds
-    take-line-requires
+    (λ c κs. search needs)
     loop-less
     loop-again
-    is-finished-requires
+    (λ c κs. search needs)
     same-length
     same-length-2
     returns)

@@ -3,16 +3,10 @@ use mathlib.Core.Path.{sym, _∙_}
 use mathlib.Core.Bool.{true, false}
 use borrow.Author.Needs.{needs}
 use Rattle.design.specs.Legal.{Legal}
-use Rattle.refusal.proofs.Checks.{tested}
+use Rattle.general.proofs.Tests.{tested}
 use Rattle.tables.proofs.SetLaws.{set-refused, set-lengths}
 use Rattle.tables.proofs.set_verdict.Statement.{statement}
 use Rattle.tables.proofs.set_verdict.Tie as tie
-
-design-verdict-requires : tie.Need-design-verdict-requires
-design-verdict-requires c κs = search needs
-
-enum-known-cause : tie.Need-enum-known-cause
-enum-known-cause c = search needs
 
 returns : tie.Need-returns
 returns c = sym (set-refused _ _ _ _ (sym (c .before .before .before .design-verdict .ensures) ∙ c .before .cause .given .1))
@@ -39,8 +33,8 @@ pub set-verdict-spec : {M : Type 1} → statement M
 set-verdict-spec =
     tie.close
     (tie.spec
-    design-verdict-requires
-    enum-known-cause
+    (λ c κs. search needs)
+    (λ c. search needs)
     returns
     enum-told
     tables-short-requires

@@ -15,9 +15,6 @@ returns : tie.Need-returns
 unfolding initialCount
 returns c = sym (initial-short _ _ _ (rw (c .before .pow2 .ensures) at (c .if1 .taken)))
 
-offset-total-requires : tie.Need-offset-total-requires
-offset-total-requires c κs = search needs
-
 returns-2 : tie.Need-returns-2
 unfolding initialCount
 returns-2 c =
@@ -26,4 +23,10 @@ returns-2 c =
     rw (c .offset-total .ensures) (sym (offsets-tried (a .d) (a .initial) (a .offsets) long))
 
 pub tables-short-spec : {M : Type 1} → statement M
-tables-short-spec = tie.close (tie.spec pow2-requires returns offset-total-requires returns-2)
+tables-short-spec =
+    tie.close
+    (tie.spec
+    pow2-requires
+    returns
+    (λ c κs. search needs)
+    returns-2)

@@ -68,15 +68,6 @@ passed c = sym (judged (c .before .before)) ∙ c .enum-told .given .1
 limits : (c : tie.After-enum-told) → let a = c .before .before .before .before .args in Widths (a .kind) (a .w) (a .q) (a .g)
 limits c = widths-of _ _ _ _ (passed c)
 
-limits-of-requires : tie.Need-limits-of-requires
-limits-of-requires c κs = search needs
-
-width-verdict-requires : tie.Need-width-verdict-requires
-width-verdict-requires c κs = search needs
-
-enum-known-cause : tie.Need-enum-known-cause
-enum-known-cause c = search needs
-
 returns : tie.Need-returns
 returns c = refused _ _ _ _ _ _ (sym (judged (c .before .before .before)) ∙ c .before .cause .given .1)
 
@@ -113,9 +104,9 @@ pub value-spec : {M : Type 1} → statement M
 value-spec =
     tie.close
     (tie.spec
-    limits-of-requires
-    width-verdict-requires
-    enum-known-cause
+    (λ c κs. search needs)
+    (λ c κs. search needs)
+    (λ c. search needs)
     returns
     enum-told
     pow2-requires

@@ -11,42 +11,15 @@ use Rattle.writing.proofs.entry_fits.Tie as tie
 enum-told : tie.Need-enum-told
 enum-told c = search needs
 
-enum-known-slot : tie.Need-enum-known-slot
-enum-known-slot c = search needs
-
-cast-fits : tie.Need-cast-fits
-cast-fits c = search needs
-
-mul-fits : tie.Need-mul-fits
-mul-fits c = search needs
-
 shared-slice-read-fits : tie.Need-shared-slice-read-fits
 shared-slice-read-fits c =
     let b = c .before .before in
     rw (b .slot .given .1) at (b .before .before .before .pre)
 
-fits-requires : tie.Need-fits-requires
-fits-requires c κs = search needs
-
-enum-known-slot-2 : tie.Need-enum-known-slot-2
-enum-known-slot-2 c = search needs
-
-cast-fits-signed : tie.Need-cast-fits-signed
-cast-fits-signed c = search needs
-
-mul-fits-signed : tie.Need-mul-fits-signed
-mul-fits-signed c = search needs
-
 shared-slice-copy-out-fits-signed : tie.Need-shared-slice-copy-out-fits-signed
 shared-slice-copy-out-fits-signed c =
     let b = c .before in
     rw (b .slot2 .given .1) at (b .before .before .before .pre)
-
-fits-signed-requires : tie.Need-fits-signed-requires
-fits-signed-requires c κs = search needs
-
-enum-told-2 : tie.Need-enum-told-2
-enum-told-2 c = search needs
 
 returns : tie.Need-returns
 unfolding entryFits
@@ -71,17 +44,17 @@ entry-fits-spec =
     tie.close
     (tie.spec
     enum-told
-    enum-known-slot
-    cast-fits
-    mul-fits
+    (λ c. search needs)
+    (λ c. search needs)
+    (λ c. search needs)
     shared-slice-read-fits
-    fits-requires
-    enum-known-slot-2
-    cast-fits-signed
-    mul-fits-signed
+    (λ c κs. search needs)
+    (λ c. search needs)
+    (λ c. search needs)
+    (λ c. search needs)
     shared-slice-copy-out-fits-signed
-    fits-signed-requires
-    enum-told-2
+    (λ c κs. search needs)
+    (λ c. search needs)
     returns
     returns-2
     returns-3

@@ -11,28 +11,10 @@ use Rattle.writing.proofs.entry_number.Tie as tie
 enum-told : tie.Need-enum-told
 enum-told c = search needs
 
-enum-known-slot : tie.Need-enum-known-slot
-enum-known-slot c = search needs
-
-cast-result : tie.Need-cast-result
-cast-result c = search needs
-
-mul-result : tie.Need-mul-result
-mul-result c = search needs
-
 shared-slice-read-result : tie.Need-shared-slice-read-result
 shared-slice-read-result c =
     let b = c .before .before in
     rw (b .slot .given .1) at (b .before .before .before .pre .0)
-
-enum-known-slot-2 : tie.Need-enum-known-slot-2
-enum-known-slot-2 c = search needs
-
-cast-complement : tie.Need-cast-complement
-cast-complement c = search needs
-
-mul-complement : tie.Need-mul-complement
-mul-complement c = search needs
 
 shared-slice-copy-out-complement : tie.Need-shared-slice-copy-out-complement
 shared-slice-copy-out-complement c =
@@ -45,9 +27,6 @@ complement-requires c κs =
     let b = c .before .before in
     let read = toZ-ofZ w32 _ (record { sfits = c .complement-arg .given }) in
     ap (fitsSigned entryBytes) read ∙ (rw (b .slot2 .given .1) at (b .before .before .before .pre .1))
-
-enum-told-2 : tie.Need-enum-told-2
-enum-told-2 c = search needs
 
 returns : tie.Need-returns
 unfolding entryNumber
@@ -72,16 +51,16 @@ entry-number-spec =
     tie.close
     (tie.spec
     enum-told
-    enum-known-slot
-    cast-result
-    mul-result
+    (λ c. search needs)
+    (λ c. search needs)
+    (λ c. search needs)
     shared-slice-read-result
-    enum-known-slot-2
-    cast-complement
-    mul-complement
+    (λ c. search needs)
+    (λ c. search needs)
+    (λ c. search needs)
     shared-slice-copy-out-complement
     complement-requires
-    enum-told-2
+    (λ c. search needs)
     returns
     returns-2
     returns-3

@@ -27,12 +27,6 @@ use Rattle.writing.proofs.WriteLaws.{
 use Rattle.writing.proofs.write_line.Statement.{statement}
 use Rattle.writing.proofs.write_line.Tie as tie
 
-set-verdict-requires : tie.Need-set-verdict-requires
-set-verdict-requires c κs = search needs
-
-enum-known-cause : tie.Need-enum-known-cause
-enum-known-cause c = search needs
-
 returns : tie.Need-returns
 returns c =
     let b = c .before in
@@ -65,9 +59,6 @@ slot-of-requires c κs = record { legal = set (c .before .before) .legal; within
 head-of-requires : tie.Need-head-of-requires
 head-of-requires c κs = set (c .before .before .before) .legal
 
-entry-width-requires : tie.Need-entry-width-requires
-entry-width-requires c κs = search needs
-
 -- what is known of the asked line
 asked : (c : tie.After-entry-width) →
     let h = c .before in
@@ -97,12 +88,6 @@ mul-digits c = omega (arith, asked-short (asked (c .before)))
 entry-fits-requires : tie.Need-entry-fits-requires
 entry-fits-requires c κs = asked-in (asked (c .before))
 
-line-verdict-requires : tie.Need-line-verdict-requires
-line-verdict-requires c κs = search needs
-
-enum-known-cause-2 : tie.Need-enum-known-cause-2
-enum-known-cause-2 c = search needs
-
 -- the writer's verdict is that of the line
 line-settles : (c : tie.After-line-verdict) →
     let a = c .before .before .before .before .before .before .before .before .before .before .before .before .before .args in
@@ -115,9 +100,6 @@ returns-3 : tie.Need-returns-3
 returns-3 c =
     let b = c .before in
     refuses _ _ _ _ _ (line-settles (b .before .before) ∙ b .cause2 .given .1)
-
-enum-told-2 : tie.Need-enum-told-2
-enum-told-2 c = search needs
 
 -- where the line's verdict passed
 line-good : (c : tie.After-enum-told2) →
@@ -145,9 +127,6 @@ put-line-requires c κs =
     let a = asked (told .before .before .before .before .before) in
     record { short = omega (arith, w .with .ensures .1, asked-short a); long = omega (arith, w .with .ensures .1, line-good told .1) }
 
-same-length : tie.Need-same-length
-same-length c = search needs
-
 returns-4 : tie.Need-returns-4
 returns-4 c =
     let p = c .before .before in
@@ -161,25 +140,25 @@ pub write-line-spec : {M : Type 1} → statement M
 write-line-spec =
     tie.close
     (tie.spec
-    set-verdict-requires
-    enum-known-cause
+    (λ c κs. search needs)
+    (λ c. search needs)
     returns
     enum-told
     line-count-requires
     returns-2
     slot-of-requires
     head-of-requires
-    entry-width-requires
+    (λ c κs. search needs)
     add-digits
     add-digits-2
     mul-digits
     entry-fits-requires
-    line-verdict-requires
-    enum-known-cause-2
+    (λ c κs. search needs)
+    (λ c. search needs)
     returns-3
-    enum-told-2
+    (λ c. search needs)
     entry-number-requires
     with-requires
     put-line-requires
-    same-length
+    (λ c. search needs)
     returns-4)

@@ -1,5 +1,5 @@
 -- `design::legal::breaks` meets its contract: by the rule, and for 8 the first test settles the answer where it holds.
-use Rattle.refusal.proofs.Checks.{tested}
+use Rattle.general.proofs.Tests.{tested}
 use Rattle.design.specs.Legal as Legal
 use borrow.Author.Needs.{needs}
 use Rattle.design.proofs.legal.breaks.Statement.{statement}
@@ -7,24 +7,6 @@ use Rattle.design.proofs.legal.breaks.Tie as tie
 
 enum-told : tie.Need-enum-told
 enum-told c = search needs
-
-outside-requires : tie.Need-outside-requires
-outside-requires c κs = search needs
-
-enum-told-2 : tie.Need-enum-told-2
-enum-told-2 c = search needs
-
-outside-requires-2 : tie.Need-outside-requires-2
-outside-requires-2 c κs = search needs
-
-cast-result : tie.Need-cast-result
-cast-result c = search needs
-
-cast-result-2 : tie.Need-cast-result-2
-cast-result-2 c = search needs
-
-add-result : tie.Need-add-result
-add-result c = search needs
 
 returns : tie.Need-returns
 unfolding Legal.breaks
@@ -46,12 +28,12 @@ breaks-spec =
     tie.close
     (tie.spec
     enum-told
-    outside-requires
-    enum-told-2
-    outside-requires-2
-    cast-result
-    cast-result-2
-    add-result
+    (λ c κs. search needs)
+    (λ c. search needs)
+    (λ c κs. search needs)
+    (λ c. search needs)
+    (λ c. search needs)
+    (λ c. search needs)
     returns
     returns-2
     returns-3)

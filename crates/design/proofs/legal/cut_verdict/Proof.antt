@@ -8,7 +8,8 @@ use lib.Dec.{leb, eqb}
 use Rattle.refusal.specs.declared.Cause.{Cause}
 use Rattle.refusal.specs.declared.Verdict.{Verdict}
 use Rattle.refusal.specs.Checks.{outside, refuses, verdict}
-use Rattle.refusal.proofs.Checks.{inside, tested}
+use Rattle.refusal.proofs.Checks.{inside}
+use Rattle.general.proofs.Tests.{tested}
 use Rattle.design.specs.Limits.{leastInitialBits, mostInitialBits, mostTables}
 use Rattle.design.specs.declared.legal.TableRule.{TableRule}
 use Rattle.design.specs.Cut.{position}
@@ -37,9 +38,6 @@ offsets-passed : (c : tie.Else5)
     someBelow (d .m) (tableBreaks TableRule.OffsetBits d) ≡ false
 offsets-passed c = tested (c .before .some-table-breaks2 .ensures) (c .if5 .left)
 
-outside-requires : tie.Need-outside-requires
-outside-requires c κs = search needs
-
 returns : tie.Need-returns
 unfolding cutChecks
 returns c = rw (tested (c .before .outside .ensures) (c .if1 .taken))
@@ -47,9 +45,6 @@ returns c = rw (tested (c .before .outside .ensures) (c .if1 .taken))
 returns-2 : tie.Need-returns-2
 unfolding cutChecks
 returns-2 c = rw (alpha-passed (c .before .before), le-leb _ _ (c .if2 .taken))
-
-outside-requires-2 : tie.Need-outside-requires-2
-outside-requires-2 c κs = search needs
 
 returns-3 : tie.Need-returns-3
 unfolding cutChecks
@@ -88,12 +83,6 @@ returns-5 c =
 offset-bits-requires : tie.Need-offset-bits-requires
 offset-bits-requires c κs = inside 1 mostTables _ (m-passed (c .before .before .before .before)) .1
 
-sub-if6 : tie.Need-sub-if6
-sub-if6 c = search needs
-
-cast-if6 : tie.Need-cast-if6
-cast-if6 c = search needs
-
 -- only the sum is left to be tested
 sum-left : (c : tie.Else5)
     → let d = c .before .before .before .before .before .before .before .before .before .before .args .d in
@@ -120,17 +109,17 @@ pub cut-verdict-spec : {M : Type 1} → statement M
 cut-verdict-spec =
     tie.close
     (tie.spec
-    outside-requires
+    (λ c κs. search needs)
     returns
     returns-2
-    outside-requires-2
+    (λ c κs. search needs)
     returns-3
     some-table-breaks-requires
     returns-4
     some-table-breaks-requires-2
     returns-5
     offset-bits-requires
-    sub-if6
-    cast-if6
+    (λ c. search needs)
+    (λ c. search needs)
     returns-6
     returns-7)

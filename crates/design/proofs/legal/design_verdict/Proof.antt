@@ -27,23 +27,11 @@ judged : (c : tie.After-width-verdict) → let d = c .before .before .args .d in
     c .width-verdict .result ≡ verdict (widthChecks (limitsOf (d .kind)) (d .kind) (d .w) (d .q) (d .g))
 judged c = rw (← c .before .limits-of .ensures) (c .width-verdict .ensures)
 
-limits-of-requires : tie.Need-limits-of-requires
-limits-of-requires c κs = search needs
-
-width-verdict-requires : tie.Need-width-verdict-requires
-width-verdict-requires c κs = search needs
-
-enum-known-cause : tie.Need-enum-known-cause
-enum-known-cause c = search needs
-
 returns : tie.Need-returns
 returns c = refused _ _ (sym (judged (c .before .before .before)) ∙ c .before .cause .given .1)
 
 enum-told : tie.Need-enum-told
 enum-told c = search needs
-
-cut-verdict-requires : tie.Need-cut-verdict-requires
-cut-verdict-requires c κs = search needs
 
 returns-2 : tie.Need-returns-2
 returns-2 c =
@@ -53,10 +41,10 @@ pub design-verdict-spec : {M : Type 1} → statement M
 design-verdict-spec =
     tie.close
     (tie.spec
-    limits-of-requires
-    width-verdict-requires
-    enum-known-cause
+    (λ c κs. search needs)
+    (λ c κs. search needs)
+    (λ c. search needs)
     returns
     enum-told
-    cut-verdict-requires
+    (λ c κs. search needs)
     returns-2)

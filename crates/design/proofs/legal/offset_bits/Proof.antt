@@ -23,9 +23,6 @@ loop-holds c = (refl, omega arith, omega arith)
 pair-at-requires : tie.Need-pair-at-requires Inv-loop μ-loop
 pair-at-requires c κs = (omega arith, omega arith)
 
-cast-bits : tie.Need-cast-bits Inv-loop μ-loop
-cast-bits c = search needs
-
 add-bits : tie.Need-add-bits Inv-loop μ-loop
 add-bits c = omega arith
 
@@ -54,7 +51,7 @@ offset-bits-spec =
     μ-loop
     loop-holds
     pair-at-requires
-    cast-bits
+    (λ c. search needs)
     add-bits
     add-i
     loop-less

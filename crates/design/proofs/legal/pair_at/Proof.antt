@@ -15,18 +15,6 @@ read : (d : Design) (i place : ℕ) → i ≡ place → i < d .m → getD (d .pa
 unfolding pairAt tables
 read d i place e h = rw (← e) (sym (getD-take _ _ _ _ h))
 
-element-copy-out-result : tie.Need-element-copy-out-result
-element-copy-out-result c = search needs
-
-element-copy-out-result-2 : tie.Need-element-copy-out-result-2
-element-copy-out-result-2 c = search needs
-
-element-copy-out-result-3 : tie.Need-element-copy-out-result-3
-element-copy-out-result-3 c = search needs
-
-element-copy-out-result-4 : tie.Need-element-copy-out-result-4
-element-copy-out-result-4 c = search needs
-
 returns : tie.Need-returns
 returns c = read _ _ 0 (c .before .match .keys1) (c .before .before .pre .0)
 
@@ -43,10 +31,10 @@ pub pair-at-spec : {M : Type 1} → statement M
 pair-at-spec =
     tie.close
     (tie.spec
-    element-copy-out-result
-    element-copy-out-result-2
-    element-copy-out-result-3
-    element-copy-out-result-4
+    (λ c. search needs)
+    (λ c. search needs)
+    (λ c. search needs)
+    (λ c. search needs)
     returns
     returns-2
     returns-3

@@ -77,9 +77,6 @@ loop-again c =
       );
     }
 
-cast-result : tie.Need-cast-result Inv-loop μ-loop
-cast-result c = search needs
-
 add-result : tie.Need-add-result Inv-loop μ-loop
 add-result c = omega arith
 
@@ -109,7 +106,7 @@ budget-of-spec =
     add-i
     loop-less
     loop-again
-    cast-result
+    (λ c. search needs)
     add-result
     mul-result
     add-result-2

@@ -31,9 +31,6 @@ cast-bytes c = omega arith
 shr-bytes : tie.Need-shr-bytes Inv-loop μ-loop
 shr-bytes c = omega arith
 
-cast-bytes-2 : tie.Need-cast-bytes-2 Inv-loop μ-loop
-cast-bytes-2 c = search needs
-
 array-write-bytes : tie.Need-array-write-bytes Inv-loop μ-loop
 array-write-bytes c = omega arith
 
@@ -60,7 +57,7 @@ with-spec =
     mul-bytes
     cast-bytes
     shr-bytes
-    cast-bytes-2
+    (λ c. search needs)
     array-write-bytes
     add-at
     loop-less

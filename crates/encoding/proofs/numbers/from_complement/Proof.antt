@@ -26,14 +26,8 @@ module _ (n : ℕ) (small : n < whole) where
     difference-read : toZ w32 (ofZ w32 (toZ w32 n -ℤ pos whole)) ≡ fromComplement entryBytes n
     difference-read = toZ-ofZ w32 _ difference-fits ∙ difference
 
-cast-result : tie.Need-cast-result
-cast-result c = search needs
-
 returns : tie.Need-returns
 returns c = count _ (c .before .pre) ∙ lower-half _ (c .if1 .taken)
-
-cast-result-2 : tie.Need-cast-result-2
-cast-result-2 c = search needs
 
 sub-result : tie.Need-sub-result
 sub-result c = difference-fits _ (c .before .pre) (c .if1 .left)
@@ -42,4 +36,11 @@ returns-2 : tie.Need-returns-2
 returns-2 c = difference-read _ (c .before .pre) (c .if1 .left)
 
 pub from-complement-spec : {M : Type 1} → statement M
-from-complement-spec = tie.close (tie.spec cast-result returns cast-result-2 sub-result returns-2)
+from-complement-spec =
+    tie.close
+    (tie.spec
+    (λ c. search needs)
+    returns
+    (λ c. search needs)
+    sub-result
+    returns-2)

@@ -31,9 +31,6 @@ add-number c = omega arith
 array-read-number : tie.Need-array-read-number Inv-loop μ-loop
 array-read-number c = omega arith
 
-cast-number : tie.Need-cast-number Inv-loop μ-loop
-cast-number c = search needs
-
 -- the byte that a turn reads
 byte-small : (c : tie.In-loop Inv-loop μ-loop) → let a = c .before .before .args in Fits w8 (getD (a .t1) (a .from + c .before .loop .i) 0)
 byte-small c = search needs
@@ -63,7 +60,7 @@ number-in-spec =
     mul-number
     add-number
     array-read-number
-    cast-number
+    (λ c. search needs)
     add-number-2
     add-i
     loop-less

@@ -23,21 +23,6 @@ module _ (d : Design) (l : Limits d) where
   limit-small : 2 ^ (d .q + d .g + 2) ≤ entryBound
   limit-small = pow-mono {j = finestUnit + 2} (omega (arith, l .widths .room .s-small))
 
-offset-total-requires : tie.Need-offset-total-requires
-offset-total-requires c κs = search needs
-
-largest-magnitude-requires : tie.Need-largest-magnitude-requires
-largest-magnitude-requires c κs = search needs
-
-cast-size : tie.Need-cast-size
-cast-size c = search needs
-
-add-size : tie.Need-add-size
-add-size c = search needs
-
-cast-reach : tie.Need-cast-reach
-cast-reach c = search needs
-
 mul-reach : tie.Need-mul-reach
 mul-reach c =
     let b = c .before in
@@ -59,12 +44,6 @@ cast-some-outside : tie.Need-cast-some-outside
 cast-some-outside c =
     let l = limits _ (c .before .before .before .before .before .before .before .pre .legal) in
     record { fits = omega (arith, c .if1 .left, c .before .pow2 .ensures, limit-small _ l) }
-
-sub-some-outside : tie.Need-sub-some-outside
-sub-some-outside c = search needs
-
-sub-some-outside-2 : tie.Need-sub-some-outside-2
-sub-some-outside-2 c = search needs
 
 cast-some-outside-2 : tie.Need-cast-some-outside-2
 cast-some-outside-2 c =
@@ -95,19 +74,19 @@ pub sums-in-range-spec : {M : Type 1} → statement M
 sums-in-range-spec =
     tie.close
     (tie.spec
-    offset-total-requires
-    largest-magnitude-requires
-    cast-size
-    add-size
-    cast-reach
+    (λ c κs. search needs)
+    (λ c κs. search needs)
+    (λ c. search needs)
+    (λ c. search needs)
+    (λ c. search needs)
     mul-reach
     add-pow2
     add-pow2-2
     pow2-requires
     returns
     cast-some-outside
-    sub-some-outside
-    sub-some-outside-2
+    (λ c. search needs)
+    (λ c. search needs)
     cast-some-outside-2
     pow2-requires-2
     some-outside-requires

@@ -3,21 +3,15 @@ use borrow.Author.Needs.{needs}
 use Rattle.exports.proofs.design_numbers.verdict_number.Statement.{statement}
 use Rattle.exports.proofs.design_numbers.verdict_number.Tie as tie
 
-enum-told : tie.Need-enum-told
-enum-told c = search needs
-
-enum-known-verdict : tie.Need-enum-known-verdict
-enum-known-verdict c = search needs
-
-number-requires : tie.Need-number-requires
-number-requires c κs = search needs
-
-returns : tie.Need-returns
-returns c = search needs
-
 returns-2 : tie.Need-returns-2
 returns-2 c = rw (c .before .before .verdict .given .1) (c .number .ensures)
 
 pub verdict-number-spec : {M : Type 1} → statement M
 verdict-number-spec =
-    tie.close (tie.spec enum-told enum-known-verdict number-requires returns returns-2)
+    tie.close
+    (tie.spec
+    (λ c. search needs)
+    (λ c. search needs)
+    (λ c κs. search needs)
+    (λ c. search needs)
+    returns-2)

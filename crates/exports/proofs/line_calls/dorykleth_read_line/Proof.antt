@@ -7,24 +7,6 @@ use Rattle.exports.specs.Numbers.{numbersOf}
 use Rattle.exports.proofs.line_calls.dorykleth_read_line.Statement.{statement}
 use Rattle.exports.proofs.line_calls.dorykleth_read_line.Tie as tie
 
-design-of-requires : tie.Need-design-of-requires
-design-of-requires c κs = search needs
-
-read-line-requires : tie.Need-read-line-requires
-read-line-requires c κs = search needs
-
-put-design-requires : tie.Need-put-design-requires
-put-design-requires c κs = search needs
-
-verdict-number-requires : tie.Need-verdict-number-requires
-verdict-number-requires c κs = search needs
-
-same-length : tie.Need-same-length
-same-length c = search needs
-
-same-length-2 : tie.Need-same-length-2
-same-length-2 c = search needs
-
 returns : tie.Need-returns
 unfolding readAnswer
 returns c =
@@ -42,10 +24,10 @@ pub dorykleth-read-line-spec : {M : Type 1} → statement M
 dorykleth-read-line-spec =
     tie.close
     (tie.spec
-    design-of-requires
-    read-line-requires
-    put-design-requires
-    verdict-number-requires
-    same-length
-    same-length-2
+    (λ c κs. search needs)
+    (λ c κs. search needs)
+    (λ c κs. search needs)
+    (λ c κs. search needs)
+    (λ c. search needs)
+    (λ c. search needs)
     returns)

@@ -4,11 +4,12 @@ use borrow.Author.Needs.{needs}
 use Rattle.exports.proofs.line_calls.dorykleth_report.Statement.{statement}
 use Rattle.exports.proofs.line_calls.dorykleth_report.Tie as tie
 
-report-requires : tie.Need-report-requires
-report-requires c κs = search needs
-
 returns : tie.Need-returns
 returns c = rw (← c .before .report .ensures) (refl, refl)
 
 pub dorykleth-report-spec : {M : Type 1} → statement M
-dorykleth-report-spec = tie.close (tie.spec report-requires returns)
+dorykleth-report-spec =
+    tie.close
+    (tie.spec
+    (λ c κs. search needs)
+    returns)

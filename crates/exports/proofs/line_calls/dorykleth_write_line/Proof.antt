@@ -4,33 +4,12 @@ use borrow.Author.Needs.{needs}
 use Rattle.exports.proofs.line_calls.dorykleth_write_line.Statement.{statement}
 use Rattle.exports.proofs.line_calls.dorykleth_write_line.Tie as tie
 
-design-of-requires : tie.Need-design-of-requires
-design-of-requires c κs = search needs
-
-write-line-requires : tie.Need-write-line-requires
-write-line-requires c κs = search needs
-
-enum-known-count : tie.Need-enum-known-count
-enum-known-count c = search needs
-
-enum-known-cause : tie.Need-enum-known-cause
-enum-known-cause c = search needs
-
-number-requires : tie.Need-number-requires
-number-requires c κs = search needs
-
-same-length : tie.Need-same-length
-same-length c = search needs
-
 returns : tie.Need-returns
 returns c =
     let m = c .before in
     let a = m .before .before .before .before in
     rw (← a .before .before .design-of .ensures, ← a .write-line .ensures .1 .0, m .count .given .1)
     (refl, (a .write-line .ensures .1 .1, refl))
-
-same-length-2 : tie.Need-same-length-2
-same-length-2 c = search needs
 
 returns-2 : tie.Need-returns-2
 returns-2 c =
@@ -43,12 +22,12 @@ pub dorykleth-write-line-spec : {M : Type 1} → statement M
 dorykleth-write-line-spec =
     tie.close
     (tie.spec
-    design-of-requires
-    write-line-requires
-    enum-known-count
-    enum-known-cause
-    number-requires
-    same-length
+    (λ c κs. search needs)
+    (λ c κs. search needs)
+    (λ c. search needs)
+    (λ c. search needs)
+    (λ c κs. search needs)
+    (λ c. search needs)
     returns
-    same-length-2
+    (λ c. search needs)
     returns-2)

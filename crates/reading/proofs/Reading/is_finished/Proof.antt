@@ -4,14 +4,11 @@ use mathlib.Core.Bool.{true}
 use mathlib.Core.Logic.{⊎-elim}
 use native.Mathlib.Omega.{arith}
 use borrow.Author.Needs.{needs}
-use Rattle.refusal.proofs.Checks.{tested}
+use Rattle.general.proofs.Tests.{tested}
 use Rattle.reading.specs.ReadLine.{possible}
 use Rattle.reading.proofs.ReadLaws.{begun, not-begun, not-possible, by-count}
 use Rattle.reading.proofs.Reading.is_finished.Statement.{statement}
 use Rattle.reading.proofs.Reading.is_finished.Tie as tie
-
-is-possible-requires : tie.Need-is-possible-requires
-is-possible-requires c κs = search needs
 
 -- where the state is possible
 state-possible : (c : tie.Then2) → possible (c .before .before .before .args .self) ≡ true
@@ -28,4 +25,10 @@ returns-2 c =
     sym (⊎-elim (λ w. not-possible _ (tested (w .1 .ensures) (w .2 .left))) (λ w. not-begun _ (w .left)) (c .if1 .came))
 
 pub is-finished-spec : {M : Type 1} → statement M
-is-finished-spec = tie.close (tie.spec is-possible-requires line-count-requires returns returns-2)
+is-finished-spec =
+    tie.close
+    (tie.spec
+    (λ c κs. search needs)
+    line-count-requires
+    returns
+    returns-2)

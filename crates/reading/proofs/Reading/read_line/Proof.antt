@@ -6,7 +6,7 @@ use native.Mathlib.Omega.{arith}
 use borrow.Author.Needs.{needs}
 use borrow.Author.Tests.{not-true, not-false}
 use Rattle.refusal.specs.declared.Verdict.{Verdict}
-use Rattle.refusal.proofs.Checks.{tested}
+use Rattle.general.proofs.Tests.{tested}
 use Rattle.frames.proofs.LineLaws.{line-told}
 use Rattle.reading.specs.ReadLine.{possible}
 use Rattle.reading.proofs.ReadLaws.{begun}
@@ -22,27 +22,12 @@ state-possible c = tested (c .before .is-possible .ensures) (not-false _ (c .if1
 held-passed : (c : tie.After-enum-told) → c .before .before .before .decode .result .verdict ≡ Verdict.Passed
 held-passed c = c .enum-told .given .1
 
-is-possible-requires : tie.Need-is-possible-requires
-is-possible-requires c κs = search needs
-
-refused-requires : tie.Need-refused-requires
-refused-requires c κs = search needs
-
 returns : tie.Need-returns
 returns c =
     let a = c .before .before in
     let s = a .before .before .before in
     impossible _ (s .args .initial .now) (s .args .offsets .now) _ _ (c .refused .ensures)
     (tested (a .is-possible .ensures) (not-true _ (c .before .if1 .taken)))
-
-decode-requires : tie.Need-decode-requires
-decode-requires c κs = search needs
-
-enum-known-sound : tie.Need-enum-known-sound
-enum-known-sound c = search needs
-
-refused-requires-2 : tie.Need-refused-requires-2
-refused-requires-2 c κs = search needs
 
 returns-2 : tie.Need-returns-2
 returns-2 c =
@@ -77,12 +62,6 @@ later-line-requires c κs =
       begun _ (omega (arith, i .if2 .left)) (state-possible (d .before)),
     )
 
-same-length : tie.Need-same-length
-same-length c = search needs
-
-same-length-2 : tie.Need-same-length-2
-same-length-2 c = search needs
-
 returns-4 : tie.Need-returns-4
 returns-4 c =
     let l = c .before .before .before in
@@ -97,17 +76,17 @@ pub read-line-spec : {M : Type 1} → statement M
 read-line-spec =
     tie.close
     (tie.spec
-    is-possible-requires
-    refused-requires
+    (λ c κs. search needs)
+    (λ c κs. search needs)
     returns
-    decode-requires
-    enum-known-sound
-    refused-requires-2
+    (λ c κs. search needs)
+    (λ c. search needs)
+    (λ c κs. search needs)
     returns-2
     enum-told
     first-line-requires
     returns-3
     later-line-requires
-    same-length
-    same-length-2
+    (λ c. search needs)
+    (λ c. search needs)
     returns-4)

@@ -12,9 +12,6 @@ sub-count c = let p = c .before .before .pre in shift-within _ (limits _ (p .0))
 shl-count : tie.Need-shl-count
 shl-count c = omega (arith, limits _ (c .before .before .pre .0) .widths .room .w-small)
 
-add-lookup-of : tie.Need-add-lookup-of
-add-lookup-of c = search needs
-
 add-lookup-of-2 : tie.Need-add-lookup-of-2
 add-lookup-of-2 c =
     let p = c .before .before .before .pre in
@@ -32,17 +29,14 @@ lookup-of-requires c κs =
     let l = limits _ (p .0) in
     (p .0, (position-next _ l _ _ (p .1 .1), start-next _ l _ _ (p .1 .1)))
 
-returns : tie.Need-returns
-returns c = search needs
-
 pub lookup-after-spec : {M : Type 1} → statement M
 lookup-after-spec =
     tie.close
     (tie.spec
     sub-count
     shl-count
-    add-lookup-of
+    (λ c. search needs)
     add-lookup-of-2
     add-lookup-of-3
     lookup-of-requires
-    returns)
+    (λ c. search needs))

@@ -12,15 +12,6 @@ lookup-of-requires : tie.Need-lookup-of-requires
 unfolding position tableStart sumBelow
 lookup-of-requires c κs = (c .pre, (refl, refl))
 
-lookup-after-requires : tie.Need-lookup-after-requires
-lookup-after-requires c κs = search needs
-
-lookup-after-requires-2 : tie.Need-lookup-after-requires-2
-lookup-after-requires-2 c κs = search needs
-
-lookup-after-requires-3 : tie.Need-lookup-after-requires-3
-lookup-after-requires-3 c κs = search needs
-
 returns : tie.Need-returns
 unfolding lookupsOf
 returns c = cc
@@ -30,7 +21,7 @@ lookups-of-spec =
     tie.close
     (tie.spec
     lookup-of-requires
-    lookup-after-requires
-    lookup-after-requires-2
-    lookup-after-requires-3
+    (λ c κs. search needs)
+    (λ c κs. search needs)
+    (λ c κs. search needs)
     returns)

@@ -33,15 +33,6 @@ place-is : (lookup : Lookup) (near x : ℕ) → Small lookup →
 unfolding placeAt
 place-is lookup near x small = rw (shl-one (lookup .b) (omega arith))
 
-shl-size : tie.Need-shl-size
-shl-size c = search needs
-
-shr-top : tie.Need-shr-top
-shr-top c = search needs
-
-shr-low : tie.Need-shr-low
-shr-low c = search needs
-
 rem-result : tie.Need-rem-result
 rem-result c = size-pos _ (omega (arith, c .before .before .before .pre .0))
 
@@ -69,9 +60,9 @@ pub place-of-spec : {M : Type 1} → statement M
 place-of-spec =
     tie.close
     (tie.spec
-    shl-size
-    shr-top
-    shr-low
+    (λ c. search needs)
+    (λ c. search needs)
+    (λ c. search needs)
     rem-result
     sub-result
     rem-result-2

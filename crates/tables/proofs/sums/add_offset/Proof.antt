@@ -54,18 +54,6 @@ module _ (offsets : List ℤ) (sum held : ℤ) (place here : ℕ) (held-is : hel
     subst (λ (z : ℤ). mag z ≤ mag sum + 2 ^ 32) (sym added) (omega (arith, mag-add sum offset)),
   )
 
-place-of-requires : tie.Need-place-of-requires
-place-of-requires c κs = search needs
-
-cast-offset : tie.Need-cast-offset
-cast-offset c = search needs
-
-mul-offset : tie.Need-mul-offset
-mul-offset c = search needs
-
-shared-slice-copy-out-offset : tie.Need-shared-slice-copy-out-offset
-shared-slice-copy-out-offset c = search needs
-
 cast-t12 : tie.Need-cast-t12
 cast-t12 c = narrow-fits (getD (c .before .before .args .offsets .now) (c .before .place-of .result) (pos 0)) (c .offset .given)
 
@@ -89,10 +77,10 @@ pub add-offset-spec : {M : Type 1} → statement M
 add-offset-spec =
     tie.close
     (tie.spec
-    place-of-requires
-    cast-offset
-    mul-offset
-    shared-slice-copy-out-offset
+    (λ c κs. search needs)
+    (λ c. search needs)
+    (λ c. search needs)
+    (λ c. search needs)
     cast-t12
     add-t13
     returns)

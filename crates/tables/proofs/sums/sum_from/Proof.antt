@@ -17,9 +17,6 @@ use Rattle.tables.proofs.sums.sum_from.Tie as tie
 units : ℤ → TableUnits
 units z = record { 0 = z }
 
-cast-t11 : tie.Need-cast-t11
-cast-t11 c = search needs
-
 -- the sum before any table, and after one, two, three and four
 none : (c : tie.Start) → let a = c .args in Summed (a .d) (a .entry) (a .offsets .now) (a .x) 0 (toZ w64 (a .entry))
 none c =
@@ -68,7 +65,7 @@ pub sum-from-spec : {M : Type 1} → statement M
 sum-from-spec =
     tie.close
     (tie.spec
-    cast-t11
+    (λ c. search needs)
     add-table-requires
     add-table-requires-2
     add-table-requires-3

@@ -25,9 +25,6 @@ word-is d Y count count-is = rw count-is
 count-requires : tie.Need-count-requires
 count-requires c κs = in-range (c .args .d) (c .args .sum .0) (c .pre .1) .0
 
-cast-word : tie.Need-cast-word
-cast-word c = search needs
-
 shr-word : tie.Need-shr-word
 shr-word c = omega (arith, limits _ (c .before .pre .0) .widths)
 
@@ -47,4 +44,10 @@ returns c = word-is _ _ _ (c .count .ensures)
 
 pub word-of-spec : {M : Type 1} → statement M
 word-of-spec =
-    tie.close (tie.spec count-requires cast-word shr-word cast-word-2 returns)
+    tie.close
+    (tie.spec
+    count-requires
+    (λ c. search needs)
+    shr-word
+    cast-word-2
+    returns)

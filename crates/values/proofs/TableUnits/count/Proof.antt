@@ -13,8 +13,9 @@ cast-result c =
     rw (toZ-ofZ w64 (c .before .before .args .self .0) (record { sfits = small }))
     (c .before .before .pre, record { fits = omega (arith, natAbs-le (c .before .before .args .self .0) small) })
 
-returns : tie.Need-returns
-returns c = search needs
-
 pub count-spec : {M : Type 1} → statement M
-count-spec = tie.close (tie.spec cast-result returns)
+count-spec =
+    tie.close
+    (tie.spec
+    cast-result
+    (λ c. search needs))

@@ -38,23 +38,11 @@ module _ (row : Row) (w q X y : ℕ) where
           high-is,
         )
 
-cast-word : tie.Need-cast-word
-cast-word c = search needs
-
 returns : tie.Need-returns
 returns c = zero-word _ _ _ _ _ (c .if1 .taken)
 
 value-part-requires : tie.Need-value-part-requires
 value-part-requires c κs = let s = c .before .before in coarser-input (s .args .q) (omega arith) (s .pre .0)
-
-sub-number-parts : tie.Need-sub-number-parts
-sub-number-parts c = search needs
-
-add-number-parts : tie.Need-add-number-parts
-add-number-parts c = search needs
-
-number-parts-requires : tie.Need-number-parts-requires
-number-parts-requires c κs = search needs
 
 -- the word is not 0, and the two parts are those of its neighbours
 positive : (c : tie.Else1) → 0 < c .before .before .args .y .0
@@ -85,11 +73,11 @@ pub is-faithful-spec : {M : Type 1} → statement M
 is-faithful-spec =
     tie.close
     (tie.spec
-    cast-word
+    (λ c. search needs)
     returns
     value-part-requires
-    sub-number-parts
-    add-number-parts
-    number-parts-requires
+    (λ c. search needs)
+    (λ c. search needs)
+    (λ c κs. search needs)
     returns-2
     returns-3)

@@ -31,9 +31,6 @@ module _ (row : Row) (w P X : ℕ) (input : FloorInput row w P X) where
   few : {r : ℕ} → r ≡ floorValue row w P X → r < floorBound
   few e = rw e (floor-small row w P X input)
 
-scaled-requires : tie.Need-scaled-requires
-scaled-requires c κs = search needs
-
 floor-root-requires : tie.Need-floor-root-requires
 floor-root-requires c κs = rw (c .scaled .ensures) (root-input _ _ _ _ (c .before .pre))
 
@@ -50,4 +47,10 @@ returns c =
     ap units (toZ-pos w64 _ (omega (arith, few _ _ _ _ (c .before .before .pre) e)) ∙ ap pos e)
 
 pub floor-value-spec : {M : Type 1} → statement M
-floor-value-spec = tie.close (tie.spec scaled-requires floor-root-requires cast-t7 returns)
+floor-value-spec =
+    tie.close
+    (tie.spec
+    (λ c κs. search needs)
+    floor-root-requires
+    cast-t7
+    returns)

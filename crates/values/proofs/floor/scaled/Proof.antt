@@ -6,24 +6,6 @@ use Rattle.values.proofs.PartLaws.{scaled-parts, divisor-part-pos}
 use Rattle.values.proofs.floor.scaled.Statement.{statement}
 use Rattle.values.proofs.floor.scaled.Tie as tie
 
-value-part-requires : tie.Need-value-part-requires
-value-part-requires c κs = search needs
-
-mul-excess : tie.Need-mul-excess
-mul-excess c = search needs
-
-excess-requires : tie.Need-excess-requires
-excess-requires c κs = search needs
-
-cast-result : tie.Need-cast-result
-cast-result c = search needs
-
-shr-result : tie.Need-shr-result
-shr-result c = search needs
-
-divisor-part-requires : tie.Need-divisor-part-requires
-divisor-part-requires c κs = search needs
-
 div-result : tie.Need-div-result
 div-result c =
     let p = c .before .before .before .pre in
@@ -40,12 +22,12 @@ pub scaled-spec : {M : Type 1} → statement M
 scaled-spec =
     tie.close
     (tie.spec
-    value-part-requires
-    mul-excess
-    excess-requires
-    cast-result
-    shr-result
-    divisor-part-requires
+    (λ c κs. search needs)
+    (λ c. search needs)
+    (λ c κs. search needs)
+    (λ c. search needs)
+    (λ c. search needs)
+    (λ c κs. search needs)
     div-result
     returns
     returns-2)

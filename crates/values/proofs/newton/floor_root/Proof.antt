@@ -10,7 +10,7 @@ use Rattle.values.specs.Room.{highestDegree, finestUnit}
 use Rattle.values.specs.Inputs.{RootInput, StepInput, Stepwise}
 use Rattle.values.specs.Floor.{rootFrom}
 use Rattle.values.specs.Newton.{newtonSum, newtonStep}
-use Rattle.refusal.proofs.Checks.{tested}
+use Rattle.general.proofs.Tests.{tested}
 use Rattle.values.proofs.ExactLaws.{degree}
 use Rattle.values.proofs.FloorLaws.{IsRoot, root-found}
 use Rattle.values.proofs.NewtonLaws.{step-above, sum-below, step-closer, first-sum, first-power}

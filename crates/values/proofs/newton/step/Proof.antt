@@ -24,9 +24,6 @@ module _ (k limit r : ℕ) (input : StepInput k limit r) where
   sum-fits : r + limit / r < 2 ^ 64
   sum-fits = rw sum-is (input .sum-small)
 
-div-result : tie.Need-div-result
-div-result c = search needs
-
 add-result : tie.Need-add-result
 add-result c = record { fits = sum-fits _ _ _ (c .pre) }
 
@@ -34,4 +31,9 @@ returns : tie.Need-returns
 returns c = quadratic _ _ _ (c .pre)
 
 pub step-spec : {M : Type 1} → statement M
-step-spec = tie.close (tie.spec div-result add-result returns)
+step-spec =
+    tie.close
+    (tie.spec
+    (λ c. search needs)
+    add-result
+    returns)

@@ -6,15 +6,6 @@ use Rattle.values.proofs.Bounds.{argument-small}
 use Rattle.values.proofs.parts.divisor_part.Statement.{statement}
 use Rattle.values.proofs.parts.divisor_part.Tie as tie
 
-mul-excess : tie.Need-mul-excess
-mul-excess c = search needs
-
-excess-requires : tie.Need-excess-requires
-excess-requires c κs = search needs
-
-pow2-requires : tie.Need-pow2-requires
-pow2-requires c κs = search needs
-
 mul-result : tie.Need-mul-result
 mul-result c = omega (arith, argument-small _ _ _ _ (c .before .before .pre))
 
@@ -28,4 +19,11 @@ returns-2 c = simp (c .before .if1 .left)
 
 pub divisor-part-spec : {M : Type 1} → statement M
 divisor-part-spec =
-    tie.close (tie.spec mul-excess excess-requires pow2-requires mul-result returns returns-2)
+    tie.close
+    (tie.spec
+    (λ c. search needs)
+    (λ c κs. search needs)
+    (λ c κs. search needs)
+    mul-result
+    returns
+    returns-2)

@@ -14,23 +14,11 @@ made : (c : tie.After-pow2) → let a = c .before .before .before .before .befor
 unfolding valuePart
 made c = simp (c .pow2 .ensures, c .before .excess .ensures, c .before .before .before .if1 .taken)
 
-mul-bits : tie.Need-mul-bits
-mul-bits c = search needs
-
 mul-result : tie.Need-mul-result
 mul-result c = omega (arith, argument-small _ _ _ _ (c .before .before .before .pre))
 
-excess-requires : tie.Need-excess-requires
-excess-requires c κs = search needs
-
-pow2-requires : tie.Need-pow2-requires
-pow2-requires c κs = search needs
-
 mul-result-2 : tie.Need-mul-result-2
 mul-result-2 c = rw (made c) record { fits = value-part-fits _ _ _ _ (c .before .before .before .before .before .pre) }
-
-add-pow2 : tie.Need-add-pow2
-add-pow2 c = search needs
 
 pow2-requires-2 : tie.Need-pow2-requires-2
 pow2-requires-2 c κs = let p = c .before .before .pre in omega (arith, p .room .falls (c .if1 .left), p .lawful .k-pos)
@@ -46,12 +34,12 @@ pub value-part-spec : {M : Type 1} → statement M
 value-part-spec =
     tie.close
     (tie.spec
-    mul-bits
+    (λ c. search needs)
     mul-result
-    excess-requires
-    pow2-requires
+    (λ c κs. search needs)
+    (λ c κs. search needs)
     mul-result-2
-    add-pow2
+    (λ c. search needs)
     pow2-requires-2
     returns
     returns-2)

@@ -5,9 +5,6 @@ use Rattle.values.specs.Rows.{rows, kinds, rowOf}
 use Rattle.values.proofs.rows.row_of.Statement.{statement}
 use Rattle.values.proofs.rows.row_of.Tie as tie
 
-mul-result : tie.Need-mul-result
-mul-result c = search needs
-
 array-copy-out-result : tie.Need-array-copy-out-result
 unfolding rows kinds
 array-copy-out-result c = search needs
@@ -17,4 +14,9 @@ unfolding rowOf
 returns c = refl
 
 pub row-of-spec : {M : Type 1} → statement M
-row-of-spec = tie.close (tie.spec mul-result array-copy-out-result returns)
+row-of-spec =
+    tie.close
+    (tie.spec
+    (λ c. search needs)
+    array-copy-out-result
+    returns)

@@ -7,9 +7,6 @@ use Rattle.values.proofs.Bounds.{floor-small}
 use Rattle.values.proofs.slopes.floor_count.Statement.{statement}
 use Rattle.values.proofs.slopes.floor_count.Tie as tie
 
-floor-value-requires : tie.Need-floor-value-requires
-floor-value-requires c κs = search needs
-
 count-requires : tie.Need-count-requires
 count-requires c κs = rw (c .floor-value .ensures) tt
 
@@ -19,4 +16,9 @@ returns c =
     (e, rw e (floor-small _ _ _ _ (c .before .before .pre)))
 
 pub floor-count-spec : {M : Type 1} → statement M
-floor-count-spec = tie.close (tie.spec floor-value-requires count-requires returns)
+floor-count-spec =
+    tie.close
+    (tie.spec
+    (λ c κs. search needs)
+    count-requires
+    returns)

@@ -6,18 +6,6 @@ use Rattle.values.proofs.Bounds.{step-small, step-pos, quotient-fits}
 use Rattle.values.proofs.slopes.hi.Statement.{statement}
 use Rattle.values.proofs.slopes.hi.Tie as tie
 
-floor-count-requires : tie.Need-floor-count-requires
-floor-count-requires c κs = search needs
-
-add-result : tie.Need-add-result
-add-result c = search needs
-
-mul-result : tie.Need-mul-result
-mul-result c = search needs
-
-cast-result : tie.Need-cast-result
-cast-result c = search needs
-
 mul-result-2 : tie.Need-mul-result-2
 mul-result-2 c = omega (arith, step-small _ _ _ _ (c .before .before .pre))
 
@@ -35,10 +23,10 @@ pub hi-spec : {M : Type 1} → statement M
 hi-spec =
     tie.close
     (tie.spec
-    floor-count-requires
-    add-result
-    mul-result
-    cast-result
+    (λ c κs. search needs)
+    (λ c. search needs)
+    (λ c. search needs)
+    (λ c. search needs)
     mul-result-2
     div-result
     add-result-2

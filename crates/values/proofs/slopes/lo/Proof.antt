@@ -6,15 +6,6 @@ use Rattle.values.proofs.Bounds.{step-small, step-pos}
 use Rattle.values.proofs.slopes.lo.Statement.{statement}
 use Rattle.values.proofs.slopes.lo.Tie as tie
 
-floor-count-requires : tie.Need-floor-count-requires
-floor-count-requires c κs = search needs
-
-mul-result : tie.Need-mul-result
-mul-result c = search needs
-
-cast-result : tie.Need-cast-result
-cast-result c = search needs
-
 mul-result-2 : tie.Need-mul-result-2
 mul-result-2 c = omega (arith, step-small _ _ _ _ (c .before .before .pre))
 
@@ -26,4 +17,12 @@ unfolding Slopes.lo
 returns c = rw (c .before .floor-count .ensures .0)
 
 pub lo-spec : {M : Type 1} → statement M
-lo-spec = tie.close (tie.spec floor-count-requires mul-result cast-result mul-result-2 div-result returns)
+lo-spec =
+    tie.close
+    (tie.spec
+    (λ c κs. search needs)
+    (λ c. search needs)
+    (λ c. search needs)
+    mul-result-2
+    div-result
+    returns)

@@ -8,15 +8,6 @@ use Rattle.values.proofs.Bounds.{segment-small, width-small}
 use Rattle.values.proofs.slopes.segment_end.Statement.{statement}
 use Rattle.values.proofs.slopes.segment_end.Tie as tie
 
-segment-start-requires : tie.Need-segment-start-requires
-segment-start-requires c κs = search needs
-
-sub-pow2 : tie.Need-sub-pow2
-sub-pow2 c = search needs
-
-pow2-requires : tie.Need-pow2-requires
-pow2-requires c κs = search needs
-
 add-result : tie.Need-add-result
 unfolding segmentStart
 add-result c =
@@ -33,4 +24,10 @@ returns c = rw (c .before .segment-start .ensures, c .pow2 .ensures)
 pub segment-end-spec : {M : Type 1} → statement M
 segment-end-spec =
     tie.close
-    (tie.spec segment-start-requires sub-pow2 pow2-requires add-result sub-result returns)
+    (tie.spec
+    (λ c κs. search needs)
+    (λ c. search needs)
+    (λ c κs. search needs)
+    add-result
+    sub-result
+    returns)

@@ -6,15 +6,6 @@ use Rattle.values.proofs.Bounds.{segment-small, width-small}
 use Rattle.values.proofs.slopes.segment_start.Statement.{statement}
 use Rattle.values.proofs.slopes.segment_start.Tie as tie
 
-pow2-requires : tie.Need-pow2-requires
-pow2-requires c κs = search needs
-
-sub-pow2 : tie.Need-sub-pow2
-sub-pow2 c = search needs
-
-pow2-requires-2 : tie.Need-pow2-requires-2
-pow2-requires-2 c κs = search needs
-
 mul-result : tie.Need-mul-result
 mul-result c = rw (c .pow22 .ensures) (omega (arith, segment-small _ _ _ (c .before .before .pre)))
 
@@ -29,4 +20,11 @@ returns c = rw (c .before .pow2 .ensures, c .pow22 .ensures)
 
 pub segment-start-spec : {M : Type 1} → statement M
 segment-start-spec =
-    tie.close (tie.spec pow2-requires sub-pow2 pow2-requires-2 mul-result add-result returns)
+    tie.close
+    (tie.spec
+    (λ c κs. search needs)
+    (λ c. search needs)
+    (λ c κs. search needs)
+    mul-result
+    add-result
+    returns)

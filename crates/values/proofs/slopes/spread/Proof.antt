@@ -7,12 +7,6 @@ use Rattle.values.proofs.Bounds.{start-input, end-input, ordered}
 use Rattle.values.proofs.slopes.spread.Statement.{statement}
 use Rattle.values.proofs.slopes.spread.Tie as tie
 
-segment-start-requires : tie.Need-segment-start-requires
-segment-start-requires c κs = search needs
-
-segment-end-requires : tie.Need-segment-end-requires
-segment-end-requires c κs = search needs
-
 -- both ends can be asked for
 ends : (c : tie.After-segment-end) → let a = c .before .before .args in
     FloorInput (a .row) (a .w) (a .p) (c .before .segment-start .result) × FloorInput (a .row) (a .w) (a .p) (c .segment-end .result)
@@ -47,8 +41,8 @@ pub spread-spec : {M : Type 1} → statement M
 spread-spec =
     tie.close
     (tie.spec
-    segment-start-requires
-    segment-end-requires
+    (λ c κs. search needs)
+    (λ c κs. search needs)
     hi-requires
     lo-requires
     sub-result

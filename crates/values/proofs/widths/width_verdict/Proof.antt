@@ -4,7 +4,7 @@ use mathlib.Core.Bool.{false}
 use borrow.Author.Needs.{needs}
 use borrow.Author.Tests.{lt-ltb, le-ltb}
 use Rattle.refusal.specs.Checks.{outside}
-use Rattle.refusal.proofs.Checks.{tested}
+use Rattle.general.proofs.Tests.{tested}
 use Rattle.values.specs.Widths.{widthChecks}
 use Rattle.values.proofs.widths.width_verdict.Statement.{statement}
 use Rattle.values.proofs.widths.width_verdict.Tie as tie
@@ -24,22 +24,13 @@ g-passed : (c : tie.Else4) → let a = c .before .before .before .before .before
     outside (a .limits .g .0) (a .limits .g .1) (a .g) ≡ false
 g-passed c = tested (c .before .outside4 .ensures) (c .if4 .left)
 
-outside-requires : tie.Need-outside-requires
-outside-requires c κs = search needs
-
 returns : tie.Need-returns
 unfolding widthChecks
 returns c = rw (tested (c .before .outside .ensures) (c .if1 .taken))
 
-outside-requires-2 : tie.Need-outside-requires-2
-outside-requires-2 c κs = search needs
-
 returns-2 : tie.Need-returns-2
 unfolding widthChecks
 returns-2 c = rw (kind-passed (c .before .before), tested (c .before .outside2 .ensures) (c .if2 .taken))
-
-outside-requires-3 : tie.Need-outside-requires-3
-outside-requires-3 c κs = search needs
 
 returns-3 : tie.Need-returns-3
 unfolding widthChecks
@@ -47,21 +38,12 @@ returns-3 c =
     let w = c .before .before in
     rw (kind-passed (w .before .before), w-passed w, tested (c .before .outside3 .ensures) (c .if3 .taken))
 
-outside-requires-4 : tie.Need-outside-requires-4
-outside-requires-4 c κs = search needs
-
 returns-4 : tie.Need-returns-4
 unfolding widthChecks
 returns-4 c =
     let q = c .before .before in
     let w = q .before .before in
     rw (kind-passed (w .before .before), w-passed w, q-passed q, tested (c .before .outside4 .ensures) (c .if4 .taken))
-
-cast-if5 : tie.Need-cast-if5
-cast-if5 c = search needs
-
-add-if5 : tie.Need-add-if5
-add-if5 c = search needs
 
 returns-5 : tie.Need-returns-5
 unfolding widthChecks
@@ -83,15 +65,15 @@ pub width-verdict-spec : {M : Type 1} → statement M
 width-verdict-spec =
     tie.close
     (tie.spec
-    outside-requires
+    (λ c κs. search needs)
     returns
-    outside-requires-2
+    (λ c κs. search needs)
     returns-2
-    outside-requires-3
+    (λ c κs. search needs)
     returns-3
-    outside-requires-4
+    (λ c κs. search needs)
     returns-4
-    cast-if5
-    add-if5
+    (λ c. search needs)
+    (λ c. search needs)
     returns-5
     returns-6)

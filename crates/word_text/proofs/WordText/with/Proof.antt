@@ -5,7 +5,8 @@ use native.Mathlib.Omega.{arith}
 use borrow.Author.Needs.{needs}
 use borrow.Author.Tests.{le-leb, lt-leb}
 use Rattle.refusal.specs.Checks.{outside}
-use Rattle.refusal.proofs.Checks.{inside, tested}
+use Rattle.refusal.proofs.Checks.{inside}
+use Rattle.general.proofs.Tests.{tested}
 use Rattle.word_text.specs.Decimal.{afterCharacter}
 use Rattle.word_text.proofs.WordText.with.Statement.{statement}
 use Rattle.word_text.proofs.WordText.with.Tie as tie
@@ -13,9 +14,6 @@ use Rattle.word_text.proofs.WordText.with.Tie as tie
 returns : tie.Need-returns
 unfolding afterCharacter
 returns c = simp (le-leb _ _ (c .if1 .taken))
-
-outside-requires : tie.Need-outside-requires
-outside-requires c κs = search needs
 
 -- a character that is not refused is a digit
 digit : (c : tie.Else2) → outside 48 57 (c .before .before .before .before .args .c) ≡ false
@@ -25,20 +23,8 @@ returns-2 : tie.Need-returns-2
 unfolding afterCharacter
 returns-2 c = simp (lt-leb _ _ (c .before .before .if1 .left), tested (c .before .outside .ensures) (c .if2 .taken))
 
-mul-at-most-limit : tie.Need-mul-at-most-limit
-mul-at-most-limit c = search needs
-
 sub-at-most-limit : tie.Need-sub-at-most-limit
 sub-at-most-limit c = omega (arith, inside 48 57 (c .before .before .before .before .before .args .c) (digit (c .before)))
-
-cast-at-most-limit : tie.Need-cast-at-most-limit
-cast-at-most-limit c = search needs
-
-add-at-most-limit : tie.Need-add-at-most-limit
-add-at-most-limit c = search needs
-
-at-most-limit-requires : tie.Need-at-most-limit-requires
-at-most-limit-requires c κs = search needs
 
 returns-3 : tie.Need-returns-3
 unfolding afterCharacter
@@ -51,11 +37,11 @@ with-spec =
     tie.close
     (tie.spec
     returns
-    outside-requires
+    (λ c κs. search needs)
     returns-2
-    mul-at-most-limit
+    (λ c. search needs)
     sub-at-most-limit
-    cast-at-most-limit
-    add-at-most-limit
-    at-most-limit-requires
+    (λ c. search needs)
+    (λ c. search needs)
+    (λ c κs. search needs)
     returns-3)

@@ -1,0 +1,18 @@
+-- Tests: what two of them come to together, and what a branch tells.
+use mathlib.Core.Path.{_≡_, refl, sym, _∙_}
+use mathlib.Core.Bool.{Bool, true, false, _||_, _&&_, true≢false}
+
+pub neither : (a b : Bool) → a || b ≡ false → (a ≡ false) × (b ≡ false)
+neither true b e = absurd (true≢false e)
+neither false b e = (refl, e)
+
+pub both : (a b : Bool) → a && b ≡ true → (a ≡ true) × (b ≡ true)
+both true b e = (refl, e)
+both false b e = absurd (true≢false (sym e))
+
+pub both-so : (a b : Bool) → a ≡ true → b ≡ true → a && b ≡ true
+both-so a b e f = rw (e, f) refl
+
+-- What a branch on a call's answer tells of the test that the call promises.
+pub tested : {test result answer : Bool} → result ≡ test → result ≡ answer → test ≡ answer
+tested promise branch = sym promise ∙ branch
