@@ -1,7 +1,7 @@
 -- What inner calls may count on. Their callers are proved to see to it.
 use mathlib.Core.Path.{_≡_}
 use mathlib.Core.List.{List}
-use Prim.Native.Nat.{ℕ, _+_, _*_, _^_, _≤_, _<_, min}
+use Prim.Native.Nat.{ℕ, _+_, _*_, _^_, _≤_, _<_}
 use lib.IntN.{ℤ, pos, _+ℤ_}
 use lib.Signed.{mag}
 use Rattle.design.specs.Limits.{mostOffsets}
@@ -32,7 +32,7 @@ pub record Small (lookup : Lookup) : Type 0 where
   pub position-small : lookup .position < 32
   pub start-small : lookup .start ≤ mostOffsets
 
--- A sum of an initial entry and the offsets of the first i tables, or of all where there are fewer, each of 32 bits
+-- A sum of an initial entry and the offsets of the first i tables, each of 32 bits
 pub record Summed (d : Design) (entry : ℕ) (offsets : List ℤ) (x i : ℕ) (sum : ℤ) : Type 0 where
-  pub sum-is : sum ≡ pos entry +ℤ signedSum (min i (d .m)) (offsetFor d offsets x)
+  pub sum-is : sum ≡ pos entry +ℤ signedSum i (offsetFor d offsets x)
   pub small : mag sum ≤ 2 ^ 32 + i * 2 ^ 32

@@ -5,7 +5,6 @@ ghost use Prim.Native.Nat.{ℕ, _+_, _^_, _≤_, _<_};
 ghost use lib.ListN.{length, getD};
 ghost use lib.IntN.{pos, _+ℤ_};
 ghost use lib.Signed.{mag};
-ghost use Rattle.design.specs.Limits.{mostTables};
 ghost use Rattle.design.specs.Stored.{offsetTotal};
 ghost use Rattle.values.specs.Room.{wordBound};
 ghost use Rattle.design.specs.Legal.{Legal};
@@ -33,7 +32,7 @@ fn add_offset(lookup: Lookup, sum: TableUnits, offsets: &[i32], near: u32, x: u3
     TableUnits(sum.0 + offset as i64)
 }
 
-// One table more: its offset, if there is such a table.
+// The offset of table i more. Which table it is of which design is said for the promise alone.
 fn add_table(
     d: Design,
     i: u32,
@@ -45,13 +44,10 @@ fn add_table(
 ) -> TableUnits
     requires { ⌜ Legal d × (offsetTotal d ≤ length (now offsets)) ⌝ }
     requires { ⌜ (lookup ≡ lookupOf d i) × SameInterval d near x ⌝ }
-    requires { ⌜ (i ≤ mostTables) × (mag (sum .0) ≤ 2 ^ 40) ⌝ }
+    requires { ⌜ (i < d .m) × (mag (sum .0) ≤ 2 ^ 40) ⌝ }
     ensures { λ r. ⌜ ((entry : ℕ) → Summed d entry (now (offsets .entry)) x i (sum .0)
         → Summed d entry (now (offsets .entry)) x (i + 1) (r .0)) ⌝ }
 {
-    if d.m <= i {
-        return sum;
-    }
     add_offset(lookup, sum, offsets, near, x)
 }
 
@@ -69,10 +65,20 @@ pub fn sum_from(
     requires { ⌜ SameInterval d near x ⌝ }
     ensures { λ r. ⌜ r ≡ record { 0 = pos entry +ℤ signedSum (d .m) (offsetFor d (now (offsets .entry)) x) } ⌝ }
 {
+    let m = d.m;
     let none = TableUnits(entry as i64);
     let one = add_table(d, 0, lookups.first, none, offsets, near, x);
+    if m == 1 {
+        return one;
+    }
     let two = add_table(d, 1, lookups.second, one, offsets, near, x);
+    if m == 2 {
+        return two;
+    }
     let three = add_table(d, 2, lookups.third, two, offsets, near, x);
+    if m == 3 {
+        return three;
+    }
     add_table(d, 3, lookups.fourth, three, offsets, near, x)
 }
 

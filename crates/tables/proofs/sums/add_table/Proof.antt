@@ -1,5 +1,5 @@
 -- `tables::sums::add_table` meets its contract: the lookup leads to the offset that x reads, whose sum with the others is still small.
-use mathlib.Core.Path.{_≡_, refl, ap}
+use mathlib.Core.Path.{_≡_, ap}
 use mathlib.Core.List.{List}
 use Prim.Native.Nat.{ℕ, _+_, _^_, _≤_, _<_}
 use native.Mathlib.Nat.{lt-of-lt-of-le}
@@ -19,7 +19,7 @@ use Rattle.tables.specs.Inputs.{SameInterval, Small, Summed}
 use Rattle.tables.specs.Lookup.{lookupOf, placeAt}
 use Rattle.tables.specs.Sum.{offsetFor}
 use Rattle.tables.proofs.LookupLaws.{lookup-small, place-is, place-lt}
-use Rattle.tables.proofs.SumLaws.{summed-more, summed-same}
+use Rattle.tables.proofs.SumLaws.{summed-more}
 use Rattle.tables.proofs.sums.add_table.Statement.{statement}
 use Rattle.tables.proofs.sums.add_table.Tie as tie
 
@@ -44,21 +44,18 @@ module _ {d : Design} (offsets : List ℤ) {near x i : ℕ} (usable : Legal d ×
   unfolding offsetFor offsetFrom
   added next p entry s =
       let place = place-is d (limits d (usable .0)) i near x more words in
-      summed-more d entry offsets x s more (rw (e, place) at (ap (λ (n : TableUnits). n .0) (p .0))) (p .1)
-
-returns : tie.Need-returns
-returns c = λ entry s. summed-same _ entry _ _ s (c .if1 .taken) refl
+      summed-more d entry offsets x s (rw (e, place) at (ap (λ (n : TableUnits). n .0) (p .0))) (p .1)
 
 add-offset-requires : tie.Need-add-offset-requires
 add-offset-requires c κs =
-    let s = c .before .before in
-    asked (s .args .offsets .now) (s .pre .0) (c .if1 .left) (s .pre .1 .0 .0) (s .pre .1 .0 .1) (s .args .sum .0) (s .pre .1 .1 .1)
+    let p = c .pre in
+    asked (c .args .offsets .now) (p .0) (p .1 .1 .0) (p .1 .0 .0) (p .1 .0 .1) (c .args .sum .0) (p .1 .1 .1)
 
-returns-2 : tie.Need-returns-2
-returns-2 c =
-    let s = c .before .before .before in
-    added (s .args .offsets .now) (s .pre .0) (c .before .if1 .left) (s .pre .1 .0 .0) (s .pre .1 .0 .1) (s .args .sum .0) _
+returns : tie.Need-returns
+returns c =
+    let s = c .before in
+    added (s .args .offsets .now) (s .pre .0) (s .pre .1 .1 .0) (s .pre .1 .0 .0) (s .pre .1 .0 .1) (s .args .sum .0) _
     (c .add-offset .ensures)
 
 pub add-table-spec : {M : Type 1} → statement M
-add-table-spec = tie.close (tie.spec returns add-offset-requires returns-2)
+add-table-spec = tie.close (tie.spec add-offset-requires returns)
