@@ -8,12 +8,12 @@ use native.Mathlib.Nat.{le-step, le-refl, not-suc-le-zero}
 use native.Mathlib.Omega.{arith}
 use lib.IntN.{ℤ}
 use borrow.Author.Tests.{not-true}
+use Rattle.general.proofs.Tests.{both, both-so}
+use Rattle.general.proofs.Sums.{below-suc}
 use Rattle.refusal.specs.declared.Verdict.{Verdict}
 use Rattle.refusal.specs.Told.{accepted}
-use Rattle.general.proofs.Tests.{both, both-so}
 use Rattle.values.proofs.FaithfulLaws.{faithful-test, faithful-tested}
 use Rattle.design.specs.declared.Design.{Design}
-use Rattle.general.proofs.Sums.{below-suc}
 use Rattle.checking.specs.declared.Checked.{Checked}
 use Rattle.checking.specs.Check.{
   Finding,

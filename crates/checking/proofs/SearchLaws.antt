@@ -6,14 +6,14 @@ use native.Mathlib.Nat.{add-sub-of-le, add-zero, le-of-lt, mul-le-mul-right, not
 use native.Mathlib.Numerals.{add-one}
 use native.Mathlib.Omega.{arith}
 use lib.Pow.{high, pow-add, pow-mono}
+use Rattle.general.proofs.Sums.{below-suc}
 use Rattle.values.specs.Room.{widestWord, wordBound}
 use Rattle.design.specs.declared.Design.{Design}
 use Rattle.design.specs.Cut.{initialWord}
 use Rattle.design.specs.Stored.{initialCount}
 use Rattle.design.proofs.LegalLaws.{Limits}
-use Rattle.general.proofs.Sums.{below-suc}
-use Rattle.checking.specs.declared.Checked.{Checked}
 use Rattle.tables.specs.Inputs.{SameInterval}
+use Rattle.checking.specs.declared.Checked.{Checked}
 use Rattle.checking.specs.Check.{findingBelow, found}
 use Rattle.checking.proofs.CheckLaws.{check-all, check-bad}
 

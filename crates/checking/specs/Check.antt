@@ -13,9 +13,9 @@ use Rattle.refusal.specs.Told.{Told, accepted, refused, told}
 use Rattle.values.specs.Faithful.{Faithful, isFaithful}
 use Rattle.design.specs.declared.Design.{Design}
 use Rattle.design.specs.Cut.{row}
-use Rattle.checking.specs.declared.Checked.{Checked}
 use Rattle.tables.specs.Sum.{sumAt, sumOutside, wordAt}
 use Rattle.tables.specs.Set.{setChecks}
+use Rattle.checking.specs.declared.Checked.{Checked}
 
 -- "A word whose sum is refused counts as unfaithful."
 unfoldable pub faithfulAt : Design → List ℕ → List ℤ → ℕ → Bool

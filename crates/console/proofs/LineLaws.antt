@@ -8,11 +8,11 @@ use native.Mathlib.Omega.{arith}
 use lib.ListN.{length, getD, take, set, length-append}
 use lib.Seq.{getD-set-same, getD-set-other, length-take-le}
 use Rattle.general.proofs.Sums.{below-suc}
-use Rattle.io.proofs.Counting.{counts}
 use Rattle.frames.specs.Line.{longestLine, lineFails}
 use Rattle.frames.proofs.LineLaws.{long-fails}
 use Rattle.console.specs.declared.LineEnd.{LineEnd}
 use Rattle.console.specs.Reading.{LineRead}
+use Rattle.io.proofs.Counting.{counts}
 
 -- No newline is among the first n bytes.
 abbrev pub NoNewline : List ℕ → ℕ → Type 0

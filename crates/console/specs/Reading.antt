@@ -4,10 +4,10 @@ use mathlib.Core.Bool.{true}
 use mathlib.Core.List.{List, _++_}
 use Prim.Native.Nat.{ℕ, _<_}
 use lib.ListN.{getD, take}
-use Rattle.io.specs.Counts.{Counts}
 use Rattle.frames.specs.Line.{lineFails}
 use Rattle.console.specs.declared.LineEnd.{LineEnd}
 use Rattle.console.specs.declared.Line.{Line}
+use Rattle.io.specs.Counts.{Counts}
 
 -- Document 01: "the line is all bytes before the first newline, or all there are if none comes". 10 is the newline.
 pub record LineRead (line : Line) : Type 0 where

@@ -1,7 +1,7 @@
 // What the programs share: reading a line from standard input, and writing reports and refusals to standard output. No contract can
 // say which bytes come in or go out; what can be said of a line, whatever the input is, `read_line` promises.
-ghost use Rattle.io.specs.Counts.{Counts};
 ghost use Rattle.console.specs.Reading.{LineRead};
+ghost use Rattle.io.specs.Counts.{Counts};
 use frames::LONGEST_LINE;
 use libc::STDIN_FILENO;
 use libc::STDOUT_FILENO;

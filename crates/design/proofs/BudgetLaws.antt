@@ -3,6 +3,7 @@ use Prim.Native.Nat.{ℕ, _^_, _≤_, _<_, _*_}
 use native.Mathlib.Nat.{le-of-lt, lt-of-lt-of-le, mul-le-mul}
 use native.Mathlib.Omega.{arith}
 use lib.Pow.{ones-lt, pow-mono, shl-lt}
+use Rattle.general.proofs.Sums.{largest-above, largest-bounded}
 use Rattle.values.specs.declared.rows.Row.{Row}
 use Rattle.values.specs.Room.{widestWord, wordBound, slopeBound}
 use Rattle.values.specs.Inputs.{SlopeInput}
@@ -11,7 +12,6 @@ use Rattle.values.proofs.Bounds.{spread-small}
 use Rattle.design.specs.declared.Design.{Design}
 use Rattle.design.specs.Cut.{aOf, bOf, row, fractionBits, position}
 use Rattle.design.specs.Budget.{reach, tableBudget}
-use Rattle.general.proofs.Sums.{largest-above, largest-bounded}
 use Rattle.design.proofs.LegalLaws.{Limits, slopewise, bits-end}
 
 -- So the largest spread is at least the spread over each segment,

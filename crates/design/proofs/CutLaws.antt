@@ -4,12 +4,12 @@ use Prim.Native.Nat.{ℕ, zero, suc, _+_, _-_, _*_, _/_, _%_, _^_, _≤_, _<_}
 use native.Mathlib.Nat.{add-comm, add-sub-of-le, le-of-lt, mod-lt, mod-one, mul-le-mul-right}
 use native.Mathlib.Omega.{arith}
 use lib.Pow.{mod-pow-add, pow-add, pow-pos, shr-lt, shr-shr, split}
+use Rattle.general.specs.Below.{sumBelow}
 use Rattle.values.specs.Slopes.{segmentStart, segmentEnd}
 use Rattle.values.proofs.SlopeLaws.{OnSegment}
 use Rattle.design.specs.declared.Design.{Design}
 use Rattle.design.specs.Cut.{aOf, bOf, position, initialWord, segmentWord, offsetWord}
 use Rattle.design.specs.Stored.{initialCount}
-use Rattle.general.specs.Below.{sumBelow}
 use Rattle.design.proofs.LegalLaws.{Limits}
 
 -- The top a of w bits are a number of a bits.

@@ -4,9 +4,9 @@ use mathlib.Core.Bool.{false}
 use Prim.Native.Nat.{ℕ, _+_, _-_, _≤_, _<_}
 use native.Mathlib.Omega.{arith}
 use borrow.Author.Tests.{ltb-false, leb-false, eqb-true, not-false}
-use Rattle.refusal.proofs.Checks.{passed-append, none-fails, inside}
 use Rattle.general.proofs.Tests.{neither}
-use Rattle.design.specs.Limits.{leastInitialBits, mostInitialBits, mostTables, mostOffsetBits, mostTableBits}
+use Rattle.general.proofs.Sums.{none-below, sum-step}
+use Rattle.refusal.proofs.Checks.{passed-append, none-fails, inside}
 use Rattle.values.specs.Rows.{Lawful}
 use Rattle.values.specs.Room.{Room}
 use Rattle.values.specs.Inputs.{SlopeInput}
@@ -14,9 +14,9 @@ use Rattle.values.specs.Widths.{limitsOf, widthChecks}
 use Rattle.values.proofs.WidthLaws.{Widths, widths-of}
 use Rattle.design.specs.declared.Design.{Design}
 use Rattle.design.specs.declared.legal.TableRule.{TableRule}
+use Rattle.design.specs.Limits.{leastInitialBits, mostInitialBits, mostTables, mostOffsetBits, mostTableBits}
 use Rattle.design.specs.Cut.{aOf, bOf, row, fractionBits, position}
 use Rattle.design.specs.Legal.{breaks, tableBreaks, cutChecks, designChecks, designVerdict, Legal}
-use Rattle.general.proofs.Sums.{none-below, sum-step}
 
 -- A table that lies within document 01's limits
 pub record Within (d : Design) (i : ℕ) : Type 0 where

@@ -1,4 +1,5 @@
 -- To unfold `design-opened` is to unfold every definition of this crate and of the values.
+use Rattle.general.specs.Below.{sumBelow, someBelow}
 use Rattle.values.proofs.Opened.{values-opened}
 use Rattle.design.specs.Cut.{tables, pairAt, position, initialWord, segmentWord, offsetWord}
 use Rattle.design.specs.Stored.{
@@ -13,7 +14,6 @@ use Rattle.design.specs.Stored.{
   storedWord,
   storedPlace,
 }
-use Rattle.general.specs.Below.{sumBelow, someBelow}
 use Rattle.design.specs.Legal.{breaks, tableBreaks, cutChecks, designChecks, designVerdict}
 use Rattle.design.specs.Budget.{reach, tableBudget, budget, limit, withinLimit, size}
 use Rattle.design.specs.Answers.{budgetAnswer, sizeAnswer}

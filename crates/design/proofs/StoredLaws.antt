@@ -8,10 +8,10 @@ use lib.Arith.{digits-lt, digits-div, digits-mod}
 use lib.IntN.{ℤ}
 use lib.Pow.{pow-add, pow-mono, pow-pos}
 use lib.Signed.{mag}
-use Rattle.design.specs.Limits.{mostInitialBits, mostTableBits, mostInitial, mostInTable, mostOffsets}
 use Rattle.general.specs.Below.{sumBelow}
 use Rattle.general.proofs.Sums.{sum-mono, sum-bounded}
 use Rattle.design.specs.declared.Design.{Design}
+use Rattle.design.specs.Limits.{mostInitialBits, mostTableBits, mostInitial, mostInTable, mostOffsets}
 use Rattle.design.specs.Cut.{aOf, bOf}
 use Rattle.design.specs.Stored.{
   initialCount,

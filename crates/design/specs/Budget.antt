@@ -2,12 +2,12 @@
 use mathlib.Core.Bool.{Bool}
 use Prim.Native.Nat.{ℕ, _+_, _-_, _*_, _^_, _<_}
 use lib.Dec.{ltb}
+use Rattle.general.specs.Below.{sumBelow}
 use Rattle.values.specs.Slopes.{largestSpread}
 use Rattle.design.specs.declared.Design.{Design}
 use Rattle.design.specs.Legal.{Legal}
 use Rattle.design.specs.Cut.{aOf, bOf, row, fractionBits, position}
 use Rattle.design.specs.Stored.{initialCount, offsetTotal}
-use Rattle.general.specs.Below.{sumBelow}
 
 -- "D_i = (2^(b_i) - 1)·2^(p_i)"
 unfoldable pub reach : Design → ℕ → ℕ

@@ -1,10 +1,10 @@
 // Refusals 1 to 9 of a design, in document 01's order.
 ghost use mathlib.Core.Path.{_≡_};
 ghost use Prim.Native.Nat.{_≤_, _<_};
+ghost use Rattle.general.specs.Below.{someBelow};
 ghost use Rattle.refusal.specs.Checks.{verdict};
 ghost use Rattle.design.specs.Limits.{mostTables};
 ghost use Rattle.design.specs.Cut.{pairAt, position};
-ghost use Rattle.general.specs.Below.{someBelow};
 ghost use Rattle.design.specs.Legal.{tableBreaks, cutChecks, designVerdict};
 ghost use Rattle.design.specs.Legal as Legal;
 use crate::Design;

@@ -7,12 +7,12 @@ use native.Mathlib.Omega.{arith}
 use lib.ListN.{length, getD, drop, length-drop, List·getD-append}
 use lib.Seq.{ext-getD, length-take-le, getD-take, getD-drop, drop-cons}
 use borrow.Author.Tests.{eqb-true, eq-eqb, lt-ltb, not-false}
+use Rattle.general.proofs.Tests.{neither}
 use Rattle.refusal.specs.declared.Verdict.{Verdict}
 use Rattle.refusal.specs.Checks.{verdict}
-use Rattle.design.specs.Limits.{mostTables}
-use Rattle.general.proofs.Tests.{neither}
 use Rattle.design.specs.declared.Pair.{Pair}
 use Rattle.design.specs.declared.Design.{Design}
+use Rattle.design.specs.Limits.{mostTables}
 use Rattle.design.specs.Cut.{tables, pairAt, noPair}
 use Rattle.design.specs.Legal.{Legal}
 use Rattle.design.specs.Same.{Same}

@@ -11,9 +11,9 @@ use Rattle.design.specs.declared.Design.{Design}
 use Rattle.design.specs.Cut.{tables, pairAt, noPair}
 use Rattle.design.specs.Legal.{Legal}
 use Rattle.design.proofs.LegalLaws.{limits}
+use Rattle.encoding.specs.declared.Frame.{Frame}
 use Rattle.encoding.specs.DesignBytes.{pairBytes, designBytes}
 use Rattle.encoding.specs.Inputs.{held}
-use Rattle.encoding.specs.declared.Frame.{Frame}
 use Rattle.encoding.proofs.NumberBytes.{Longer, one-byte}
 
 -- A design has no more tables than its m says.

@@ -7,9 +7,9 @@ use native.Mathlib.Omega.{arith}
 use native.Mathlib.Decide.{decLt}
 use lib.ListN.{length}
 use borrow.Author.Tests.{ltb-true, lt-ltb, le-ltb}
+use Rattle.general.proofs.Tests.{both}
 use Rattle.refusal.specs.Checks.{outside}
 use Rattle.refusal.proofs.Checks.{inside}
-use Rattle.general.proofs.Tests.{both}
 use Rattle.frames.specs.Hex.{digitValue, allDigits, bytesOf}
 use Rattle.encoding.specs.Encode.{digitOf, hexOf}
 

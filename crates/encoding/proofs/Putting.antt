@@ -9,11 +9,11 @@ use lib.ListN.{length, getD, take, set}
 use lib.Seq.{length-take-le, take-suc}
 use Rattle.general.specs.Lists.{total, over}
 use Rattle.general.proofs.WritingLaws.{over-none, over-length, over-more, over-one}
+use Rattle.general.proofs.ListLaws.{total-append}
 use Rattle.frames.specs.Line.{capacity}
 use Rattle.encoding.specs.Encode.{digitOf, hexOf, sumByte, withSum, lineOf}
 use Rattle.encoding.specs.Inputs.{PutInput}
 use Rattle.encoding.proofs.HexBack.{hex-length}
-use Rattle.general.proofs.ListLaws.{total-append}
 
 -- The digits of two lists of bytes, one behind the other, are those of the first and then those of the second.
 hex-append : (xs ys : List ℕ) → hexOf (xs ++ ys) ≡ hexOf xs ++ hexOf ys

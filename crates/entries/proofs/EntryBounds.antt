@@ -5,17 +5,17 @@ use native.Mathlib.Nat.{le-refl, le-trans, le-of-lt, lt-of-lt-of-le, mul-le-mul-
 use native.Mathlib.Omega.{arith}
 use lib.IntN.{natAbs}
 use lib.Pow.{pow-add, pow-mono, pow-pos, shr-mono}
-use Rattle.values.proofs.FloorLaws.{floor-high}
-use Rattle.design.specs.Limits.{mostTables}
+use Rattle.general.proofs.SignedLaws.{difference-small}
 use Rattle.values.specs.Room.{finestUnit, floorBound, productBound, offsetBound, entryBound}
 use Rattle.values.specs.Inputs.{InRange, FloorInput, SlopeInput}
+use Rattle.values.proofs.FloorLaws.{floor-high}
 use Rattle.values.proofs.Bounds.{start-input, end-input, slopes-scaled, slopes-small}
 use Rattle.design.specs.declared.Design.{Design}
+use Rattle.design.specs.Limits.{mostTables}
 use Rattle.design.specs.Cut.{aOf, bOf, row, fractionBits, position}
 use Rattle.design.specs.Stored.{initialCount}
 use Rattle.design.proofs.LegalLaws.{Limits, lawful, slopewise, bits-end, room}
 use Rattle.entries.specs.Entries.{valueAt, endValues, initialAt, hiAt, loAt, oddNumber, magnitude}
-use Rattle.general.proofs.SignedLaws.{difference-small}
 
 -- What the calls of the values ask, at a legal design
 module _ (d : Design) (l : Limits d) where

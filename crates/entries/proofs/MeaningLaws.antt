@@ -9,9 +9,9 @@ use lib.Dec.{ltb, le→leb, lt→ltb}
 use lib.IntN.{ℤ, pos, negsuc, subℕ, natAbs, negℤ, negℤ-negℤ, _+ℤ_, _*ℤ_}
 use lib.Pow.{pow-add, pow-pos}
 use lib.Signed.{nonNeg, _≤ℤ_, _<ℤ_}
-use Rattle.design.specs.Stored.{storedIndex, storedWord, offsetFrom}
 use Rattle.values.specs.Slopes.{hi}
 use Rattle.design.specs.declared.Design.{Design}
+use Rattle.design.specs.Stored.{storedIndex, storedWord, offsetFrom}
 use Rattle.design.specs.Cut.{bOf, row, position}
 use Rattle.entries.specs.Entries.{hiAt, loAt, oddNumber, magnitude, sameSign, signed, offsetOf, offsetAt}
 use Rattle.entries.specs.Meaning.{signedProduct, StandsFor, Meaning}

@@ -31,7 +31,7 @@ fn value_at(d: Design, row: Row, x: u64) -> u64
     floor_value(row, d.w, d.q + d.g, x).count()
 }
 
-// The initial entry of A = word.
+// inner: the initial entry of A = word.
 pub fn initial_at(d: Design, row: Row, word: u64) -> u32
     requires { ⌜ Legal d ⌝ }
     requires { ⌜ (row ≡ Cut.row d) × (word < initialCount d) ⌝ }
@@ -43,7 +43,7 @@ pub fn initial_at(d: Design, row: Row, word: u64) -> u32
     ((values + 1 + d.m as u64) / 2 + pow2(d.g - 1)) as u32
 }
 
-// Hi + Lo of a segment of table i.
+// inner: Hi + Lo of a segment of table i.
 pub fn slope_sum(d: Design, i: u32, segment: u64) -> u64
     requires { ⌜ Legal d ⌝ }
     requires { ⌜ (i < d .m) × (segment < 2 ^ aOf d i) ⌝ }
@@ -86,7 +86,7 @@ fn with_sign(rising: bool, j: i64, t: u64) -> i32
     }
 }
 
-// The offset of B = word, by Hi + Lo of its segment, b and p of its table, and the function's sign, and what it means.
+// inner: the offset of B = word, by Hi + Lo of its segment, b and p of its table, and the function's sign, and what it means.
 pub fn offset_of(slopes: u64, b: u32, p: u32, rising: bool, word: u64) -> i32
     requires { ⌜ OffsetInput slopes b p ⌝ }
     requires { ⌜ word < 2 ^ b ⌝ }

@@ -3,6 +3,7 @@
 use mathlib.Core.Bool.{Bool}
 use Prim.Native.Nat.{ℕ, _+_, _*_, _^_, _≤_, _<_}
 use native.Mathlib.Nat.{le-trans, le-of-lt}
+use Rattle.general.specs.Below.{sumBelow}
 use Rattle.values.specs.declared.rows.Row.{Row}
 use Rattle.values.specs.Rows.{Lawful}
 use Rattle.values.specs.Inputs.{InRange}
@@ -11,7 +12,6 @@ use Rattle.values.specs.Floor.{floorValue}
 use Rattle.values.proofs.ExactLaws.{below, number-cancel, at-most-finer, more-than-finer}
 use Rattle.values.proofs.FloorLaws.{floor-greatest, floor-next}
 use Rattle.values.proofs.SlopeLaws.{Steeper, Flatter, range-pos}
-use Rattle.general.specs.Below.{sumBelow}
 use Rattle.error_bound.proofs.Steps.{Rises, gain-at-most, gain-at-least}
 use Rattle.error_bound.proofs.Climb.{Inside, climb}
 

@@ -9,41 +9,41 @@ use lib.ListN.{length, getD, drop, length-map, List·getD-append}
 use lib.IntN.{ℤ, pos, _+ℤ_}
 use lib.Pow.{pow-add}
 use borrow.Author.Tests.{le-ltb, lt-leb}
+use Rattle.general.specs.Below.{sumBelow, signedSum}
 use Rattle.refusal.specs.declared.Verdict.{Verdict}
 use Rattle.refusal.specs.Checks.{verdict}
 use Rattle.refusal.proofs.Checks.{verdict-append}
-use Rattle.entries.proofs.MeaningLaws.{stored-back}
-use Rattle.design.proofs.StoredLaws.{index-lt}
-use Rattle.design.specs.Stored.{storedIndex, offsetPlace}
 use Rattle.values.specs.Inputs.{InRange}
 use Rattle.values.specs.Value.{wordCheck}
 use Rattle.values.proofs.ExactLaws.{value-low}
 use Rattle.design.specs.declared.Design.{Design}
+use Rattle.design.specs.Stored.{storedIndex, offsetPlace}
 use Rattle.design.specs.Cut.{row, fractionBits, initialWord, segmentWord, offsetWord}
-use Rattle.general.specs.Below.{sumBelow, signedSum}
 use Rattle.design.specs.Budget.{budget, limit, Admitted}
+use Rattle.design.proofs.StoredLaws.{index-lt}
 use Rattle.design.proofs.LegalLaws.{Limits, limits, lawful}
 use Rattle.design.proofs.CutLaws.{initial-word-lt, segment-word-lt, offset-word-lt}
-use Rattle.evaluating.specs.declared.Evaluated.{Evaluated}
-use Rattle.evaluating.specs.declared.Batched.{Batched}
-use Rattle.checking.specs.declared.Checked.{Checked}
-use Rattle.tables.specs.Inputs.{Usable}
 use Rattle.entries.specs.Entries.{initialAt}
+use Rattle.entries.proofs.MeaningLaws.{stored-back}
+use Rattle.tables.specs.Inputs.{Usable}
 use Rattle.tables.specs.Sum.{offsetFor, sumAt, sumOutside, wordOf, wordAt}
 use Rattle.tables.specs.Set.{setChecks}
+use Rattle.tables.proofs.SetLaws.{set-passed}
 use Rattle.filling.specs.Fill.{Filled, storedOffset}
+use Rattle.filling.proofs.EntryLaws as EntryLaws
+use Rattle.evaluating.specs.declared.Evaluated.{Evaluated}
+use Rattle.evaluating.specs.declared.Batched.{Batched}
 use Rattle.evaluating.specs.Evaluate.{wordChecks, evaluateVerdict, evaluateAnswer}
 use Rattle.evaluating.specs.Batch.{outputCheck, roomVerdict, placeVerdict, batchAnswer, outputAfter}
+use Rattle.evaluating.proofs.BatchLaws.{batch-all}
+use Rattle.checking.specs.declared.Checked.{Checked}
 use Rattle.checking.specs.Check.{checkVerdict, checkAnswer}
+use Rattle.checking.proofs.CheckLaws.{check-means}
 use Rattle.error_bound.specs.ErrorBound.{margin, scaledWord, WordHolds, BatchHolds, ErrorBound}
-use Rattle.tables.proofs.SetLaws.{set-passed}
 use Rattle.error_bound.proofs.Totals.{added, taken, total-balance, not-negative}
 use Rattle.error_bound.proofs.SumBound.{writtenOffset, sum-low, sum-high}
 use Rattle.error_bound.proofs.WordBound.{Near, GoodWord, sum-in-range, good-word}
 use Rattle.error_bound.proofs.Said.{said}
-use Rattle.filling.proofs.EntryLaws as EntryLaws
-use Rattle.evaluating.proofs.BatchLaws.{batch-all}
-use Rattle.checking.proofs.CheckLaws.{check-means}
 
 signed-congruence : (n : ℕ) (f g : ℕ → ℤ) → ((i : ℕ) → i < n → f i ≡ g i) → signedSum n f ≡ signedSum n g
 unfolding signedSum

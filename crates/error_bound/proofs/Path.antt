@@ -5,12 +5,12 @@ use Prim.Native.Nat.{ℕ, zero, suc, _+_, _-_, _*_, _^_, _≤_, _<_}
 use native.Mathlib.Nat.{le-refl, le-of-lt, pow-zero}
 use native.Mathlib.Omega.{arith}
 use lib.Pow.{pow-add, pow-pos}
+use Rattle.general.specs.Below.{sumBelow}
 use Rattle.values.specs.Slopes.{segmentStart, segmentEnd}
 use Rattle.values.proofs.SlopeLaws.{OnSegment, on-range, hi-steeper, lo-flatter}
 use Rattle.design.specs.declared.Design.{Design}
 use Rattle.design.specs.Cut.{aOf, bOf, row, fractionBits, position, initialWord, segmentWord, offsetWord}
 use Rattle.design.specs.Stored.{initialCount}
-use Rattle.general.specs.Below.{sumBelow}
 use Rattle.design.specs.Budget.{reach}
 use Rattle.design.proofs.LegalLaws.{Limits, lawful}
 use Rattle.design.proofs.CutLaws.{offset-word-lt, cut-word, initial-word-lt, segment-word-lt, segment-within}

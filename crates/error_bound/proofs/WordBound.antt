@@ -18,8 +18,8 @@ use Rattle.values.specs.declared.rows.Row.{Row}
 use Rattle.values.specs.Rows.{Lawful}
 use Rattle.values.specs.Inputs.{InRange}
 use Rattle.values.specs.Exact.{numberSide, valueSide, AtMost, LessThan, AtLeast, MoreThan}
-use Rattle.values.proofs.ExactLaws.{number-cancel, value-scale, number-scale, value-low, value-high}
 use Rattle.values.specs.Faithful.{Faithful}
+use Rattle.values.proofs.ExactLaws.{number-cancel, value-scale, number-scale, value-low, value-high}
 use Rattle.error_bound.proofs.Path.{parts}
 
 -- Fewer fraction bits: both sides lose the factor (2^k)^t.

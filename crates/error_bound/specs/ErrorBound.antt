@@ -7,17 +7,17 @@ use lib.ListN.{length, getD, drop}
 use lib.IntN.{ℤ, pos}
 use Rattle.refusal.specs.declared.Verdict.{Verdict}
 use Rattle.values.specs.Exact.{AtMost, AtLeast}
+use Rattle.values.specs.Faithful.{Faithful}
 use Rattle.design.specs.declared.Design.{Design}
 use Rattle.design.specs.Cut.{row, fractionBits}
 use Rattle.design.specs.Budget.{budget, Admitted}
+use Rattle.tables.specs.Sum.{sumAt, wordAt}
+use Rattle.filling.specs.Fill.{fillVerdict, initialAfter, offsetsAfter, Filled}
 use Rattle.evaluating.specs.declared.Evaluated.{Evaluated}
 use Rattle.evaluating.specs.declared.Batched.{Batched}
-use Rattle.checking.specs.declared.Checked.{Checked}
-use Rattle.tables.specs.Sum.{sumAt, wordAt}
-use Rattle.values.specs.Faithful.{Faithful}
-use Rattle.filling.specs.Fill.{fillVerdict, initialAfter, offsetsAfter, Filled}
 use Rattle.evaluating.specs.Evaluate.{evaluateAnswer}
 use Rattle.evaluating.specs.Batch.{batchAnswer, outputAfter}
+use Rattle.checking.specs.declared.Checked.{Checked}
 use Rattle.checking.specs.Check.{checkAnswer}
 
 -- "let R = budget + 2^(g+17) and Y' = 2^(18+g)·y"

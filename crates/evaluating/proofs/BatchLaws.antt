@@ -8,18 +8,18 @@ use borrow.Author.Tests.{ltb-false}
 use lib.IntN.{ℤ}
 use lib.ListN.{length, getD, take, drop, set, length-map, List·getD-map}
 use lib.Seq.{length-take-le, take-all}
+use Rattle.general.specs.Lists.{over}
+use Rattle.general.proofs.Sums.{below-suc}
+use Rattle.general.proofs.WritingLaws.{over-start, over-length, over-next}
 use Rattle.refusal.specs.declared.Cause.{Cause}
 use Rattle.refusal.specs.declared.Verdict.{Verdict}
 use Rattle.refusal.proofs.Checks.{passed-append, none-fails}
 use Rattle.design.specs.declared.Design.{Design}
-use Rattle.general.proofs.Sums.{below-suc}
-use Rattle.evaluating.specs.declared.Batched.{Batched}
 use Rattle.tables.specs.Inputs.{Usable}
 use Rattle.tables.specs.Set.{setChecks}
-use Rattle.evaluating.specs.Batch.{outputCheck, roomVerdict, withWord, batchBelow}
-use Rattle.general.specs.Lists.{over}
 use Rattle.tables.proofs.SetLaws.{usable}
-use Rattle.general.proofs.WritingLaws.{over-start, over-length, over-next}
+use Rattle.evaluating.specs.declared.Batched.{Batched}
+use Rattle.evaluating.specs.Batch.{outputCheck, roomVerdict, withWord, batchBelow}
 
 -- Words that all pass are counted,
 pub batch-all : (n : ℕ) (word : ℕ → Verdict) → ((i : ℕ) → i < n → word i ≡ Verdict.Passed) → batchBelow n word ≡ Batched.Count n

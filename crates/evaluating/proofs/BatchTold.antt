@@ -16,8 +16,8 @@ use Rattle.refusal.specs.Checks.{Check, verdict, passes}
 use Rattle.refusal.specs.Told.{accepted, refused, toldAt}
 use Rattle.refusal.proofs.Checks.{after, verdict-append}
 use Rattle.design.specs.declared.Design.{Design}
-use Rattle.evaluating.specs.declared.Batched.{Batched}
 use Rattle.tables.specs.Set.{setChecks}
+use Rattle.evaluating.specs.declared.Batched.{Batched}
 use Rattle.evaluating.specs.Evaluate.{wordChecks}
 use Rattle.evaluating.specs.Batch.{
   outputCheck,

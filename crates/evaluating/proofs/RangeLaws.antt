@@ -10,14 +10,14 @@ use lib.Dec.{ltb, leb}
 use lib.ListN.{length, getD}
 use lib.IntN.{ℤ, pos, negsuc, subℕ, _+ℤ_, +ℤ-assoc, +ℤ-idr}
 use lib.Signed.{mag}
+use Rattle.general.specs.Below.{largest, someBelow, signedSum}
+use Rattle.general.proofs.Sums.{none-below, largest-above}
 use Rattle.refusal.specs.Checks.{outside, verdict}
 use Rattle.refusal.proofs.Checks.{inside}
 use Rattle.values.specs.Value.{wordCheck}
-use Rattle.general.specs.Below.{largest, someBelow, signedSum}
 use Rattle.design.specs.declared.Design.{Design}
 use Rattle.design.specs.Cut.{fractionBits, initialWord, offsetWord}
 use Rattle.design.specs.Stored.{initialCount, offsetTotal}
-use Rattle.general.proofs.Sums.{none-below, largest-above}
 use Rattle.design.proofs.LegalLaws.{Limits}
 use Rattle.design.proofs.StoredLaws.{place-in-total, from-size}
 use Rattle.design.proofs.CutLaws.{segment-word-lt, offset-word-lt, initial-word-lt}

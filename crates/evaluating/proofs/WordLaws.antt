@@ -13,8 +13,8 @@ use Rattle.refusal.proofs.Checks.{none-fails}
 use Rattle.values.specs.declared.OutputUnits.{OutputUnits}
 use Rattle.values.specs.Value.{wordCheck}
 use Rattle.design.specs.declared.Design.{Design}
-use Rattle.evaluating.specs.declared.Evaluated.{Evaluated}
 use Rattle.tables.specs.Sum.{sumAt, sumOutside}
+use Rattle.evaluating.specs.declared.Evaluated.{Evaluated}
 use Rattle.evaluating.specs.Evaluate.{wordChecks, evaluated}
 
 module _ (d : Design) (initial : List ℕ) (offsets : List ℤ) (x : ℕ) where

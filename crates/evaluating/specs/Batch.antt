@@ -11,9 +11,9 @@ use Rattle.refusal.specs.Numbers.{numberOf}
 use Rattle.refusal.specs.Checks.{Check, _↝_, verdict, ifPassed, passes}
 use Rattle.refusal.specs.Told.{Told, accepted, refused, toldAt}
 use Rattle.design.specs.declared.Design.{Design}
-use Rattle.evaluating.specs.declared.Batched.{Batched}
 use Rattle.tables.specs.Sum.{wordAt}
 use Rattle.tables.specs.Set.{setChecks}
+use Rattle.evaluating.specs.declared.Batched.{Batched}
 use Rattle.evaluating.specs.Evaluate.{wordChecks}
 
 -- 14, "output shorter than the batch"

@@ -10,9 +10,9 @@ use Rattle.refusal.specs.Checks.{Check, _↝_, verdict, ifPassed}
 use Rattle.refusal.specs.Told.{Told, accepted, refused, told}
 use Rattle.values.specs.Value.{wordCheck}
 use Rattle.design.specs.declared.Design.{Design}
-use Rattle.evaluating.specs.declared.Evaluated.{Evaluated}
 use Rattle.tables.specs.Sum.{sumAt, sumOutside, wordAt}
 use Rattle.tables.specs.Set.{setChecks}
+use Rattle.evaluating.specs.declared.Evaluated.{Evaluated}
 
 -- 12, "x ≥ 2^w", then 13, "Y out of range"
 unfoldable pub wordChecks : Design → List ℕ → List ℤ → ℕ → List Check

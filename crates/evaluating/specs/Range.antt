@@ -8,8 +8,8 @@ use lib.IntN.{ℤ}
 use Rattle.refusal.specs.Checks.{verdict}
 use Rattle.values.specs.Value.{wordCheck}
 use Rattle.design.specs.declared.Design.{Design}
-use Rattle.evaluating.specs.declared.Batched.{Batched}
 use Rattle.tables.specs.Sum.{sumAt, sumOutside}
+use Rattle.evaluating.specs.declared.Batched.{Batched}
 use Rattle.evaluating.specs.Batch.{batchBelow}
 
 -- Every word's sum is in range, "0 ≤ Y < 2^(P+2)".

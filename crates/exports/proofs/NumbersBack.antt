@@ -6,10 +6,10 @@ use Prim.Native.Nat.{ℕ, zero, suc, _+_, _<_}
 use native.Mathlib.Omega.{arith}
 use lib.ListN.{length, getD, drop}
 use lib.Seq.{drop-cons, drop-length}
-use Rattle.design.specs.Limits.{mostTables}
-use Rattle.design.specs.Cut.{noPair}
 use Rattle.design.specs.declared.Pair.{Pair}
 use Rattle.design.specs.declared.Design.{Design}
+use Rattle.design.specs.Limits.{mostTables}
+use Rattle.design.specs.Cut.{noPair}
 use Rattle.exports.specs.Numbers.{designOf, numbersOf}
 
 -- The n entries of a list from place i on, read one by one

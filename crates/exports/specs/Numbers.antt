@@ -3,9 +3,9 @@ use mathlib.Core.List.{List, [], _∷_}
 use Prim.Native.Nat.{ℕ}
 use lib.ListN.{getD}
 use lib.IntN.{ℤ}
-use Rattle.design.specs.Cut.{noPair}
 use Rattle.design.specs.declared.Pair.{Pair}
 use Rattle.design.specs.declared.Design.{Design}
+use Rattle.design.specs.Cut.{noPair}
 use Rattle.reading.specs.declared.Reading.{Reading}
 use Rattle.reading.specs.ReadLine.{Session, session}
 

@@ -8,18 +8,19 @@ use lib.Arith.{digits-lt, digits-div, digits-mod}
 use lib.ListN.{length, getD, take, length-append, List·getD-append}
 use lib.Seq.{getD-append-add, getD-take, length-take-le, ext-getD}
 use lib.IntN.{ℤ, pos}
-use Rattle.refusal.specs.declared.Verdict.{Verdict}
-use Rattle.refusal.proofs.Checks.{passed-append}
+use Rattle.general.specs.Below.{sumBelow}
 use Rattle.general.proofs.WritingLaws.{kept-length}
 use Rattle.general.proofs.ListLaws.{list-length, list-at}
+use Rattle.general.proofs.Sums.{below-suc}
+use Rattle.refusal.specs.declared.Verdict.{Verdict}
+use Rattle.refusal.proofs.Checks.{passed-append}
 use Rattle.design.specs.declared.Design.{Design}
 use Rattle.design.specs.Stored.{initialCount, offsetCount, tableStart, offsetTotal, storedCount, storedPlace}
-use Rattle.general.specs.Below.{sumBelow}
-use Rattle.general.proofs.Sums.{below-suc}
 use Rattle.design.proofs.StoredLaws.{Entry, place-below, entry-at}
-use Rattle.tables.specs.Inputs.{Usable}
 use Rattle.entries.specs.Entries.{initialAt}
+use Rattle.tables.specs.Inputs.{Usable}
 use Rattle.tables.specs.Set.{setChecks}
+use Rattle.tables.proofs.SetLaws.{usable}
 use Rattle.filling.specs.Fill.{
   admittedCheck,
   fillVerdict,
@@ -32,7 +33,6 @@ use Rattle.filling.specs.Fill.{
   Filled,
   storedOffset,
 }
-use Rattle.tables.proofs.SetLaws.{usable}
 
 module _ (d : Design) where
   pub initial-length : length (initialEntries d) ≡ initialCount d

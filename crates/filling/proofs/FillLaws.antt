@@ -5,6 +5,8 @@ use Prim.Native.Nat.{ℕ, _≤_, _<_}
 use lib.IntN.{ℤ}
 use lib.ListN.{length}
 use borrow.Author.Tests.{lt-ltb, le-ltb}
+use Rattle.general.specs.Lists.{over}
+use Rattle.general.proofs.WritingLaws.{over-start}
 use Rattle.refusal.specs.declared.Cause.{Cause}
 use Rattle.refusal.specs.declared.Verdict.{Verdict}
 use Rattle.refusal.specs.Numbers.{verdictNumber}
@@ -14,8 +16,6 @@ use Rattle.design.specs.declared.Design.{Design}
 use Rattle.design.specs.Budget.{budget, limit, withinLimit}
 use Rattle.tables.specs.Set.{setChecks}
 use Rattle.filling.specs.Fill.{admittedCheck, fillVerdict, initialEntries, offsetEntries, initialAfter, offsetsAfter}
-use Rattle.general.specs.Lists.{over}
-use Rattle.general.proofs.WritingLaws.{over-start}
 
 -- "fill 1 to 11"
 module _ (d : Design) (initial offsets : ℕ) where

@@ -9,22 +9,22 @@ use native.Mathlib.Omega.{arith}
 use lib.IntN.{ℤ}
 use lib.ListN.{length}
 use lib.Pow.{high, low}
+use Rattle.general.specs.Below.{sumBelow, listBelow}
+use Rattle.general.specs.Lists.{over}
+use Rattle.general.proofs.Sums.{sum-mono, sum-step, sum-next}
+use Rattle.general.proofs.ListLaws.{list-length, list-add, list-congruence}
+use Rattle.general.proofs.WritingLaws.{over-none, over-more}
+use Rattle.values.specs.Slopes.{hi}
 use Rattle.design.specs.declared.Design.{Design}
 use Rattle.design.specs.Cut.{aOf, bOf, row, position}
 use Rattle.design.specs.Stored.{offsetCount, tableStart, offsetTotal, storedCount, storedWord}
-use Rattle.general.specs.Below.{sumBelow, listBelow}
-use Rattle.general.proofs.Sums.{sum-mono, sum-step, sum-next}
 use Rattle.design.proofs.LegalLaws.{Limits, bits-end}
-use Rattle.values.specs.Slopes.{hi}
 use Rattle.entries.specs.Entries.{offsetAt, hiAt, loAt, offsetOf}
-use Rattle.filling.specs.Fill.{tableEntries, offsetsBelow, storedOffset}
-use Rattle.general.proofs.ListLaws.{list-length, list-add, list-congruence}
-use Rattle.filling.proofs.EntryLaws.{offsets-length}
-use Rattle.entries.proofs.EntryBounds.{slopes-reach}
-use Rattle.filling.specs.Segment.{segmentOffsets}
 use Rattle.entries.specs.Inputs.{OffsetInput}
-use Rattle.general.specs.Lists.{over}
-use Rattle.general.proofs.WritingLaws.{over-none, over-more}
+use Rattle.entries.proofs.EntryBounds.{slopes-reach}
+use Rattle.filling.specs.Fill.{tableEntries, offsetsBelow, storedOffset}
+use Rattle.filling.specs.Segment.{segmentOffsets}
+use Rattle.filling.proofs.EntryLaws.{offsets-length}
 
 module _ (d : Design) (i : ℕ) where
   -- An offset by the numbers that it is made of

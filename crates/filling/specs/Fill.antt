@@ -5,16 +5,16 @@ use mathlib.Core.List.{List, [], _∷_, _++_}
 use Prim.Native.Nat.{ℕ, zero, suc, _/_, _%_, _^_, _≤_, _<_}
 use lib.ListN.{length, getD}
 use lib.IntN.{ℤ, pos}
+use Rattle.general.specs.Below.{listBelow}
 use Rattle.refusal.specs.declared.Cause.{Cause}
 use Rattle.refusal.specs.declared.Verdict.{Verdict}
 use Rattle.refusal.specs.Checks.{Check, _↝_, verdict, leaves}
-use Rattle.tables.specs.Set.{setChecks}
-use Rattle.general.specs.Below.{listBelow}
 use Rattle.design.specs.declared.Design.{Design}
 use Rattle.design.specs.Cut.{aOf}
 use Rattle.design.specs.Stored.{initialCount, offsetCount, offsetTotal, storedCount, storedWord, storedPlace}
 use Rattle.design.specs.Budget.{withinLimit}
 use Rattle.entries.specs.Entries.{initialAt, offsetAt}
+use Rattle.tables.specs.Set.{setChecks}
 
 -- 11, "not admitted"
 unfoldable pub admittedCheck : Design → Check

@@ -3,8 +3,8 @@ use mathlib.Core.Bool.{Bool}
 use mathlib.Core.List.{List}
 use Prim.Native.Nat.{ℕ, _^_}
 use lib.IntN.{ℤ}
-use Rattle.entries.specs.Entries.{offsetOf}
 use Rattle.general.specs.Below.{listBelow}
+use Rattle.entries.specs.Entries.{offsetOf}
 
 unfoldable pub segmentOffsets : ℕ → ℕ → ℕ → Bool → List ℤ
 segmentOffsets slopes b p rising = listBelow (2 ^ b) (offsetOf slopes b p rising)

@@ -2,12 +2,12 @@
 ghost use mathlib.Core.Path.{_≡_};
 ghost use Prim.Native.Nat.{_+_, _^_, _≤_};
 ghost use lib.ListN.{length};
+ghost use Rattle.general.specs.Lists.{over};
 ghost use Rattle.refusal.specs.Numbers.{verdictNumber};
 ghost use Rattle.design.specs.Stored.{initialCount, tableStart, offsetTotal};
 ghost use Rattle.design.specs.Legal.{Legal};
-ghost use Rattle.filling.specs.Fill.{fillVerdict, initialEntries, tableEntries, offsetEntries, initialAfter, offsetsAfter};
-ghost use Rattle.general.specs.Lists.{over};
 ghost use Rattle.entries.specs.Inputs.{OffsetInput};
+ghost use Rattle.filling.specs.Fill.{fillVerdict, initialEntries, tableEntries, offsetEntries, initialAfter, offsetsAfter};
 ghost use Rattle.filling.specs.Inputs.{TableInput};
 ghost use Rattle.filling.specs.Segment.{segmentOffsets};
 use design::Design;

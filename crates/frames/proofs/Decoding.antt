@@ -9,9 +9,9 @@ use native.Mathlib.Numerals.{add-one}
 use lib.ListN.{length, take, drop, set, replicate, length-set, take-append-drop, drop-of-length-le}
 use lib.Seq.{take-suc-set, drop-set-lt, drop-drop, append-snoc, length-take-le}
 use borrow.Author.Tests.{eq-eqb, ne-eqb}
+use Rattle.general.specs.Lists.{total}
 use Rattle.refusal.specs.declared.Verdict.{Verdict}
 use Rattle.frames.specs.Hex.{allDigits, bytesOf}
-use Rattle.general.specs.Lists.{total}
 use Rattle.frames.specs.Line.{sumFails, lengthFails, isEmpty, capacity, padded, decoded}
 use Rattle.frames.proofs.HexLaws.{Digits, next-byte, next-sound, high-unsound, low-unsound}
 use Rattle.frames.proofs.LineLaws.{SoundLength, accepted}

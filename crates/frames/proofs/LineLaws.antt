@@ -7,12 +7,12 @@ use native.Mathlib.Omega.{arith}
 use lib.Dec.{ltb, eqb}
 use lib.ListN.{length}
 use borrow.Author.Tests.{lt-ltb, ltb-false, eqb-false}
+use Rattle.general.proofs.Tests.{neither}
 use Rattle.refusal.specs.declared.Verdict.{Verdict}
 use Rattle.refusal.specs.Checks.{verdict}
 use Rattle.frames.specs.declared.Decoded.{Decoded}
 use Rattle.frames.specs.Hex.{allDigits, bytesOf}
 use Rattle.frames.specs.Line.{sumFails, longestLine, lengthFails, digitsFail, isEmpty, lineFails, lineChecks, padded, decoded}
-use Rattle.general.proofs.Tests.{neither}
 
 pub record SoundLength (digits : ℕ) : Type 0 where
   pub even : digits ≡ 2 * (digits / 2)

@@ -6,9 +6,9 @@ use lib.Dec.{ltb, eqb}
 use lib.ListN.{getD}
 use Rattle.refusal.specs.declared.Cause.{Cause}
 use Rattle.refusal.specs.Checks.{Check, _↝_}
-use Rattle.design.specs.Cut.{noPair}
 use Rattle.design.specs.declared.Pair.{Pair}
 use Rattle.design.specs.declared.Design.{Design}
+use Rattle.design.specs.Cut.{noPair}
 use Rattle.design.specs.Legal.{designChecks}
 
 -- Of a frame, given as its bytes and their number: "01: kind, w, q, g, alpha, m, then a_i, b_i (a byte each); 8 + 2m bytes by

@@ -4,10 +4,10 @@ use mathlib.Core.List.{List, [], _∷_, _++_}
 use Prim.Native.Nat.{ℕ, _+_, _-_, _%_}
 use lib.Dec.{ltb, eqb}
 use lib.ListN.{length, replicate}
+use Rattle.general.specs.Lists.{total}
 use Rattle.refusal.specs.declared.Cause.{Cause}
 use Rattle.refusal.specs.declared.Verdict.{Verdict}
 use Rattle.refusal.specs.Checks.{Check, _↝_}
-use Rattle.general.specs.Lists.{total}
 use Rattle.frames.specs.declared.Decoded.{Decoded}
 use Rattle.frames.specs.Hex.{allDigits, bytesOf}
 

@@ -19,8 +19,8 @@ use native.Mathlib.Nat.{
 }
 use native.Mathlib.Numerals.{add-one}
 use native.Mathlib.Omega.{arith}
-use Rattle.general.proofs.Tests.{neither}
 use Rattle.general.specs.Below.{sumBelow, someBelow, largest, signedSum}
+use Rattle.general.proofs.Tests.{neither}
 
 -- a number below suc n is n or below n
 pub below-suc {ℓ} : {n i : ℕ} {A : Type ℓ} → i < suc n → (i ≡ n → A) → (i < n → A) → A

@@ -8,8 +8,8 @@ use native.Mathlib.Omega.{arith}
 use lib.ListN.{length, getD, take, drop, set, length-append, length-drop, take-append-drop}
 use lib.Seq.{drop-drop, append-snoc, set-split, take-at, drop-at, take-suc, length-take-le}
 use Rattle.general.specs.Below.{listBelow}
-use Rattle.general.proofs.ListLaws.{list-length}
 use Rattle.general.specs.Lists.{over}
+use Rattle.general.proofs.ListLaws.{list-length}
 
 module _ {A : Type 0} where
   pub over-none : (table : List A) (n : ℕ) → table ≡ over table n []

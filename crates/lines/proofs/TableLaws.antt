@@ -8,13 +8,13 @@ use native.Mathlib.Numerals.{add-one}
 use native.Mathlib.Omega.{arith}
 use lib.Dec.{leb}
 use borrow.Author.Tests.{le-leb, lt-leb}
-use Rattle.design.specs.declared.Design.{Design}
 use Rattle.general.specs.Below.{sumBelow}
+use Rattle.general.proofs.Sums.{sum-mono, sum-next}
+use Rattle.design.specs.declared.Design.{Design}
 use Rattle.design.specs.Stored.{offsetCount, tableStart, offsetTotal}
 use Rattle.design.specs.Legal.{Legal}
 use Rattle.design.proofs.LegalLaws.{limits}
 use Rattle.design.proofs.StoredLaws.{offset-total-small, initial-count-small}
-use Rattle.general.proofs.Sums.{sum-mono, sum-next}
 use Rattle.lines.specs.declared.Slot.{Slot}
 use Rattle.lines.specs.Slots.{lineCount, tableOf, offsetSlot, mostLines}
 

@@ -4,8 +4,8 @@ use mathlib.Core.List.{List, _∷_, _++_}
 use Prim.Native.Nat.{ℕ}
 use lib.ListN.{getD}
 use lib.IntN.{ℤ, pos}
-use Rattle.design.specs.declared.Design.{Design}
 use Rattle.general.specs.Below.{listBelow}
+use Rattle.design.specs.declared.Design.{Design}
 use Rattle.encoding.specs.Bytes.{bigEndian, entryBytes, complement, fits, fitsSigned}
 use Rattle.encoding.specs.Encode.{lineOf}
 use Rattle.encoding.specs.DesignBytes.{designBytes}

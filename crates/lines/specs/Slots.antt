@@ -2,9 +2,9 @@
 use mathlib.Core.Bool.{cond}
 use Prim.Native.Nat.{ℕ, suc, _+_, _-_}
 use lib.Dec.{leb, eqb}
-use Rattle.design.specs.Limits.{mostInitial, mostOffsets}
-use Rattle.design.specs.declared.Design.{Design}
 use Rattle.general.specs.Below.{sumBelow}
+use Rattle.design.specs.declared.Design.{Design}
+use Rattle.design.specs.Limits.{mostInitial, mostOffsets}
 use Rattle.design.specs.Stored.{initialCount, tableStart, offsetTotal}
 use Rattle.lines.specs.declared.Slot.{Slot}
 

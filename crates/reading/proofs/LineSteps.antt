@@ -10,17 +10,17 @@ use lib.IntN.{ℤ}
 use lib.ListN.{length, take, drop}
 use lib.Seq.{take-take, take-nil, length-take-le}
 use borrow.Author.Tests.{eqb-true, le-leb, lt-leb, not-false}
+use Rattle.general.proofs.Tests.{neither}
 use Rattle.refusal.specs.declared.Cause.{Cause}
 use Rattle.refusal.specs.declared.Verdict.{Verdict}
 use Rattle.refusal.specs.Checks.{_↝_, verdict}
 use Rattle.refusal.proofs.Checks.{after, verdict-append}
-use Rattle.general.proofs.Tests.{neither}
 use Rattle.design.specs.declared.Design.{Design}
 use Rattle.tables.specs.Set.{tablesCheck}
 use Rattle.frames.specs.DesignFrame.{frameDesign, firstChecks}
+use Rattle.frames.specs.Line.{capacity}
 use Rattle.frames.proofs.FrameLaws.{frameDesign-padded, firstChecks-padded}
 use Rattle.encoding.specs.Bytes.{numberIn, entryBytes}
-use Rattle.frames.specs.Line.{capacity}
 use Rattle.lines.specs.declared.Slot.{Slot}
 use Rattle.lines.specs.Slots.{lineCount, slotOf}
 use Rattle.lines.specs.Lines.{frameHead, entryWidth}

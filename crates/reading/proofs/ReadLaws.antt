@@ -7,10 +7,10 @@ use native.Mathlib.Omega.{arith}
 use lib.Dec.{leb, eqb}
 use lib.ListN.{length}
 use borrow.Author.Tests.{leb-true, leb-false, le-leb, lt-leb, eqb-true, eq-eqb, ne-eqb, not-false}
+use Rattle.general.proofs.Tests.{neither, both}
 use Rattle.refusal.specs.declared.Cause.{Cause}
 use Rattle.refusal.specs.declared.Verdict.{Verdict}
 use Rattle.refusal.specs.Checks.{Check, _↝_, verdict, passes}
-use Rattle.general.proofs.Tests.{neither, both}
 use Rattle.refusal.proofs.Checks.{none-fails, passed-append, verdict-append}
 use Rattle.refusal.proofs.Answers.{only-passed}
 use Rattle.design.specs.Legal.{designVerdict}

@@ -7,12 +7,12 @@ use native.Mathlib.Omega.{arith}
 use lib.IntN.{ℤ}
 use lib.ListN.{length, take, replicate}
 use lib.Seq.{take-append-seam}
+use Rattle.general.proofs.Tests.{neither}
 use Rattle.refusal.specs.declared.Cause.{Cause}
 use Rattle.refusal.specs.declared.Verdict.{Verdict}
 use Rattle.refusal.specs.Checks.{verdict, ifPassed}
 use Rattle.refusal.specs.Numbers.{verdictNumber}
 use Rattle.refusal.proofs.Checks.{verdict-append, none-fails}
-use Rattle.general.proofs.Tests.{neither}
 use Rattle.refusal.proofs.Answers.{if-passed-part}
 use Rattle.frames.specs.declared.Decoded.{Decoded}
 use Rattle.frames.specs.Hex.{bytesOf}

@@ -11,8 +11,8 @@ use Rattle.refusal.specs.declared.Verdict.{Verdict}
 use Rattle.refusal.specs.Checks.{verdict}
 use Rattle.refusal.proofs.Checks.{verdict-append}
 use Rattle.design.specs.declared.Design.{Design}
-use Rattle.frames.specs.Hex.{bytesOf}
 use Rattle.frames.specs.declared.Decoded.{Decoded}
+use Rattle.frames.specs.Hex.{bytesOf}
 use Rattle.frames.specs.Line.{longestLine, lineChecks, decoded}
 use Rattle.frames.specs.DesignFrame.{frameDesign, firstChecks}
 use Rattle.frames.proofs.LineLaws.{held-whole, long-fails}

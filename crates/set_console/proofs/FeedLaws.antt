@@ -12,10 +12,10 @@ use borrow.Author.Tests.{not-true, not-false}
 use Rattle.refusal.specs.declared.Cause.{Cause}
 use Rattle.refusal.specs.declared.Verdict.{Verdict}
 use Rattle.lines.specs.Slots.{mostLines}
+use Rattle.lines.proofs.TableLaws.{lines-small}
 use Rattle.reading.specs.declared.Reading.{Reading}
 use Rattle.reading.specs.declared.Read.{Read}
 use Rattle.reading.specs.ReadLine.{possible, finished, Session, session, verdictOn, after, readAnswer}
-use Rattle.lines.proofs.TableLaws.{lines-small}
 use Rattle.reading.proofs.ReadLaws.{begun, begun-possible}
 use Rattle.storage.specs.Feeding.{feed}
 use Rattle.storage.proofs.Accepting.{SomeAccepted, accepted-line}

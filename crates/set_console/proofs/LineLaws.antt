@@ -4,8 +4,8 @@ use mathlib.Core.List.{List}
 use Prim.Native.Nat.{ℕ, _≤_, _<_}
 use lib.IntN.{ℤ}
 use Rattle.refusal.specs.declared.Verdict.{Verdict}
-use Rattle.design.specs.Limits.{mostInitial, mostOffsets}
 use Rattle.design.specs.declared.Design.{Design}
+use Rattle.design.specs.Limits.{mostInitial, mostOffsets}
 use Rattle.design.proofs.StoredLaws.{initial-count-small, offset-total-small}
 use Rattle.design.proofs.LegalLaws.{limits}
 use Rattle.tables.proofs.SetLaws.{usable}

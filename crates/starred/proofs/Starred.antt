@@ -6,19 +6,19 @@ use lib.Dec.{lit<}
 use lib.IntN.{ℤ, pos, negℤ}
 use lib.ListN.{take}
 use Rattle.refusal.specs.Numbers.{verdictNumber}
-use Rattle.design.specs.Cut.{noPair}
 use Rattle.values.specs.declared.Valued.{Valued}
 use Rattle.values.specs.Value.{valueOf}
 use Rattle.design.specs.declared.Design.{Design}
+use Rattle.design.specs.Cut.{noPair}
 use Rattle.design.specs.Budget.{budget, limit, Admitted}
-use Rattle.evaluating.specs.declared.Evaluated.{Evaluated}
 use Rattle.entries.specs.Entries.{initialAt}
 use Rattle.tables.specs.Sum.{sumAt}
 use Rattle.filling.specs.Fill.{fillVerdict, initialEntries, offsetEntries}
+use Rattle.evaluating.specs.declared.Evaluated.{Evaluated}
 use Rattle.evaluating.specs.Evaluate.{evaluateAnswer}
-use Rattle.starred.proofs.Opened.{calls-opened}
 use Rattle.error_bound.specs.ErrorBound.{Holds}
 use Rattle.error_bound.proofs.Holds.{error-bound}
+use Rattle.starred.proofs.Opened.{calls-opened}
 
 -- "G is kind 0, w 8, q 8, g 4, alpha 5, m 1, (3,3)", here with the guard bits and the first pair given
 abbrev G-with : ℕ → ℕ → ℕ → Design

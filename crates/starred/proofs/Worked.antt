@@ -7,6 +7,7 @@ use Prim.Native.Nat.{ℕ, _^_}
 use Prim.Native.String.{String}
 use lib.IntN.{pos}
 use lib.ListN.{replicate, set}
+use Rattle.general.specs.Lists as Lists
 use Rattle.refusal.specs.declared.Cause.{Cause}
 use Rattle.refusal.specs.declared.Verdict.{Verdict}
 use Rattle.refusal.specs.Numbers.{numberOf}
@@ -16,14 +17,12 @@ use Rattle.design.specs.declared.Pair.{Pair}
 use Rattle.design.specs.declared.Design.{Design}
 use Rattle.design.specs.declared.Measured.{Measured}
 use Rattle.design.specs.Answers.{budgetAnswer, sizeAnswer}
-use Rattle.evaluating.specs.declared.Batched.{Batched}
-use Rattle.checking.specs.declared.Checked.{Checked}
 use Rattle.filling.specs.Fill.{initialEntries, offsetEntries}
+use Rattle.evaluating.specs.declared.Batched.{Batched}
 use Rattle.evaluating.specs.Batch.{batchAnswer}
+use Rattle.checking.specs.declared.Checked.{Checked}
 use Rattle.checking.specs.Check.{checkAnswer}
-use Rattle.starred.proofs.Opened.{calls-opened}
 use Rattle.frames.specs.Hex as Hex
-use Rattle.general.specs.Lists as Lists
 use Rattle.frames.specs.Line as Line
 use Rattle.frames.specs.DesignFrame as DesignFrame
 use Rattle.encoding.specs.Bytes as Bytes
@@ -44,6 +43,7 @@ use Rattle.report_text.specs.Report.{reportOf}
 use Rattle.word_text.specs.declared.ReadWord.{ReadWord}
 use Rattle.word_text.specs.Decimal as Decimal
 use Rattle.word_text.specs.Decimal.{wordIn}
+use Rattle.starred.proofs.Opened.{calls-opened}
 use Rattle.starred.proofs.Starred.{G}
 
 abbrev pair : ℕ → ℕ → Pair

@@ -10,8 +10,8 @@ use lib.ListN.{length, take, drop, length-append}
 use lib.Seq.{take-at, take-add}
 use lib.IntN.{ℤ}
 use borrow.Author.Tests.{eqb-true, not-false}
-use Rattle.refusal.specs.declared.Verdict.{Verdict}
 use Rattle.general.proofs.Tests.{neither}
+use Rattle.refusal.specs.declared.Verdict.{Verdict}
 use Rattle.design.specs.declared.Design.{Design}
 use Rattle.tables.specs.Inputs.{Usable}
 use Rattle.tables.proofs.SetLaws.{usable, set-lengths}

@@ -15,8 +15,8 @@ use Rattle.design.specs.Legal.{Legal}
 use Rattle.design.proofs.LegalLaws.{Limits, limits}
 use Rattle.design.proofs.StoredLaws.{entry-at, word-lt}
 use Rattle.entries.specs.Entries.{initialAt, oddNumber, sameSign, signed, offsetOf, offsetAt}
-use Rattle.filling.specs.Fill.{fillVerdict, initialAfter, offsetsAfter, Filled, storedOffset}
 use Rattle.entries.proofs.EntryBounds.{initial-small, magnitude-small, slopes-reach}
+use Rattle.filling.specs.Fill.{fillVerdict, initialAfter, offsetsAfter, Filled, storedOffset}
 use Rattle.filling.proofs.EntryLaws as EntryLaws
 use Rattle.encoding.specs.Bytes.{fits, fitsSigned, entryBytes}
 use Rattle.storage.specs.Sets.{TableSet, Storable}

@@ -4,10 +4,10 @@ use mathlib.Core.List.{List, _∷_, _++_, append-nil}
 use Prim.Native.Nat.{ℕ, zero, suc, _+_, _-_, _≤_, _<_}
 use native.Mathlib.Nat.{add-zero, le-refl, le-trans}
 use native.Mathlib.Omega.{arith}
-use Rattle.design.specs.declared.Design.{Design}
 use Rattle.general.specs.Below.{sumBelow, listBelow}
-use Rattle.design.specs.Stored.{initialCount, offsetCount, tableStart, offsetTotal}
 use Rattle.general.proofs.ListLaws.{list-add, list-congruence}
+use Rattle.design.specs.declared.Design.{Design}
+use Rattle.design.specs.Stored.{initialCount, offsetCount, tableStart, offsetTotal}
 use Rattle.encoding.specs.Bytes.{bigEndian}
 use Rattle.encoding.specs.Encode.{lineOf}
 use Rattle.encoding.specs.DesignBytes.{designBytes}

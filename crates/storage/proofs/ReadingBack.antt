@@ -9,14 +9,14 @@ use native.Mathlib.Omega.{arith}
 use lib.ListN.{length, getD, take, drop}
 use lib.Seq.{getD-take, length-take-le, take-at, drop-at, take-take}
 use lib.IntN.{ℤ, pos}
+use Rattle.general.specs.Below.{listBelow}
+use Rattle.general.specs.Lists.{over}
+use Rattle.general.proofs.WritingLaws.{over-none, over-start, over-length, over-next}
 use Rattle.refusal.specs.declared.Verdict.{Verdict}
 use Rattle.design.specs.declared.Design.{Design}
 use Rattle.design.specs.Stored.{initialCount, offsetTotal}
 use Rattle.design.specs.Same.{Same}
 use Rattle.tables.specs.Inputs.{Usable}
-use Rattle.general.specs.Below.{listBelow}
-use Rattle.general.specs.Lists.{over}
-use Rattle.general.proofs.WritingLaws.{over-none, over-start, over-length, over-next}
 use Rattle.frames.specs.DesignFrame.{frameDesign}
 use Rattle.encoding.specs.Bytes.{entryBytes}
 use Rattle.encoding.specs.Encode.{withSum}

@@ -11,8 +11,8 @@ use Rattle.tables.proofs.SetLaws.{set-passed, usable}
 use Rattle.lines.specs.Slots.{lineCount}
 use Rattle.lines.specs.Lines.{lineAt}
 use Rattle.writing.specs.Write.{numberCheck, writeVerdict, writeAnswer, bufferAfter, askedChecks}
-use Rattle.storage.specs.Sets.{TableSet, Storable}
 use Rattle.writing.proofs.WriteLaws.{Given, line-given, given}
+use Rattle.storage.specs.Sets.{TableSet, Storable}
 use Rattle.storage.specs.Storage.{Gives, Storage}
 use Rattle.storage.proofs.InOrder.{in-order}
 use Rattle.storage.proofs.ReadingBack.{read-back}

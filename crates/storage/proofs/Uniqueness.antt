@@ -9,11 +9,11 @@ use native.Mathlib.Omega.{arith}
 use lib.ListN.{length, length-set}
 use lib.Seq.{append-snoc}
 use lib.IntN.{ℤ}
+use Rattle.general.specs.Below.{listBelow}
+use Rattle.general.proofs.ListLaws.{list-congruence}
 use Rattle.refusal.specs.declared.Cause.{Cause}
 use Rattle.refusal.specs.declared.Verdict.{Verdict}
 use Rattle.tables.specs.Inputs.{Usable}
-use Rattle.general.specs.Below.{listBelow}
-use Rattle.general.proofs.ListLaws.{list-congruence}
 use Rattle.encoding.specs.Bytes.{entryBytes, fromComplement}
 use Rattle.lines.specs.declared.Slot.{Slot}
 use Rattle.lines.specs.Slots.{lineCount, slotOf}

@@ -7,8 +7,8 @@ use lib.ListN.{length, getD}
 use lib.IntN.{ℤ}
 use borrow.Author.Tests.{le-ltb}
 use Rattle.refusal.specs.declared.Verdict.{Verdict}
-use Rattle.design.specs.Cut.{noPair}
 use Rattle.design.specs.declared.Design.{Design}
+use Rattle.design.specs.Cut.{noPair}
 use Rattle.design.specs.Same.{Same}
 use Rattle.tables.specs.Set.{tablesCheck}
 use Rattle.frames.specs.Hex.{bytesOf}

@@ -3,8 +3,8 @@ use mathlib.Core.List.{List, [], _∷_, _++_}
 use Prim.Native.Nat.{ℕ, zero, suc, _+_}
 use lib.ListN.{getD}
 use lib.IntN.{pos}
-use Rattle.design.specs.Stored.{initialCount, offsetCount, tableStart, offsetTotal}
 use Rattle.general.specs.Below.{listBelow}
+use Rattle.design.specs.Stored.{initialCount, offsetCount, tableStart, offsetTotal}
 use Rattle.encoding.specs.Bytes.{bigEndian, entryBytes, complement}
 use Rattle.encoding.specs.Encode.{lineOf}
 use Rattle.encoding.specs.DesignBytes.{designBytes}

@@ -7,8 +7,8 @@ use lib.ListN.{getD}
 use lib.IntN.{ℤ}
 use Rattle.refusal.specs.declared.Verdict.{Verdict}
 use Rattle.refusal.specs.Checks.{verdict}
-use Rattle.design.specs.Cut.{noPair}
 use Rattle.design.specs.declared.Design.{Design}
+use Rattle.design.specs.Cut.{noPair}
 use Rattle.design.specs.Same.{Same}
 use Rattle.design.specs.Legal.{designVerdict}
 use Rattle.design.specs.Answers.{budgetAnswer, sizeAnswer, budgetTold, sizeTold}

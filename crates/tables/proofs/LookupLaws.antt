@@ -7,12 +7,12 @@ use native.Mathlib.Decide.{decLt}
 use native.Mathlib.Omega.{arith}
 use lib.ListN.{take, List·getD-eq-default, length-take}
 use lib.Pow.{pow-lt, pow-mono, shr-shr, split}
-use Rattle.design.specs.Limits.{mostTables, mostOffsetBits, mostTableBits, mostInTable}
+use Rattle.general.proofs.Sums.{sum-bounded, sum-next}
 use Rattle.design.specs.declared.Pair.{Pair}
 use Rattle.design.specs.declared.Design.{Design}
+use Rattle.design.specs.Limits.{mostTables, mostOffsetBits, mostTableBits, mostInTable}
 use Rattle.design.specs.Cut.{tables, pairAt, aOf, bOf, position, initialWord, segmentWord, offsetWord, noPair}
 use Rattle.design.specs.Stored.{offsetCount, tableStart, offsetTotal, offsetPlace, storedPlace, storedCount, storedIndex}
-use Rattle.general.proofs.Sums.{sum-bounded, sum-next}
 use Rattle.design.proofs.LegalLaws.{Limits, bits-end}
 use Rattle.design.proofs.StoredLaws.{place-in-total, count-is}
 use Rattle.design.proofs.CutLaws.{segment-word-lt, offset-word-lt}

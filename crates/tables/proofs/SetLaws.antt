@@ -5,11 +5,11 @@ use mathlib.Core.List.{[], _∷_}
 use Prim.Native.Nat.{ℕ, _≤_, _<_}
 use lib.Dec.{ltb}
 use borrow.Author.Tests.{ltb-false, lt-ltb, le-ltb}
+use Rattle.general.proofs.Tests.{neither}
 use Rattle.refusal.specs.declared.Cause.{Cause}
 use Rattle.refusal.specs.declared.Verdict.{Verdict}
 use Rattle.refusal.specs.Checks.{verdict, refuses}
 use Rattle.refusal.proofs.Checks.{verdict-append, passed-append, none-fails}
-use Rattle.general.proofs.Tests.{neither}
 use Rattle.design.specs.declared.Design.{Design}
 use Rattle.design.specs.Stored.{initialCount, offsetTotal}
 use Rattle.design.specs.Legal.{designChecks, designVerdict, Legal}

@@ -8,12 +8,12 @@ use borrow.Author.Tests.{leb-false}
 use lib.Dec.{T, leb, ltb}
 use lib.IntN.{ℤ, pos, negsuc, natAbs, _+ℤ_, +ℤ-assoc, +ℤ-idr}
 use lib.Signed.{mag, nonNeg}
+use Rattle.general.specs.Below.{signedSum}
 use Rattle.general.proofs.Tests.{neither}
-use Rattle.tables.specs.Inputs.{Summed}
 use Rattle.general.proofs.Sums.{signed-next}
 use Rattle.design.specs.declared.Design.{Design}
 use Rattle.design.specs.Cut.{fractionBits}
-use Rattle.general.specs.Below.{signedSum}
+use Rattle.tables.specs.Inputs.{Summed}
 use Rattle.tables.specs.Sum.{offsetFor, sumOutside}
 
 -- Before any table, with one more, and with all of them

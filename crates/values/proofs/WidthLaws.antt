@@ -8,9 +8,9 @@ use native.Mathlib.Decide.{decLt}
 use native.Mathlib.Omega.{arith}
 use borrow.Author.Tests.{leb-true, ltb-false}
 use lib.Dec.{leb}
+use Rattle.general.proofs.Tests.{both, neither}
 use Rattle.refusal.specs.declared.Verdict.{Verdict}
 use Rattle.refusal.specs.Checks.{verdict}
-use Rattle.general.proofs.Tests.{both, neither}
 use Rattle.refusal.proofs.Checks.{none-fails, inside}
 use Rattle.values.specs.declared.widths.Limits.{Limits}
 use Rattle.values.specs.Rows.{rows, kinds, rowOf, Lawful}

@@ -31,7 +31,7 @@ pub fn limits_of(kind: u32) -> Limits
     }
 }
 
-// q + g is formed in 64 bits, so that it cannot wrap into legality, whatever the limits.
+// The refusals 1 to 4, by the limits. q + g is formed in 64 bits, so that it cannot wrap into legality, whatever the limits.
 pub fn width_verdict(limits: Limits, kind: u32, w: u32, q: u32, g: u32) -> Verdict
     ensures { λ r. ⌜ r ≡ verdict (widthChecks limits kind w q g) ⌝ }
 {

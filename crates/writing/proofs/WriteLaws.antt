@@ -7,6 +7,8 @@ use native.Mathlib.Omega.{arith}
 use lib.IntN.{ℤ}
 use lib.ListN.{length}
 use borrow.Author.Tests.{le-leb, lt-leb, leb-false, ltb-false, not-false}
+use Rattle.general.specs.Lists.{over}
+use Rattle.general.proofs.WritingLaws.{over-start}
 use Rattle.refusal.specs.declared.Cause.{Cause}
 use Rattle.refusal.specs.declared.Verdict.{Verdict}
 use Rattle.refusal.specs.Checks.{verdict}
@@ -15,11 +17,9 @@ use Rattle.refusal.proofs.Answers.{only-passed}
 use Rattle.design.specs.declared.Design.{Design}
 use Rattle.tables.specs.Inputs.{Usable}
 use Rattle.tables.specs.Set.{setChecks}
-use Rattle.general.specs.Lists.{over}
 use Rattle.tables.proofs.SetLaws.{usable, set-passed}
-use Rattle.general.proofs.WritingLaws.{over-start}
-use Rattle.encoding.specs.declared.Frame.{Frame}
 use Rattle.frames.specs.Line.{longestLine}
+use Rattle.encoding.specs.declared.Frame.{Frame}
 use Rattle.encoding.specs.Bytes.{bigEndian, entryBytes}
 use Rattle.encoding.specs.Encode.{lineOf}
 use Rattle.encoding.specs.Inputs.{held}

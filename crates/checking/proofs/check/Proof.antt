@@ -10,10 +10,10 @@ use Rattle.refusal.specs.declared.Verdict.{Verdict}
 use Rattle.refusal.proofs.Answers.{answer-told}
 use Rattle.design.specs.declared.Design.{Design}
 use Rattle.design.proofs.LegalLaws.{limits}
-use Rattle.checking.specs.declared.Checked.{Checked}
 use Rattle.tables.specs.Inputs.{Usable}
-use Rattle.checking.specs.Check.{faithfulAt, findingBelow, found, checkVerdict, checkAnswer, toldBy, checkTold}
 use Rattle.tables.proofs.SetLaws.{usable}
+use Rattle.checking.specs.declared.Checked.{Checked}
+use Rattle.checking.specs.Check.{faithfulAt, findingBelow, found, checkVerdict, checkAnswer, toldBy, checkTold}
 use Rattle.checking.proofs.CheckLaws.{check-searches, found-told}
 use Rattle.checking.proofs.check.Statement.{statement}
 use Rattle.checking.proofs.check.Tie as tie

@@ -9,8 +9,8 @@ use borrow.Author.Tests.{not-true, not-false}
 use Rattle.general.proofs.Tests.{tested}
 use Rattle.values.specs.Room.{wordBound}
 use Rattle.design.proofs.LegalLaws.{limits}
-use Rattle.checking.specs.declared.Checked.{Checked}
 use Rattle.tables.specs.Inputs.{SameInterval}
+use Rattle.checking.specs.declared.Checked.{Checked}
 use Rattle.checking.specs.Check.{faithfulAt}
 use Rattle.checking.proofs.SearchLaws.{
   Searched,

@@ -8,6 +8,7 @@ use lib.ListN.{getD}
 use lib.IntN.{ℤ, pos, _+ℤ_}
 use lib.Pow.{shr-lt}
 use borrow.Author.Needs.{needs}
+use Rattle.general.specs.Below.{signedSum}
 use Rattle.general.proofs.Tests.{tested}
 use Rattle.values.specs.declared.TableUnits.{TableUnits}
 use Rattle.values.specs.declared.OutputUnits.{OutputUnits}
@@ -18,10 +19,9 @@ use Rattle.values.proofs.Bounds.{coarser, words-few}
 use Rattle.design.specs.declared.Design.{Design}
 use Rattle.design.specs.Cut.{row, fractionBits, initialWord}
 use Rattle.design.proofs.LegalLaws.{Limits, limits, lawful, room}
-use Rattle.general.specs.Below.{signedSum}
 use Rattle.tables.specs.Sum.{offsetFor, sumAt, sumOutside, wordOf, wordAt}
-use Rattle.checking.specs.Check.{faithfulAt}
 use Rattle.tables.proofs.SumLaws.{in-range}
+use Rattle.checking.specs.Check.{faithfulAt}
 use Rattle.checking.proofs.word_is_faithful.Statement.{statement}
 use Rattle.checking.proofs.word_is_faithful.Tie as tie
 

@@ -1,10 +1,10 @@
 -- `console::print_report` is safe: the text lies within its array.
 use borrow.Author.Needs.{needs}
-use Rattle.io.proofs.Counting.{counts}
 use Rattle.report_text.specs.Report.{reportOf}
 use Rattle.report_text.proofs.TextLaws.{text-counts}
 use Rattle.console.proofs.print_report.Statement.{statement}
 use Rattle.console.proofs.print_report.Tie as tie
+use Rattle.io.proofs.Counting.{counts}
 
 print-requires : tie.Need-print-requires
 unfolding reportOf

@@ -11,11 +11,11 @@ use Rattle.refusal.specs.Checks.{verdict}
 use Rattle.refusal.proofs.Checks.{verdict-append}
 use Rattle.refusal.proofs.Answers.{answer-told}
 use Rattle.design.specs.declared.Design.{Design}
-use Rattle.evaluating.specs.declared.Evaluated.{Evaluated}
 use Rattle.tables.specs.Sum.{wordAt}
 use Rattle.tables.specs.Set.{setChecks}
-use Rattle.evaluating.specs.Evaluate.{wordChecks, evaluated, evaluateVerdict, evaluateAnswer, toldBy, evaluateTold}
 use Rattle.tables.proofs.SetLaws.{usable}
+use Rattle.evaluating.specs.declared.Evaluated.{Evaluated}
+use Rattle.evaluating.specs.Evaluate.{wordChecks, evaluated, evaluateVerdict, evaluateAnswer, toldBy, evaluateTold}
 use Rattle.evaluating.proofs.evaluate.Statement.{statement}
 use Rattle.evaluating.proofs.evaluate.Tie as tie
 

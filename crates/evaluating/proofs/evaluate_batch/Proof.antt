@@ -8,8 +8,8 @@ use lib.ListN.{length, drop, length-map}
 use Rattle.refusal.specs.declared.Cause.{Cause}
 use Rattle.refusal.specs.declared.Verdict.{Verdict}
 use Rattle.design.specs.declared.Design.{Design}
-use Rattle.evaluating.specs.declared.Batched.{Batched}
 use Rattle.tables.specs.Sum.{wordAt}
+use Rattle.evaluating.specs.declared.Batched.{Batched}
 use Rattle.evaluating.specs.Batch.{roomVerdict, batchBelow, placeVerdict, batchAnswer, outputLeft, outputAfter, toldBy, batchTold}
 use Rattle.evaluating.proofs.BatchLaws.{batch-all, batch-passed, room-tells}
 use Rattle.evaluating.proofs.BatchTold.{batch-told}

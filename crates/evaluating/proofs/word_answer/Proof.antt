@@ -5,8 +5,8 @@ use Prim.Native.Nat.{_^_, _<_}
 use native.Mathlib.Omega.{arith}
 use borrow.Author.Needs.{needs}
 use Rattle.design.proofs.LegalLaws.{limits}
-use Rattle.evaluating.specs.declared.Evaluated.{Evaluated}
 use Rattle.tables.specs.Sum.{sumAt, sumOutside, wordAt}
+use Rattle.evaluating.specs.declared.Evaluated.{Evaluated}
 use Rattle.evaluating.proofs.WordLaws.{word-past, sum-refused, word-passed}
 use Rattle.evaluating.proofs.word_answer.Statement.{statement}
 use Rattle.evaluating.proofs.word_answer.Tie as tie

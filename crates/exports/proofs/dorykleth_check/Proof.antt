@@ -1,5 +1,6 @@
 -- `exports::dorykleth_check` meets its contract: the lowest unfaithful word, 2^w, or the number of the cause.
 use mathlib.Core.Path.{refl, sym, _∙_}
+use native.Mathlib.Omega.{arith}
 use borrow.Author.Needs.{needs}
 use Rattle.exports.proofs.WordCount.{few-bits, faithful-legal}
 use Rattle.exports.proofs.dorykleth_check.Statement.{statement}
@@ -10,7 +11,9 @@ enum-told c = search needs
 
 -- a design whose set is faithful is legal
 pow2-requires : tie.Need-pow2-requires
-pow2-requires c κs = few-bits _ (faithful-legal _ _ _ (sym (c .before .before .check .ensures .0) ∙ c .enum-told .given .1))
+pow2-requires c κs =
+    let legal = faithful-legal _ _ _ (sym (c .before .before .check .ensures .0) ∙ c .enum-told .given .1) in
+    omega (arith, few-bits _ legal)
 
 returns : tie.Need-returns
 returns c =

@@ -1,5 +1,6 @@
 -- `exports::dorykleth_sum` meets its contract: the verdict of the set, then the word, then the sum.
 use mathlib.Core.Path.{_≡_, refl, sym, ap, _∙_}
+use native.Mathlib.Omega.{arith}
 use borrow.Author.Needs.{needs}
 use mir.Syntax.{w64}
 use mir.ValLaws.{toZ-ofZ}
@@ -32,7 +33,7 @@ set-passed : (c : tie.After-enum-told) →
 set-passed c = sym (c .before .before .set-verdict .ensures) ∙ c .enum-told .given .1
 
 pow2-requires : tie.Need-pow2-requires
-pow2-requires c κs = few-bits _ (usable _ _ _ (set-passed c) .legal)
+pow2-requires c κs = omega (arith, few-bits _ (usable _ _ _ (set-passed c) .legal))
 
 returns-2 : tie.Need-returns-2
 returns-2 c =

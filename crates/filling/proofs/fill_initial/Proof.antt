@@ -5,16 +5,16 @@ use Prim.Native.Nat.{ℕ, _-_, _≤_, _<_}
 use native.Mathlib.Omega.{arith}
 use lib.ListN.{length, length-set}
 use lib.Pow.{pow-pos}
-use Rattle.design.specs.Limits.{mostInitial}
+use Rattle.general.specs.Below.{listBelow}
+use Rattle.general.specs.Lists.{over}
+use Rattle.general.proofs.WritingLaws.{run-none, run-one}
 use Rattle.design.specs.declared.Design.{Design}
+use Rattle.design.specs.Limits.{mostInitial}
 use Rattle.design.specs.Stored.{initialCount}
 use Rattle.design.proofs.LegalLaws.{limits}
 use Rattle.design.proofs.StoredLaws.{initial-count-small}
 use Rattle.entries.specs.Entries.{initialAt}
-use Rattle.general.specs.Below.{listBelow}
 use Rattle.filling.specs.Fill.{initialEntries}
-use Rattle.general.specs.Lists.{over}
-use Rattle.general.proofs.WritingLaws.{run-none, run-one}
 use Rattle.filling.proofs.fill_initial.Statement.{statement}
 use Rattle.filling.proofs.fill_initial.Tie as tie
 

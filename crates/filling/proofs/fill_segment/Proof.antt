@@ -8,10 +8,10 @@ use lib.ListN.{length, length-set}
 use mir.Syntax.{w32}
 use mir.ValLaws.{toZ-ofZ}
 use Rattle.general.specs.Below.{listBelow}
-use Rattle.filling.specs.Segment.{segmentOffsets}
-use Rattle.entries.specs.Entries.{offsetOf}
 use Rattle.general.specs.Lists.{over}
 use Rattle.general.proofs.WritingLaws.{run-none, run-one}
+use Rattle.entries.specs.Entries.{offsetOf}
+use Rattle.filling.specs.Segment.{segmentOffsets}
 use Rattle.filling.proofs.fill_segment.Statement.{statement}
 use Rattle.filling.proofs.fill_segment.Tie as tie
 

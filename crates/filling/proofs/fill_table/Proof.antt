@@ -4,9 +4,9 @@ use Prim.Native.Nat.{_+_, _-_, _^_, _≤_, _<_}
 use native.Mathlib.Omega.{arith}
 use lib.ListN.{length}
 use lib.Pow.{pow-mono}
-use Rattle.design.specs.Limits.{mostInTable, mostTableBits}
 use Rattle.values.specs.declared.rows.Row.{Row}
 use Rattle.design.specs.declared.Pair.{Pair}
+use Rattle.design.specs.Limits.{mostInTable, mostTableBits}
 use Rattle.design.specs.Cut.{aOf}
 use Rattle.design.proofs.LegalLaws.{limits}
 use Rattle.filling.proofs.TableLaws.{Segments, segments-start, segments-next, segments-end, segment-room, offset-input}

@@ -4,8 +4,8 @@ use mathlib.Core.Bool.{false}
 use native.Mathlib.Omega.{arith}
 use borrow.Author.Needs.{needs}
 use Rattle.refusal.specs.Checks.{outside}
-use Rattle.frames.specs.Hex.{digitValue}
 use Rattle.refusal.proofs.Checks.{inside}
+use Rattle.frames.specs.Hex.{digitValue}
 use Rattle.frames.proofs.digit.Statement.{statement}
 use Rattle.frames.proofs.digit.Tie as tie
 

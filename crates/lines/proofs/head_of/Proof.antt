@@ -1,7 +1,7 @@
 -- `lines::head_of` meets its contract: each frame begins with the byte of its kind, and each call puts a number behind what it has.
 use borrow.Author.Needs.{needs}
-use Rattle.lines.specs.Lines.{frameHead}
 use Rattle.encoding.proofs.NumberBytes.{has-more}
+use Rattle.lines.specs.Lines.{frameHead}
 use Rattle.lines.proofs.head_of.Statement.{statement}
 use Rattle.lines.proofs.head_of.Tie as tie
 

@@ -2,9 +2,9 @@
 use mathlib.Core.Path.{_≡_, sym, _∙_}
 use borrow.Author.Needs.{needs}
 use lib.ListN.{length}
+use Rattle.general.proofs.Tests.{tested}
 use Rattle.refusal.specs.declared.Verdict.{Verdict}
 use Rattle.refusal.specs.Checks.{verdict}
-use Rattle.general.proofs.Tests.{tested}
 use Rattle.frames.specs.Line.{capacity}
 use Rattle.frames.specs.DesignFrame.{firstChecks}
 use Rattle.frames.proofs.FrameLaws.{first-frame}

@@ -2,8 +2,8 @@
 use mathlib.Core.Path.{sym, _∙_}
 use mathlib.Core.Bool.{true, false}
 use borrow.Author.Needs.{needs}
-use Rattle.design.specs.Legal.{Legal}
 use Rattle.general.proofs.Tests.{tested}
+use Rattle.design.specs.Legal.{Legal}
 use Rattle.tables.proofs.SetLaws.{set-refused, set-lengths}
 use Rattle.tables.proofs.set_verdict.Statement.{statement}
 use Rattle.tables.proofs.set_verdict.Tie as tie

@@ -5,8 +5,8 @@ use Prim.Native.Nat.{_+_, _*_, _≤_, _<_}
 use native.Mathlib.Omega.{arith}
 use borrow.Author.Needs.{needs}
 use lib.ListN.{length}
-use Rattle.tables.specs.Inputs.{Usable}
 use Rattle.general.specs.Lists.{over}
+use Rattle.tables.specs.Inputs.{Usable}
 use Rattle.tables.proofs.SetLaws.{usable}
 use Rattle.lines.specs.Slots.{lineCount}
 use Rattle.writing.specs.Write.{writeVerdict}

@@ -5,15 +5,15 @@ use Prim.Native.Nat.{_-_}
 use borrow.Author.Needs.{needs}
 use borrow.Author.Tests.{le-leb, lt-leb, eq-eqb, ne-eqb}
 use lib.Dec.{leb, eqb}
+use Rattle.general.specs.Below.{someBelow}
+use Rattle.general.proofs.Tests.{tested}
 use Rattle.refusal.specs.declared.Cause.{Cause}
 use Rattle.refusal.specs.declared.Verdict.{Verdict}
 use Rattle.refusal.specs.Checks.{outside, refuses, verdict}
 use Rattle.refusal.proofs.Checks.{inside}
-use Rattle.general.proofs.Tests.{tested}
-use Rattle.design.specs.Limits.{leastInitialBits, mostInitialBits, mostTables}
 use Rattle.design.specs.declared.legal.TableRule.{TableRule}
+use Rattle.design.specs.Limits.{leastInitialBits, mostInitialBits, mostTables}
 use Rattle.design.specs.Cut.{position}
-use Rattle.general.specs.Below.{someBelow}
 use Rattle.design.specs.Legal.{tableBreaks, cutChecks}
 use Rattle.design.proofs.legal.cut_verdict.Statement.{statement}
 use Rattle.design.proofs.legal.cut_verdict.Tie as tie

@@ -3,9 +3,9 @@ use mathlib.Core.Path.{_≡_, refl, sym, ap₂, _∙_}
 use Prim.Native.Nat.{_+_, _*_, _-_, _^_, _≤_}
 use native.Mathlib.Omega.{arith}
 use borrow.Author.Needs.{needs}
-use Rattle.design.specs.Cut.{bOf, position}
 use Rattle.general.specs.Below.{sumBelow}
 use Rattle.general.proofs.Sums.{sum-next}
+use Rattle.design.specs.Cut.{bOf, position}
 use Rattle.design.proofs.legal.offset_bits.Statement.{statement}
 use Rattle.design.proofs.legal.offset_bits.Tie as tie
 

@@ -5,8 +5,8 @@ use mathlib.Core.Logic.{⊎-elim}
 use Prim.Native.Nat.{_-_, _≤_}
 use native.Mathlib.Omega.{arith}
 use Rattle.general.specs.Below.{someBelow}
-use Rattle.design.specs.Legal.{tableBreaks}
 use Rattle.general.proofs.Sums.{some-here, some-not-here}
+use Rattle.design.specs.Legal.{tableBreaks}
 use Rattle.design.proofs.legal.some_table_breaks.Statement.{statement}
 use Rattle.design.proofs.legal.some_table_breaks.Tie as tie
 

@@ -3,13 +3,13 @@ use mathlib.Core.Path.{_≡_, refl, sym, ap, ap₂, _∙_}
 use Prim.Native.Nat.{ℕ, _+_, _*_, _-_, _≤_}
 use native.Mathlib.Omega.{arith}
 use borrow.Author.Needs.{needs}
+use Rattle.general.specs.Below.{sumBelow}
+use Rattle.general.proofs.Sums.{sum-next}
 use Rattle.design.specs.declared.Pair.{Pair}
 use Rattle.design.specs.declared.Design.{Design}
 use Rattle.design.specs.Cut.{bOf}
-use Rattle.general.specs.Below.{sumBelow}
 use Rattle.design.specs.Cut as Cut
 use Rattle.design.specs.Budget.{tableBudget, budget}
-use Rattle.general.proofs.Sums.{sum-next}
 use Rattle.design.proofs.LegalLaws.{limits, bits-end}
 use Rattle.design.proofs.BudgetLaws.{shareBound, table-budget-small}
 use Rattle.design.proofs.measure.budget_of.Statement.{statement}

@@ -2,12 +2,12 @@
 use mathlib.Core.Path.{_≡_, refl}
 use Prim.Native.Nat.{ℕ, _+_, _*_, _-_, _≤_}
 use native.Mathlib.Omega.{arith}
-use Rattle.design.proofs.StoredLaws.{count-small}
-use Rattle.design.specs.Limits.{mostInTable}
-use Rattle.design.specs.declared.Design.{Design}
 use Rattle.general.specs.Below.{sumBelow}
-use Rattle.design.specs.Stored.{offsetCount, tableStart, offsetTotal}
 use Rattle.general.proofs.Sums.{sum-next}
+use Rattle.design.specs.declared.Design.{Design}
+use Rattle.design.specs.Limits.{mostInTable}
+use Rattle.design.specs.Stored.{offsetCount, tableStart, offsetTotal}
+use Rattle.design.proofs.StoredLaws.{count-small}
 use Rattle.design.proofs.LegalLaws.{limits}
 use Rattle.design.proofs.measure.offset_total.Statement.{statement}
 use Rattle.design.proofs.measure.offset_total.Tie as tie

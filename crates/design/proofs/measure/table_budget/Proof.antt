@@ -6,8 +6,8 @@ use native.Mathlib.Nat.{lt-trans, lt-of-le-of-lt}
 use native.Mathlib.Omega.{arith}
 use lib.Dec.{lit<}
 use lib.Pow.{pow-pos}
-use Rattle.values.specs.Slopes.{largestSpread}
 use Rattle.values.specs.declared.rows.Row.{Row}
+use Rattle.values.specs.Slopes.{largestSpread}
 use Rattle.design.specs.declared.Pair.{Pair}
 use Rattle.design.specs.declared.Design.{Design}
 use Rattle.design.specs.Cut.{row, fractionBits, pairAt, position}

@@ -4,9 +4,9 @@ use mathlib.Core.Logic.{⊎-elim}
 use Prim.Native.Nat.{ℕ, _-_, _≤_}
 use native.Mathlib.Omega.{arith}
 use lib.ListN.{getD}
-use Rattle.refusal.specs.Checks.{outside}
 use Rattle.general.specs.Below.{someBelow}
 use Rattle.general.proofs.Sums.{some-here, some-not-here}
+use Rattle.refusal.specs.Checks.{outside}
 use Rattle.evaluating.proofs.range.some_outside.Statement.{statement}
 use Rattle.evaluating.proofs.range.some_outside.Tie as tie
 

@@ -7,9 +7,9 @@ use native.Mathlib.Omega.{arith}
 use borrow.Author.Needs.{needs}
 use borrow.Author.Tests.{not-true}
 use lib.Pow.{pow-mono}
-use Rattle.design.specs.Limits.{mostTables}
 use Rattle.values.specs.Room.{finestUnit, entryBound}
 use Rattle.design.specs.declared.Design.{Design}
+use Rattle.design.specs.Limits.{mostTables}
 use Rattle.design.specs.Stored.{initialCount}
 use Rattle.design.proofs.LegalLaws.{Limits, limits}
 use Rattle.evaluating.proofs.RangeLaws.{sums-stay}

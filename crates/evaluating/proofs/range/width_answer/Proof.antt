@@ -11,8 +11,8 @@ use Rattle.refusal.specs.declared.Cause.{Cause}
 use Rattle.refusal.specs.declared.Verdict.{Verdict}
 use Rattle.refusal.specs.Checks.{verdict}
 use Rattle.values.specs.Value.{wordCheck}
-use Rattle.evaluating.proofs.BatchLaws.{batch-all, batch-bad}
 use Rattle.evaluating.specs.Range.{widthAnswer}
+use Rattle.evaluating.proofs.BatchLaws.{batch-all, batch-bad}
 use Rattle.evaluating.proofs.range.width_answer.Statement.{statement}
 use Rattle.evaluating.proofs.range.width_answer.Tie as tie
 

@@ -5,8 +5,8 @@ use mathlib.Core.Bool.{true}
 use native.Mathlib.Omega.{arith}
 use borrow.Author.Needs.{needs}
 use borrow.Author.Tests.{not-true, not-false}
-use Rattle.refusal.specs.declared.Verdict.{Verdict}
 use Rattle.general.proofs.Tests.{tested}
+use Rattle.refusal.specs.declared.Verdict.{Verdict}
 use Rattle.frames.proofs.LineLaws.{line-told}
 use Rattle.reading.specs.ReadLine.{possible}
 use Rattle.reading.proofs.ReadLaws.{begun}

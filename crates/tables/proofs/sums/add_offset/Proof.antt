@@ -10,8 +10,8 @@ use lib.Signed.{mag}
 use mir.Syntax.{w32, w64}
 use mir.Val.{SFits, ofZ, toZ}
 use mir.ValLaws.{toZ-ofZ}
-use Rattle.values.specs.declared.TableUnits.{TableUnits}
 use Rattle.general.proofs.SignedLaws.{mag-add}
+use Rattle.values.specs.declared.TableUnits.{TableUnits}
 use Rattle.tables.proofs.sums.add_offset.Statement.{statement}
 use Rattle.tables.proofs.sums.add_offset.Tie as tie
 

@@ -7,9 +7,9 @@ use native.Mathlib.Omega.{arith}
 use lib.ListN.{length, getD}
 use lib.IntN.{ℤ, pos, _+ℤ_}
 use lib.Signed.{mag}
-use Rattle.values.proofs.Bounds.{words-few}
-use Rattle.values.specs.Room.{wordBound}
 use Rattle.values.specs.declared.TableUnits.{TableUnits}
+use Rattle.values.specs.Room.{wordBound}
+use Rattle.values.proofs.Bounds.{words-few}
 use Rattle.design.specs.declared.Design.{Design}
 use Rattle.design.specs.Stored.{offsetFrom, offsetTotal}
 use Rattle.design.specs.Legal.{Legal}

@@ -6,11 +6,11 @@ use native.Mathlib.Nat.{pow-suc, mul-zero, mul-le-mul, div-le-self, lt-of-le-of-
 use native.Mathlib.Omega.{arith}
 use borrow.Author.Tests.{ltb-true, ltb-false}
 use lib.Pow.{pow-mono, pow-pos}
+use Rattle.general.proofs.Tests.{tested}
 use Rattle.values.specs.Room.{highestDegree, finestUnit}
 use Rattle.values.specs.Inputs.{RootInput, StepInput, Stepwise}
 use Rattle.values.specs.Floor.{rootFrom}
 use Rattle.values.specs.Newton.{newtonSum, newtonStep}
-use Rattle.general.proofs.Tests.{tested}
 use Rattle.values.proofs.ExactLaws.{degree}
 use Rattle.values.proofs.FloorLaws.{IsRoot, root-found}
 use Rattle.values.proofs.NewtonLaws.{step-above, sum-below, step-closer, first-sum, first-power}

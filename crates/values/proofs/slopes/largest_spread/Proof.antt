@@ -5,8 +5,8 @@ use Prim.Native.Nat.{_-_, _^_, _≤_}
 use native.Mathlib.Numerals.{add-one}
 use native.Mathlib.Omega.{arith}
 use lib.Pow.{pow-mono}
-use Rattle.values.specs.Slopes.{spread, largestSpread}
 use Rattle.general.specs.Below.{largest}
+use Rattle.values.specs.Slopes.{spread, largestSpread}
 use Rattle.values.specs.Room.{widestWord, wordBound}
 use Rattle.values.proofs.slopes.largest_spread.Statement.{statement}
 use Rattle.values.proofs.slopes.largest_spread.Tie as tie

@@ -3,8 +3,8 @@ use mathlib.Core.Path.{_≡_}
 use mathlib.Core.Bool.{false}
 use borrow.Author.Needs.{needs}
 use borrow.Author.Tests.{lt-ltb, le-ltb}
-use Rattle.refusal.specs.Checks.{outside}
 use Rattle.general.proofs.Tests.{tested}
+use Rattle.refusal.specs.Checks.{outside}
 use Rattle.values.specs.Widths.{widthChecks}
 use Rattle.values.proofs.widths.width_verdict.Statement.{statement}
 use Rattle.values.proofs.widths.width_verdict.Tie as tie

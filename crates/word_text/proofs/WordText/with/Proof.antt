@@ -4,9 +4,9 @@ use mathlib.Core.Bool.{false}
 use native.Mathlib.Omega.{arith}
 use borrow.Author.Needs.{needs}
 use borrow.Author.Tests.{le-leb, lt-leb}
+use Rattle.general.proofs.Tests.{tested}
 use Rattle.refusal.specs.Checks.{outside}
 use Rattle.refusal.proofs.Checks.{inside}
-use Rattle.general.proofs.Tests.{tested}
 use Rattle.word_text.specs.Decimal.{afterCharacter}
 use Rattle.word_text.proofs.WordText.with.Statement.{statement}
 use Rattle.word_text.proofs.WordText.with.Tie as tie
