@@ -1,21 +1,23 @@
 -- Demand 3, whole: every admitted design, all filled tables, every input word.
-use mathlib.Core.Path.{_≡_, refl, sym, ap₂, _∙_}
+use mathlib.Core.Path.{_≡_, refl, sym, _∙_}
 use mathlib.Core.Bool.{false}
 use mathlib.Core.List.{List, [], _∷_, _++_, map}
 use Prim.Native.Nat.{ℕ, zero, suc, _+_, _-_, _*_, _/_, _^_, _≤_, _<_}
-use native.Mathlib.Nat.{le-refl, le-step, le-of-suc-le-suc, not-suc-le-zero}
+use native.Mathlib.Nat.{le-of-suc-le-suc, not-suc-le-zero}
 use native.Mathlib.Omega.{arith}
 use lib.ListN.{length, getD, drop, length-map, List·getD-append}
-use lib.IntN.{ℤ, pos, _+ℤ_}
+use lib.IntN.{ℤ, pos}
 use lib.Pow.{pow-add}
 use borrow.Author.Tests.{le-ltb, lt-leb}
-use Rattle.general.specs.Below.{sumBelow, signedSum}
+use Rattle.general.specs.Below.{sumBelow}
+use Rattle.general.proofs.Sums.{signed-congruence}
 use Rattle.refusal.specs.declared.Verdict.{Verdict}
 use Rattle.refusal.specs.Checks.{verdict}
 use Rattle.refusal.proofs.Checks.{verdict-append}
 use Rattle.values.specs.Inputs.{InRange}
 use Rattle.values.specs.Value.{wordCheck}
 use Rattle.values.proofs.ExactLaws.{value-low}
+use Rattle.values.proofs.Document.{said}
 use Rattle.design.specs.declared.Design.{Design}
 use Rattle.design.specs.Stored.{storedIndex, offsetPlace}
 use Rattle.design.specs.Cut.{row, fractionBits, initialWord, segmentWord, offsetWord}
@@ -43,12 +45,6 @@ use Rattle.error_bound.specs.ErrorBound.{margin, scaledWord, WordHolds, 
 use Rattle.error_bound.proofs.Totals.{added, taken, total-balance, not-negative}
 use Rattle.error_bound.proofs.SumBound.{writtenOffset, sum-low, sum-high}
 use Rattle.error_bound.proofs.WordBound.{Near, GoodWord, sum-in-range, good-word}
-use Rattle.error_bound.proofs.Said.{said}
-
-signed-congruence : (n : ℕ) (f g : ℕ → ℤ) → ((i : ℕ) → i < n → f i ≡ g i) → signedSum n f ≡ signedSum n g
-unfolding signedSum
-signed-congruence zero f g same = refl
-signed-congruence (suc n) f g same = ap₂ _+ℤ_ (signed-congruence n f g (λ i h. same i (le-step h))) (same n (le-refl _))
 
 map-at : (f : ℕ → ℕ) (l : List ℕ) (n : ℕ) → n < length l → getD (map f l) n 0 ≡ f (getD l n 0)
 map-at f [] n h = absurd (not-suc-le-zero h)

@@ -7,5 +7,4 @@ pub mod Totals
 pub mod Offsets
 pub mod SumBound
 pub mod WordBound
-pub mod Said
 pub mod Holds

@@ -1,6 +1,5 @@
 -- Demand 3, as document 01 states it in "Evaluating and checking".
 use mathlib.Core.Path.{_≡_}
-use mathlib.Core.Logic.{_⊎_}
 use mathlib.Core.List.{List, _++_, map}
 use Prim.Native.Nat.{ℕ, _+_, _-_, _*_, _/_, _^_, _≤_, _<_}
 use lib.ListN.{length, getD, drop}
@@ -8,6 +7,7 @@ use lib.IntN.{ℤ, pos}
 use Rattle.refusal.specs.declared.Verdict.{Verdict}
 use Rattle.values.specs.Exact.{AtMost, AtLeast}
 use Rattle.values.specs.Faithful.{Faithful}
+use Rattle.values.specs.Document.{Between}
 use Rattle.design.specs.declared.Design.{Design}
 use Rattle.design.specs.Cut.{row, fractionBits}
 use Rattle.design.specs.Budget.{budget, Admitted}
@@ -33,19 +33,6 @@ pub record SecondBound (d : Design) (X y : ℕ) : Type 0 where
   pub low : AtMost (row d) (d .w) (fractionBits d + 18) X (scaledWord d y - margin d)
   pub high : AtLeast (row d) (d .w) (fractionBits d + 18) X (scaledWord d y + margin d)
 
--- Both bounds in the words of document 01, for each kind with its c: `_≺_` is < for faithful and ≤ for the second bound, F is q or
--- P + 18, and low and high are y-1 and y+1, or Y'-R and Y'+R.
-module _ (_≺_ : ℕ → ℕ → Type 0) where
-  infix 50 _≺_
-  pub record Between (kind c w F X low high : ℕ) : Type 0 where
-    -- "kind 0: (y-1)·X < 2^(q+w) < (y+1)·X", "kind 0: (Y'-R)·X ≤ 2^(P+18+w) ≤ (Y'+R)·X"
-    pub reciprocal : kind ≡ 0 → (low * X ≺ 2 ^ (F + w)) × (2 ^ (F + w) ≺ high * X)
-    -- "kinds 1, 2: (y-1)²·2^w < c·X·4^q < (y+1)²·2^w", "kinds 1, 2: (Y'-R)²·2^w ≤ c·X·4^(P+18) ≤ (Y'+R)²·2^w"
-    pub root : (kind ≡ 1) ⊎ (kind ≡ 2) → (low ^ 2 * 2 ^ w ≺ c * X * 4 ^ F) × (c * X * 4 ^ F ≺ high ^ 2 * 2 ^ w)
-    -- "kinds 3, 4: (y-1)²·c·X < 4^q·2^w < (y+1)²·c·X", "kinds 3, 4: (Y'-R)²·c·X ≤ 4^(P+18)·2^w ≤ (Y'+R)²·c·X"
-    pub reciprocal-root : (kind ≡ 3) ⊎ (kind ≡ 4)
-        → (low ^ 2 * (c * X) ≺ 4 ^ F * 2 ^ w) × (4 ^ F * 2 ^ w ≺ high ^ 2 * (c * X))
-
 -- What demand 3 says of one input word
 pub record WordHolds (d : Design) (initial : List ℕ) (offsets : List ℤ) (x : ℕ) : Type 0 where
   -- "its word .. is floor(Y / 2^g) with Y summed from these tables", a Y that is not negative and in range
@@ -58,7 +45,7 @@ pub record WordHolds (d : Design) (initial : List ℕ) (offsets : List ℤ) (x :
   -- "this word is faithful and meets the second bound", in one form for all kinds
   pub faithful : Faithful (row d) (d .w) (d .q) (2 ^ d .w + x) (wordAt d initial offsets x)
   pub bound : SecondBound d (2 ^ d .w + x) (wordAt d initial offsets x)
-  -- and in document 01's for each
+  -- and in document 01's for each, with its c
   pub faithful-said : Between _<_ (d .kind) (row d .c) (d .w) (d .q) (2 ^ d .w + x)
       (wordAt d initial offsets x - 1) (wordAt d initial offsets x + 1)
   pub bound-said : Between _≤_ (d .kind) (row d .c) (d .w) (fractionBits d + 18) (2 ^ d .w + x)

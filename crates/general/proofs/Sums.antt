@@ -1,10 +1,10 @@
 -- Sums and tests over the numbers below a bound.
-use mathlib.Core.Path.{_≡_, refl}
+use mathlib.Core.Path.{_≡_, refl, sym, ap, ap₂, _∙_}
 use mathlib.Core.Bool as Bool
-use mathlib.Core.Bool.{Bool, true, false, or-true}
+use mathlib.Core.Bool.{Bool, true, false, cond, or-true}
 use mathlib.Core.Logic.{⊎-elim}
 use Prim.Native.Nat.{ℕ, zero, suc, _+_, _*_, _≤_, _<_}
-use lib.IntN.{ℤ, _+ℤ_}
+use lib.IntN.{ℤ, _+ℤ_, +ℤ-assoc, +ℤ-idl, +ℤ-idr}
 use native.Mathlib.Nat.{
   eq-or-lt-of-le,
   le-of-suc-le-suc,
@@ -19,7 +19,7 @@ use native.Mathlib.Nat.{
 }
 use native.Mathlib.Numerals.{add-one}
 use native.Mathlib.Omega.{arith}
-use Rattle.general.specs.Below.{sumBelow, someBelow, largest, signedSum}
+use Rattle.general.specs.Below.{sumBelow, someBelow, countBelow, largest, signedSum}
 use Rattle.general.proofs.Tests.{neither}
 
 -- a number below suc n is n or below n
@@ -66,6 +66,49 @@ sum-next n f = rw add-one refl
 pub signed-next : (n : ℕ) (f : ℕ → ℤ) → signedSum (n + 1) f ≡ signedSum n f +ℤ f n
 unfolding signedSum
 signed-next n f = rw add-one refl
+
+-- A signed sum by its first part, and by what its parts are
+pub signed-first : (n : ℕ) (f : ℕ → ℤ) → signedSum (suc n) f ≡ f 0 +ℤ signedSum n (λ i. f (i + 1))
+unfolding signedSum
+signed-first zero f = +ℤ-idl (f 0) ∙ sym (+ℤ-idr (f 0))
+signed-first (suc n) f =
+    ap (λ (z : ℤ). z +ℤ f (suc n)) (signed-first n f)
+    ∙ +ℤ-assoc (f 0) (signedSum n (λ i. f (i + 1))) (f (suc n))
+    ∙ rw (add-one n) refl
+
+pub signed-congruence : (n : ℕ) (f g : ℕ → ℤ) → ((i : ℕ) → i < n → f i ≡ g i) → signedSum n f ≡ signedSum n g
+unfolding signedSum
+signed-congruence zero f g same = refl
+signed-congruence (suc n) f g same = ap₂ _+ℤ_ (signed-congruence n f g (λ i h. same i (le-step h))) (same n (le-refl _))
+
+-- How many pass a test: with one number more, no more than there are, and none exactly where each fails.
+pub count-next : (n : ℕ) (test : ℕ → Bool) → countBelow (n + 1) test ≡ countBelow n test + cond (test n) 1 0
+unfolding countBelow
+count-next n test = rw add-one refl
+
+at-most-one : (t : Bool) → cond t 1 0 ≤ 1
+at-most-one true = omega arith
+at-most-one false = omega arith
+
+pub count-bounded : (n : ℕ) (test : ℕ → Bool) → countBelow n test ≤ n
+unfolding countBelow
+count-bounded zero test = omega arith
+count-bounded (suc n) test = omega (arith, count-bounded n test, at-most-one (test n))
+
+none-here : (t : Bool) → _≡_ {A = ℕ} (cond t 1 0) 0 → t ≡ false
+none-here true e = absurd (omega arith)
+none-here false e = refl
+
+pub none-counted : (n : ℕ) (test : ℕ → Bool) → countBelow n test ≡ 0 → (i : ℕ) → i < n → test i ≡ false
+unfolding countBelow
+none-counted zero test e i h = absurd (not-suc-le-zero h)
+none-counted (suc n) test e i h =
+    below-suc h (λ at. rw at (none-here (test n) (omega arith))) (λ below. none-counted n test (omega arith) i below)
+
+pub count-none : (n : ℕ) (test : ℕ → Bool) → ((i : ℕ) → i < n → test i ≡ false) → countBelow n test ≡ 0
+unfolding countBelow
+count-none zero test fails = refl
+count-none (suc n) test fails = rw (count-none n test (λ i h. fails i (le-step h)), fails n (le-refl _)) refl
 
 -- The largest of f over the numbers below n is at least each,
 pub largest-above : (n : ℕ) (f : ℕ → ℕ) (i : ℕ) → i < n → f i ≤ largest n f

@@ -1,5 +1,5 @@
--- Over the numbers below n, from 0 upwards: a sum, a sum of signed numbers, the largest, whether some pass a test, the list.
-use mathlib.Core.Bool.{Bool, false, _||_}
+-- Over the numbers below n, from 0 upwards: a sum, a sum of signed numbers, the largest, whether some pass a test, how many do, the list.
+use mathlib.Core.Bool.{Bool, false, cond, _||_}
 use mathlib.Core.List.{List, [], _∷_, _++_}
 use Prim.Native.Nat.{ℕ, zero, suc, _+_, max}
 use lib.IntN.{ℤ, pos, _+ℤ_}
@@ -21,6 +21,11 @@ largest (suc n) f = max (largest n f) (f n)
 unfoldable pub someBelow : ℕ → (ℕ → Bool) → Bool
 someBelow zero test = false
 someBelow (suc n) test = someBelow n test || test n
+
+-- How many of them pass the test
+unfoldable pub countBelow : ℕ → (ℕ → Bool) → ℕ
+countBelow zero test = 0
+countBelow (suc n) test = countBelow n test + cond (test n) 1 0
 
 unfoldable pub listBelow : {A : Type 0} → ℕ → (ℕ → A) → List A
 listBelow zero f = []

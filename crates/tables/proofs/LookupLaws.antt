@@ -2,12 +2,14 @@
 -- offset.
 use mathlib.Core.Path.{_≡_, sym, ap, _∙_}
 use Prim.Native.Nat.{ℕ, _+_, _-_, _*_, _/_, _%_, _^_, _≤_, _<_}
-use native.Mathlib.Nat.{mod-eq-of-lt, one-mul}
+use native.Mathlib.Nat.{lt-of-lt-of-le, mod-eq-of-lt, one-mul}
 use native.Mathlib.Decide.{decLt}
 use native.Mathlib.Omega.{arith}
 use lib.ListN.{take, List·getD-eq-default, length-take}
 use lib.Pow.{pow-lt, pow-mono, shr-shr, split}
 use Rattle.general.proofs.Sums.{sum-bounded, sum-next}
+use Rattle.values.specs.Room.{wordBound}
+use Rattle.values.proofs.Bounds.{words-few}
 use Rattle.design.specs.declared.Pair.{Pair}
 use Rattle.design.specs.declared.Design.{Design}
 use Rattle.design.specs.Limits.{mostTables, mostOffsetBits, mostTableBits, mostInTable}
@@ -126,6 +128,14 @@ module _ (d : Design) (l : Limits d) (i near x : ℕ) (more : i < d .m) (words :
   same-segment =
       let e : d .w - aOf d i ≡ d .w - d .alpha + (d .alpha - aOf d i) = omega (arith, l .table i more .a-high, l .alpha-below) in
       rw (e, ← shr-shr near (d .w - d .alpha) (d .alpha - aOf d i), ← shr-shr x (d .w - d .alpha) (d .alpha - aOf d i), words .same)
+
+  -- What its lookup asks
+  pub lookup-asks : (lookup : Lookup) → lookup ≡ lookupOf d i → Small lookup × ((near < wordBound) × (x < wordBound))
+  lookup-asks lookup e =
+      let width = words-few (l .widths .room) in (
+        lookup-small d l i lookup e (omega (arith, l .m-high)),
+        (lt-of-lt-of-le (words .near-word) width, lt-of-lt-of-le (words .word) width),
+      )
 
   -- So the lookup of a table that is read leads to the place of x's offset,
   pub place-is : placeAt (lookupOf d i) near x ≡ offsetPlace d i (segmentWord d i x) (offsetWord d i x)

@@ -1,20 +1,21 @@
--- The sum Y: what is known once the offsets of the first i tables are added (how it starts, goes on and ends), and of a Y in range.
+-- The sum Y: what is known once the offsets of i tables from 1 on are added (how it starts, goes on and ends), how table 0 makes it Y, and
+-- what is known of a Y in range.
 use mathlib.Core.Path.{_≡_, sym, ap, _∙_}
 use mathlib.Core.Bool.{false, true≢false}
 use mathlib.Core.List.{List}
-use Prim.Native.Nat.{ℕ, _+_, _^_, _≤_, _<_}
+use Prim.Native.Nat.{ℕ, suc, _+_, _-_, _^_, _≤_, _<_}
 use native.Mathlib.Omega.{arith}
 use borrow.Author.Tests.{leb-false}
 use lib.Dec.{T, leb, ltb}
-use lib.IntN.{ℤ, pos, negsuc, natAbs, _+ℤ_, +ℤ-assoc, +ℤ-idr}
+use lib.IntN.{ℤ, pos, negsuc, natAbs, _+ℤ_, +ℤ-assoc, +ℤ-comm, +ℤ-idr}
 use lib.Signed.{mag, nonNeg}
 use Rattle.general.specs.Below.{signedSum}
 use Rattle.general.proofs.Tests.{neither}
-use Rattle.general.proofs.Sums.{signed-next}
+use Rattle.general.proofs.Sums.{signed-next, signed-first}
 use Rattle.design.specs.declared.Design.{Design}
 use Rattle.design.specs.Cut.{fractionBits}
 use Rattle.tables.specs.Inputs.{Summed}
-use Rattle.tables.specs.Sum.{offsetFor, sumOutside}
+use Rattle.tables.specs.Sum.{offsetFor, sumAbove, sumOutside}
 
 -- Before any table, with one more, and with all of them
 module _ (d : Design) (entry : ℕ) (offsets : List ℤ) (x : ℕ) where
@@ -22,21 +23,36 @@ module _ (d : Design) (entry : ℕ) (offsets : List ℤ) (x : ℕ) where
   unfolding signedSum
   summed-none e small = record { sum-is = e ∙ sym (+ℤ-idr _); small = omega arith }
 
-  pub summed-more : {sum next : ℤ} {i : ℕ} → Summed d entry offsets x i sum → next ≡ sum +ℤ offsetFor d offsets x i
+  pub summed-more : {sum next : ℤ} {i : ℕ} → Summed d entry offsets x i sum → next ≡ sum +ℤ offsetFor d offsets x (i + 1)
       → mag next ≤ mag sum + 2 ^ 32 → Summed d entry offsets x (i + 1) next
   summed-more {sum} {next} {i} s e few =
+      let part : ℕ → ℤ = λ j. offsetFor d offsets x (j + 1) in
       record {
         sum-is =
             e
-            ∙ ap (λ (z : ℤ). z +ℤ offsetFor d offsets x i) (s .sum-is)
-            ∙ +ℤ-assoc (pos entry) (signedSum i (offsetFor d offsets x)) (offsetFor d offsets x i)
-            ∙ ap (λ (z : ℤ). pos entry +ℤ z) (sym (signed-next i (offsetFor d offsets x)));
+            ∙ ap (λ (z : ℤ). z +ℤ part i) (s .sum-is)
+            ∙ +ℤ-assoc (pos entry) (signedSum i part) (part i)
+            ∙ ap (λ (z : ℤ). pos entry +ℤ z) (sym (signed-next i part));
         small = omega (arith, s .small);
       }
 
-  pub summed-all : {sum : ℤ} {i : ℕ} → Summed d entry offsets x i sum → i ≡ d .m
-      → sum ≡ pos entry +ℤ signedSum (d .m) (offsetFor d offsets x)
-  summed-all s e = rw e at (s .sum-is)
+  pub summed-all : {sum : ℤ} {i : ℕ} → Summed d entry offsets x i sum → d .m ≡ i + 1 → i ≤ 3
+      → (sum ≡ sumAbove d entry offsets x) × (mag sum ≤ 2 ^ 40)
+  unfolding sumAbove
+  summed-all {sum} {i} s e few =
+      let all : i ≡ d .m - 1 = omega arith in
+      (rw all at (s .sum-is), omega (arith, s .small))
+
+  -- Table 0 makes it Y.
+  pub sum-first : 1 ≤ d .m → sumAbove d entry offsets x +ℤ offsetFor d offsets x 0 ≡ pos entry +ℤ signedSum (d .m) (offsetFor d offsets x)
+  unfolding sumAbove
+  sum-first some =
+      let e : d .m ≡ suc (d .m - 1) = omega arith in
+      let above = signedSum (d .m - 1) (λ i. offsetFor d offsets x (i + 1)) in
+      let first = offsetFor d offsets x 0 in
+      +ℤ-assoc (pos entry) above first
+      ∙ ap (λ (z : ℤ). pos entry +ℤ z)
+      (+ℤ-comm above first ∙ sym (signed-first (d .m - 1) (offsetFor d offsets x)) ∙ ap (λ (n : ℕ). signedSum n (offsetFor d offsets x)) (sym e))
 
 -- A sum in range is a number of fewer than P + 3 bits.
 pub in-range : (d : Design) (Y : ℤ) → sumOutside d Y ≡ false → T (nonNeg Y) × (natAbs Y < 2 ^ (fractionBits d + 2))

@@ -7,11 +7,12 @@ use lib.Signed.{mag}
 use Rattle.general.specs.Below.{signedSum}
 use Rattle.design.specs.declared.Design.{Design}
 use Rattle.design.specs.Limits.{mostOffsets}
-use Rattle.design.specs.Cut.{initialWord}
-use Rattle.design.specs.Stored.{initialCount, offsetTotal}
+use Rattle.design.specs.Cut.{bOf, initialWord, segmentWord, offsetWord}
+use Rattle.design.specs.Stored.{initialCount, offsetTotal, storedPlace}
 use Rattle.design.specs.Legal.{Legal}
 use Rattle.tables.specs.declared.lookups.Lookup.{Lookup}
-use Rattle.tables.specs.Sum.{offsetFor}
+use Rattle.tables.specs.declared.runs.Run.{Run}
+use Rattle.tables.specs.Sum.{offsetFor, sumAbove}
 
 -- A legal design with tables, here their lengths, that are long enough for it
 pub record Usable (d : Design) (initial offsets : ℕ) : Type 0 where
@@ -32,7 +33,17 @@ pub record Small (lookup : Lookup) : Type 0 where
   pub position-small : lookup .position < 32
   pub start-small : lookup .start ≤ mostOffsets
 
--- A sum of an initial entry and the offsets of the first i tables, each of 32 bits
+-- A sum of an initial entry and the offsets of i tables from 1 on, each of 32 bits
 pub record Summed (d : Design) (entry : ℕ) (offsets : List ℤ) (x i : ℕ) (sum : ℤ) : Type 0 where
-  pub sum-is : sum ≡ pos entry +ℤ signedSum i (offsetFor d offsets x)
+  pub sum-is : sum ≡ pos entry +ℤ signedSum i (λ j. offsetFor d offsets x (j + 1))
   pub small : mag sum ≤ 2 ^ 32 + i * 2 ^ 32
+
+-- A run: 2^(b_0) words that differ in B_0 alone, the first with B_0 = 0. `above` is their Y without table 0, and their offsets of table 0
+-- lie from `place` on.
+pub record RunOf (d : Design) (offsets : List ℤ) (run : Run) : Type 0 where
+  pub word : run .start < 2 ^ d .w
+  pub starts : offsetWord d 0 (run .start) ≡ 0
+  pub above-is : run .above .0 ≡ sumAbove d (run .entry) offsets (run .start)
+  pub above-small : mag (run .above .0) ≤ 2 ^ 40
+  pub place-is : run .place ≡ storedPlace d 0 (segmentWord d 0 (run .start)) 0
+  pub size-is : run .size ≡ 2 ^ bOf d 0

@@ -1,7 +1,7 @@
 -- Document 01, "Evaluating and checking": the sum Y over any tables, whoever filled them, and the word.
 use mathlib.Core.Bool.{Bool, _||_}
 use mathlib.Core.List.{List}
-use Prim.Native.Nat.{ℕ, _+_, _/_, _^_}
+use Prim.Native.Nat.{ℕ, _+_, _-_, _/_, _^_}
 use lib.ListN.{getD}
 use lib.IntN.{ℤ, pos, _+ℤ_, natAbs}
 use lib.Signed.{ltZ, leZ}
@@ -14,6 +14,10 @@ use Rattle.design.specs.Stored.{offsetFrom, offsetPlace}
 unfoldable pub offsetFor : Design → List ℤ → ℕ → ℕ → ℤ
 offsetFor d offsets x i =
     offsetFrom d i (offsetWord d i x) (getD offsets (offsetPlace d i (segmentWord d i x) (offsetWord d i x)) (pos 0))
+
+-- Y without table 0, from an initial entry on. Words that differ in B_0 alone have it in common.
+unfoldable pub sumAbove : Design → ℕ → List ℤ → ℕ → ℤ
+sumAbove d entry offsets x = pos entry +ℤ signedSum (d .m - 1) (λ i. offsetFor d offsets x (i + 1))
 
 -- "Y is the initial entry plus the m offsets, each offset signed."
 unfoldable pub sumAt : Design → List ℕ → List ℤ → ℕ → ℤ

@@ -5,6 +5,7 @@ ghost use Rattle.design.specs.Legal.{Legal};
 ghost use Rattle.tables.specs.Set.{tablesCheck, setChecks};
 
 pub mod lookups;
+pub mod runs;
 pub mod sums;
 
 use design::Design;

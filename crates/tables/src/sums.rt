@@ -1,17 +1,16 @@
 // The sum Y of an input word over any tables, whoever filled them, and the word that it comes to.
 ghost use mathlib.Core.Path.{_≡_};
 ghost use mathlib.Core.Bool.{false};
-ghost use Prim.Native.Nat.{ℕ, _+_, _^_, _≤_, _<_};
+ghost use Prim.Native.Nat.{_+_, _^_, _≤_, _<_};
 ghost use lib.ListN.{length, getD};
 ghost use lib.IntN.{pos, _+ℤ_};
 ghost use lib.Signed.{mag};
 ghost use Rattle.general.specs.Below.{signedSum};
-ghost use Rattle.values.specs.Room.{wordBound};
 ghost use Rattle.design.specs.Stored.{offsetTotal};
 ghost use Rattle.design.specs.Legal.{Legal};
-ghost use Rattle.tables.specs.Inputs.{Usable, SameInterval, Small, Summed};
-ghost use Rattle.tables.specs.Lookup.{lookupsOf, placeAt, lookupOf};
-ghost use Rattle.tables.specs.Sum.{offsetFor, sumAt, sumOutside, wordOf};
+ghost use Rattle.tables.specs.Inputs.{Usable, SameInterval};
+ghost use Rattle.tables.specs.Lookup.{lookupsOf, lookupOf};
+ghost use Rattle.tables.specs.Sum.{offsetFor, sumAbove, sumAt, sumOutside, wordOf};
 use crate::lookups::Lookup;
 use crate::lookups::Lookups;
 use crate::lookups::place_of;
@@ -20,15 +19,12 @@ use general::pow2;
 use values::OutputUnits;
 use values::TableUnits;
 
-// One offset more.
-fn add_offset(lookup: Lookup, sum: TableUnits, offsets: &[i32], near: u32, x: u32) -> TableUnits
-    requires { ⌜ Small lookup ⌝ }
-    requires { ⌜ (near < wordBound) × (x < wordBound) ⌝ }
-    requires { ⌜ (placeAt lookup near x < length (now offsets)) × (mag (sum .0) ≤ 2 ^ 40) ⌝ }
-    ensures { λ r. ⌜ (r ≡ record { 0 = sum .0 +ℤ getD (now (offsets .entry)) (placeAt lookup near x) (pos 0) })
-        × (mag (r .0) ≤ mag (sum .0) + 2 ^ 32) ⌝ }
+// One offset more, by its place among all offsets.
+pub(crate) fn add_offset(sum: TableUnits, offsets: &[i32], place: u32) -> TableUnits
+    requires { ⌜ (place < length (now offsets)) × (mag (sum .0) ≤ 2 ^ 40) ⌝ }
+    ensures { λ r. ⌜ (r ≡ record { 0 = sum .0 +ℤ getD (now (offsets .entry)) place (pos 0) }) × (mag (r .0) ≤ mag (sum .0) + 2 ^ 32) ⌝ }
 {
-    let offset = offsets[place_of(lookup, near, x) as usize];
+    let offset = offsets[place as usize];
     TableUnits(sum.0 + offset as i64)
 }
 
@@ -45,10 +41,39 @@ fn add_table(
     requires { ⌜ Legal d × (offsetTotal d ≤ length (now offsets)) ⌝ }
     requires { ⌜ (lookup ≡ lookupOf d i) × SameInterval d near x ⌝ }
     requires { ⌜ (i < d .m) × (mag (sum .0) ≤ 2 ^ 40) ⌝ }
-    ensures { λ r. ⌜ ((entry : ℕ) → Summed d entry (now (offsets .entry)) x i (sum .0)
-        → Summed d entry (now (offsets .entry)) x (i + 1) (r .0)) ⌝ }
+    ensures { λ r. ⌜ (r ≡ record { 0 = sum .0 +ℤ offsetFor d (now (offsets .entry)) x i }) × (mag (r .0) ≤ mag (sum .0) + 2 ^ 32) ⌝ }
 {
-    add_offset(lookup, sum, offsets, near, x)
+    add_offset(sum, offsets, place_of(lookup, near, x))
+}
+
+// Y without table 0, from x's initial entry on. `near` is any word of x's interval.
+pub(crate) fn sum_above(
+    d: Design,
+    lookups: Lookups,
+    entry: u32,
+    offsets: &[i32],
+    near: u32,
+    x: u32,
+) -> TableUnits
+    requires { ⌜ Legal d × (offsetTotal d ≤ length (now offsets)) ⌝ }
+    requires { ⌜ lookups ≡ lookupsOf d ⌝ }
+    requires { ⌜ SameInterval d near x ⌝ }
+    ensures { λ r. ⌜ (r ≡ record { 0 = sumAbove d entry (now (offsets .entry)) x }) × (mag (r .0) ≤ 2 ^ 40) ⌝ }
+{
+    let m = d.m;
+    let none = TableUnits(entry as i64);
+    if m == 1 {
+        return none;
+    }
+    let one = add_table(d, 1, lookups.second, none, offsets, near, x);
+    if m == 2 {
+        return one;
+    }
+    let two = add_table(d, 2, lookups.third, one, offsets, near, x);
+    if m == 3 {
+        return two;
+    }
+    add_table(d, 3, lookups.fourth, two, offsets, near, x)
 }
 
 // inner: Y, from x's initial entry on: m lookups, shifts and adds. `near` is any word of x's interval.
@@ -65,21 +90,8 @@ pub fn sum_from(
     requires { ⌜ SameInterval d near x ⌝ }
     ensures { λ r. ⌜ r ≡ record { 0 = pos entry +ℤ signedSum (d .m) (offsetFor d (now (offsets .entry)) x) } ⌝ }
 {
-    let m = d.m;
-    let none = TableUnits(entry as i64);
-    let one = add_table(d, 0, lookups.first, none, offsets, near, x);
-    if m == 1 {
-        return one;
-    }
-    let two = add_table(d, 1, lookups.second, one, offsets, near, x);
-    if m == 2 {
-        return two;
-    }
-    let three = add_table(d, 2, lookups.third, two, offsets, near, x);
-    if m == 3 {
-        return three;
-    }
-    add_table(d, 3, lookups.fourth, three, offsets, near, x)
+    let above = sum_above(d, lookups, entry, offsets, near, x);
+    add_table(d, 0, lookups.first, above, offsets, near, x)
 }
 
 // inner: Y, summed from the tables: the initial entry and m offsets.

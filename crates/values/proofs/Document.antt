@@ -1,7 +1,7 @@
--- Both sides of the one inequality, and L, are for each kind what document 01 writes.
+-- Both sides of the one inequality, L, faithful and nearest are for each kind what document 01 writes.
 use mathlib.Core.Path.{_≡_, refl, sym, ap₂, transport}
-use mathlib.Core.Logic.{⊎-elim}
-use Prim.Native.Nat.{ℕ, _*_, _^_, _≤_, _<_}
+use mathlib.Core.Logic.{_⊎_, inl, inr, ⊎-elim}
+use Prim.Native.Nat.{ℕ, zero, suc, _+_, _-_, _*_, _^_, _≤_, _<_}
 use native.Mathlib.Nat.{one-mul, mul-comm}
 use native.Mathlib.Omega.{arith}
 use lib.Pow.{pow-add}
@@ -9,7 +9,8 @@ use Rattle.values.specs.Rows.{rows, kinds, rowOf}
 use Rattle.values.specs.Exact.{num, den, numberSide, valueSide, AtMost, Greatest}
 use Rattle.values.specs.Floor.{floorValue}
 use Rattle.values.specs.Inputs.{InRange}
-use Rattle.values.specs.Document.{SidesSaid, FloorSaid, Document}
+use Rattle.values.specs.Faithful.{Faithful, Nearest}
+use Rattle.values.specs.Document.{SidesSaid, FloorSaid, Between, WordSaid, Document}
 use Rattle.values.proofs.FloorLaws.{floor-greatest}
 use Rattle.values.proofs.NewtonLaws.{first-power}
 use Rattle.values.proofs.WidthLaws.{row-lawful}
@@ -49,6 +50,58 @@ floor-said kind w P X range =
     floor : kind < kinds → Greatest (AtMost (rowOf kind) w P X) (floorValue (rowOf kind) w P X)
     floor h = floor-greatest (rowOf kind) (row-lawful kind h) w P X range
 
+-- Every kind is one of the three forms.
+form : (kind : ℕ) → kind < kinds → (kind ≡ 0) ⊎ (((kind ≡ 1) ⊎ (kind ≡ 2)) ⊎ ((kind ≡ 3) ⊎ (kind ≡ 4)))
+unfolding rows kinds
+form zero h = inl refl
+form (suc zero) h = inr (inl (inl refl))
+form (suc (suc zero)) h = inr (inl (inr refl))
+form (suc (suc (suc zero))) h = inr (inr (inl refl))
+form (suc (suc (suc (suc zero)))) h = inr (inr (inr refl))
+form (suc (suc (suc (suc (suc n))))) h = absurd (omega arith)
+
+-- The exact value between two numbers, in the one form and in the document's
+module _ (_≺_ : ℕ → ℕ → Type 0) where
+  infix 50 _≺_
+  module _ (w s X low high kind : ℕ) where
+    abbrev Sides : Type 0
+    Sides = (numberSide (rowOf kind) w X low ≺ valueSide (rowOf kind) w s X)
+        × (valueSide (rowOf kind) w s X ≺ numberSide (rowOf kind) w X high)
+
+    pub said : Sides → Between _≺_ kind (rowOf kind .c) w s X low high
+    said bounds =
+        let l = sides-said kind w s X low in
+        let h = sides-said kind w s X high in
+        record {
+          reciprocal = λ e. rw (l .reciprocal e .0, l .reciprocal e .1, h .reciprocal e .0) at bounds;
+          root = λ e. rw (l .root e .0, l .root e .1, h .root e .0) at bounds;
+          reciprocal-root = λ e. rw (l .reciprocal-root e .0, l .reciprocal-root e .1, h .reciprocal-root e .0) at bounds;
+        }
+
+    unsaid : kind < kinds → Between _≺_ kind (rowOf kind .c) w s X low high → Sides
+    unsaid known b =
+        let l = sides-said kind w s X low in
+        let h = sides-said kind w s X high in
+        ⊎-elim (λ e. rw (l .reciprocal e .0, l .reciprocal e .1, h .reciprocal e .0) (b .reciprocal e))
+        (⊎-elim (λ e. rw (l .root e .0, l .root e .1, h .root e .0) (b .root e))
+        (λ e. rw (l .reciprocal-root e .0, l .reciprocal-root e .1, h .reciprocal-root e .0) (b .reciprocal-root e)))
+        (form kind known)
+
+word-said : (kind w q X y : ℕ) → kind < kinds → WordSaid kind w q X y
+word-said kind w q X y known =
+    record {
+      faithful = (
+        λ f. (f .positive, said _<_ w q X (y - 1) (y + 1) kind (f .low, f .high)),
+        λ p. let b = unsaid _<_ w q X (y - 1) (y + 1) kind known (p .1) in record { positive = p .0; low = b .0; high = b .1 },
+      );
+      nearest = (
+        λ n. (n .positive, said _≤_ w (q + 1) X (2 * y - 1) (2 * y + 1) kind (n .low, n .high)),
+        λ p.
+            let b = unsaid _≤_ w (q + 1) X (2 * y - 1) (2 * y + 1) kind known (p .1) in
+            record { positive = p .0; low = b .0; high = b .1 },
+      );
+    }
+
 pub document : Document
 unfolding rows rowOf
-document = record { c = refl; sides = sides-said; floor = floor-said }
+document = record { c = refl; sides = sides-said; floor = floor-said; word = word-said }

@@ -10,7 +10,7 @@ use lib.Pow.{pow-add, pow-pos}
 use Rattle.values.specs.declared.rows.Row.{Row}
 use Rattle.values.specs.Rows.{Lawful}
 use Rattle.values.specs.Inputs.{InRange}
-use Rattle.values.specs.Exact.{num, den, numberSide, valueSide, AtMost, MoreThan}
+use Rattle.values.specs.Exact.{num, den, numberSide, valueSide, AtMost, AtLeast, MoreThan}
 use Rattle.values.proofs.Powers.{pow-mul, pow-swap, pow-cancel}
 
 -- "k ≥ 1" as a successor
@@ -47,6 +47,9 @@ module _ (row : Row) (w X : ℕ) where
   module _ (s t n : ℕ) where
     pub at-most-finer : AtMost row w s X n → AtMost row w (s + t) X (2 ^ t * n)
     at-most-finer h = rw (value-scale s t, number-scale n t) (mul-le-mul-left ((2 ^ row .k) ^ t) h)
+
+    pub at-least-finer : AtLeast row w s X n → AtLeast row w (s + t) X (2 ^ t * n)
+    at-least-finer h = rw (value-scale s t, number-scale n t) (mul-le-mul-left ((2 ^ row .k) ^ t) h)
 
     pub more-than-finer : MoreThan row w s X n → MoreThan row w (s + t) X (2 ^ t * n)
     more-than-finer h = rw (value-scale s t, number-scale n t) (mul-lt-mul-of-pos-left h (scale-pos t))

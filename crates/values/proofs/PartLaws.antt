@@ -3,12 +3,12 @@ use mathlib.Core.Path.{_≡_, refl, sym, ap, _∙_}
 use mathlib.Core.Bool.{Bool, true, false, cond}
 use mathlib.Core.Logic.{_↔_}
 use Prim.Native.Nat.{ℕ, zero, suc, _+_, _-_, _*_, _/_, _^_, _≤_, _<_, min}
-use native.Mathlib.Nat.{lt-of-not-le, zero-mul, mul-assoc, mul-comm, mul-one, mul-le-mul-right, mul-lt-mul-of-pos-right}
+use native.Mathlib.Nat.{lt-of-not-le, not-le-of-lt, zero-mul, mul-assoc, mul-comm, mul-one, mul-le-mul-right, mul-lt-mul-of-pos-right}
 use native.Mathlib.Nat.{le-of-mul-le-mul-right, lt-of-mul-lt-mul-right, mul-div-mul-right, min-comm, sub-add-min-cancel}
 use native.Mathlib.Decide.{decLt}
 use native.Mathlib.Omega.{arith}
-use borrow.Author.Tests.{lt-ltb, le-ltb}
-use lib.Dec.{ltb}
+use borrow.Author.Tests.{lt-ltb, le-ltb, lt-leb, le-leb}
+use lib.Dec.{ltb, leb}
 use lib.Pow.{pow-add, pow-pos}
 use Rattle.values.specs.declared.rows.Row.{Row}
 use Rattle.values.specs.Rows.{Lawful}
@@ -37,6 +37,12 @@ pub same-test : {a b c d : ℕ} → (a < b) ↔ (c < d) → ltb a b ≡ ltb c d
 same-test {a} {b} {c} {d} alike = elim (decLt a b) [
   | yes h ↦ lt-ltb a b h ∙ sym (lt-ltb c d (alike .0 h))
   | no n ↦ le-ltb a b (omega arith) ∙ sym (le-ltb c d (omega (arith, lt-of-not-le {n = suc c} {m = d} (λ h. n (alike .1 h)))))
+]
+
+pub same-test-le : {a b c d : ℕ} → (a ≤ b) ↔ (c ≤ d) → leb a b ≡ leb c d
+same-test-le {a} {b} {c} {d} alike = elim (decLt b a) [
+  | yes h ↦ lt-leb a b h ∙ sym (lt-leb c d (lt-of-not-le (λ k. not-le-of-lt h (alike .1 k))))
+  | no n ↦ let h : a ≤ b = omega arith in le-leb a b h ∙ sym (le-leb c d (alike .0 h))
 ]
 
 -- The power of two that the sides have in common, for 2^w and 2^e

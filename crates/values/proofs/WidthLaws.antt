@@ -39,13 +39,14 @@ asked kind =
     let power = row .k * (limits .sum + 1) in
     (1, row .c) ∷ (1, row .k) ∷ (2 * row .c, 2 ^ row .k) ∷
     (row .k, highestDegree) ∷ (limits .w .1, widestWord) ∷ (limits .sum, finestUnit) ∷ (power, 63) ∷
-    (cond (row .rising) 0 (power + limits .w .1), 64) ∷ (1, limits .q .0) ∷ (2, limits .g .0) ∷ []
+    (cond (row .rising) 0 (power + limits .w .1), 64) ∷ (1, limits .q .0) ∷ (2, limits .g .0) ∷ (limits .q .1 + 3, limits .sum) ∷ []
 
 record Fine (kind : ℕ) : Type 0 where
   lawful : Lawful (rowOf kind)
   room : Room (rowOf kind) (limitsOf kind .w .1) (limitsOf kind .sum)
   q-low : 1 ≤ limitsOf kind .q .0
   g-low : 2 ≤ limitsOf kind .g .0
+  halves : limitsOf kind .q .1 + 3 ≤ limitsOf kind .sum
 
 fine-of : (kind : ℕ) → allHold (asked kind) ≡ true → Fine kind
 unfolding asked
@@ -64,6 +65,7 @@ fine-of kind e =
       };
       q-low = l .0;
       g-low = l .1 .0;
+      halves = l .1 .1 .0;
     }
 
 -- A test that passes for every number below n passes for each.
@@ -129,6 +131,8 @@ pub record Widths (kind w q g : ℕ) : Type 0 where
   -- there is room for the finest units of the kind, and so for those asked for
   pub finest : Room (rowOf kind) w (limitsOf kind .sum)
   pub room : Room (rowOf kind) w (q + g)
+  -- and for halves of an output unit, of which a word has q + 3 bits
+  pub halves : Room (rowOf kind) w (q + 3)
   pub q-low : 1 ≤ q
   pub g-low : 2 ≤ g
 
@@ -145,6 +149,7 @@ widths-of kind w q g e =
       lawful = f .lawful;
       finest = finest;
       room = coarser (q + g) (within .sum-high) finest;
+      halves = coarser (q + 3) (omega (arith, f .halves, within .q-high)) finest;
       q-low = le-trans (f .q-low) (within .q-low);
       g-low = le-trans (f .g-low) (within .g-low);
     }

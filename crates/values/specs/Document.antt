@@ -1,15 +1,16 @@
 -- Document 01, "Functions and their exact values", in its own words for each kind with its c.
 use mathlib.Core.Path.{_≡_}
-use mathlib.Core.Logic.{_⊎_}
+use mathlib.Core.Logic.{_⊎_, _↔_}
 use mathlib.Core.List.{[], _∷_, map}
-use Prim.Native.Nat.{ℕ, _+_, _*_, _^_, _≤_}
-use Rattle.values.specs.Rows.{rowOf}
+use Prim.Native.Nat.{ℕ, _+_, _-_, _*_, _^_, _≤_, _<_}
+use Rattle.values.specs.Rows.{kinds, rowOf}
 use Rattle.values.specs.Exact.{numberSide, valueSide, Greatest}
 use Rattle.values.specs.Floor.{floorValue}
 use Rattle.values.specs.Inputs.{InRange}
+use Rattle.values.specs.Faithful.{Faithful, Nearest}
 
 -- The two sides of the one inequality (AtMost, LessThan, AtLeast, MoreThan) are those that the document writes where it says L, faithful
--- and the second bound: n stands for its n, y-1, y+1, Y'-R and Y'+R, and s for P, q and P+18.
+-- and the second bound: n stands for its n, y-1, y+1, Y'-R and Y'+R, and s for P, q and P+18. Nearest has 2y-1 and 2y+1, and q+1.
 pub record SidesSaid (kind w s X n : ℕ) : Type 0 where
   -- "kind 0: (y-1)·X < 2^(q+w) < (y+1)·X"
   pub reciprocal : kind ≡ 0 → (numberSide (rowOf kind) w X n ≡ n * X) × (valueSide (rowOf kind) w s X ≡ 2 ^ (s + w))
@@ -30,8 +31,31 @@ pub record FloorSaid (kind w P X : ℕ) : Type 0 where
   pub reciprocal-root : (kind ≡ 3) ⊎ (kind ≡ 4)
       → Greatest (λ n. n ^ 2 * (rowOf kind .c * X) ≤ 4 ^ P * 2 ^ w) (floorValue (rowOf kind) w P X)
 
--- Both, for every width, every number of fraction bits, and X of an input word; c by kind as in the document's table
+-- The exact value between two numbers, in the words of document 01 for each kind with its c: `_≺_` is < for faithful and ≤ for the second
+-- bound and for nearest, s is q, P + 18 or q + 1, and low and high are y-1 and y+1, Y'-R and Y'+R, or 2y-1 and 2y+1.
+module _ (_≺_ : ℕ → ℕ → Type 0) where
+  infix 50 _≺_
+  pub record Between (kind c w s X low high : ℕ) : Type 0 where
+    -- "kind 0: (y-1)·X < 2^(q+w) < (y+1)·X", "kind 0: (Y'-R)·X ≤ 2^(P+18+w) ≤ (Y'+R)·X"
+    pub reciprocal : kind ≡ 0 → (low * X ≺ 2 ^ (s + w)) × (2 ^ (s + w) ≺ high * X)
+    -- "kinds 1, 2: (y-1)²·2^w < c·X·4^q < (y+1)²·2^w", "kinds 1, 2: (Y'-R)²·2^w ≤ c·X·4^(P+18) ≤ (Y'+R)²·2^w"
+    pub root : (kind ≡ 1) ⊎ (kind ≡ 2) → (low ^ 2 * 2 ^ w ≺ c * X * 4 ^ s) × (c * X * 4 ^ s ≺ high ^ 2 * 2 ^ w)
+    -- "kinds 3, 4: (y-1)²·c·X < 4^q·2^w < (y+1)²·c·X", "kinds 3, 4: (Y'-R)²·c·X ≤ 4^(P+18)·2^w ≤ (Y'+R)²·c·X"
+    pub reciprocal-root : (kind ≡ 3) ⊎ (kind ≡ 4)
+        → (low ^ 2 * (c * X) ≺ 4 ^ s * 2 ^ w) × (4 ^ s * 2 ^ w ≺ high ^ 2 * (c * X))
+
+-- What is said of an output word y
+pub record WordSaid (kind w q X y : ℕ) : Type 0 where
+  -- "An output word y ≥ 1 is **faithful** when it is strictly less than one output unit from the exact value"
+  pub faithful : Faithful (rowOf kind) w q X y ↔ ((1 ≤ y) × Between _<_ kind (rowOf kind .c) w q X (y - 1) (y + 1))
+  -- Document 02, A1: "nearest (within half an output unit of the exact value, the half included)". The same lines with y-1/2 and y+1/2,
+  -- both sides times 2^k, so that the halves are whole: (2y-1)·X ≤ 2·2^(q+w) ≤ (2y+1)·X, and for roots (2y-1)²·2^w ≤ 4·c·X·4^q ..
+  pub nearest : Nearest (rowOf kind) w q X y
+      ↔ ((1 ≤ y) × Between _≤_ kind (rowOf kind .c) w (q + 1) X (2 * y - 1) (2 * y + 1))
+
+-- All of it, for every width, every number of fraction bits, and X of an input word; c by kind as in the document's table
 pub record Document : Type 0 where
   pub c : map (λ kind. rowOf kind .c) (0 ∷ 1 ∷ 2 ∷ 3 ∷ 4 ∷ []) ≡ 1 ∷ 1 ∷ 2 ∷ 1 ∷ 2 ∷ []
   pub sides : (kind w s X n : ℕ) → SidesSaid kind w s X n
   pub floor : (kind w P X : ℕ) → InRange w X → FloorSaid kind w P X
+  pub word : (kind w q X y : ℕ) → kind < kinds → WordSaid kind w q X y

@@ -6,8 +6,8 @@ pub mod Parts
 pub mod Newton
 pub mod Inputs
 pub mod Floor
-pub mod Document
 pub mod Faithful
+pub mod Document
 pub mod Slopes
 pub mod Widths
 pub mod Value

@@ -10,23 +10,10 @@ use Rattle.general.proofs.Tests.{tested}
 use Rattle.values.specs.Room.{wordBound}
 use Rattle.design.proofs.LegalLaws.{limits}
 use Rattle.tables.specs.Inputs.{SameInterval}
+use Rattle.tables.proofs.IntervalLaws.{Intervals, intervals-fit, rests-fit, intervals-of, start-inside, interval-word, one-interval}
 use Rattle.checking.specs.declared.Checked.{Checked}
 use Rattle.checking.specs.Check.{faithfulAt}
-use Rattle.checking.proofs.SearchLaws.{
-  Searched,
-  searched-none,
-  searched-more,
-  searched-all,
-  searched-found,
-  next-interval,
-  Counts,
-  intervals-fit,
-  rests-fit,
-  counts,
-  start-inside,
-  interval-word,
-  one-interval,
-}
+use Rattle.checking.proofs.SearchLaws.{Searched, searched-none, searched-more, searched-all, searched-found, next-interval}
 use Rattle.checking.proofs.search.Statement.{statement}
 use Rattle.checking.proofs.search.Tie as tie
 
@@ -64,9 +51,9 @@ words-holds c = (rw zero-mul (searched-none _), omega arith)
 
 -- the loops' two counts
 counted : (c : tie.After-pow22 Inv-loop μ-loop Inv-words μ-words)
-    → Counts (c .before .before .before .before .args .d) (c .before .before .pow2 .result) (c .pow22 .result)
+    → Intervals (c .before .before .before .before .args .d) (c .before .before .pow2 .result) (c .pow22 .result)
 counted c =
-    counts _ (limits _ (c .before .before .before .before .pre .0 .legal)) (c .before .before .pow2 .ensures) (c .pow22 .ensures)
+    intervals-of _ (limits _ (c .before .before .before .before .pre .0 .legal)) (c .before .before .pow2 .ensures) (c .pow22 .ensures)
 
 mul-start : tie.Need-mul-start Inv-loop μ-loop Inv-words μ-words
 mul-start c =

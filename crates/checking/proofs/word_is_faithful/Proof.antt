@@ -2,43 +2,26 @@
 use mathlib.Core.Path.{_≡_, _∙_}
 use mathlib.Core.Bool.{Bool, true, false}
 use mathlib.Core.List.{List}
-use Prim.Native.Nat.{ℕ, _+_, _^_, _<_}
+use Prim.Native.Nat.{ℕ, _+_, _^_}
 use native.Mathlib.Omega.{arith}
 use lib.ListN.{getD}
 use lib.IntN.{ℤ, pos, _+ℤ_}
-use lib.Pow.{shr-lt}
 use borrow.Author.Needs.{needs}
 use Rattle.general.specs.Below.{signedSum}
 use Rattle.general.proofs.Tests.{tested}
 use Rattle.values.specs.declared.TableUnits.{TableUnits}
 use Rattle.values.specs.declared.OutputUnits.{OutputUnits}
 use Rattle.values.specs.declared.rows.Row.{Row}
-use Rattle.values.specs.Inputs.{FloorInput}
 use Rattle.values.specs.Faithful.{isFaithful}
-use Rattle.values.proofs.Bounds.{coarser, words-few}
+use Rattle.values.proofs.Bounds.{coarser-input, words-few}
 use Rattle.design.specs.declared.Design.{Design}
-use Rattle.design.specs.Cut.{row, fractionBits, initialWord}
-use Rattle.design.proofs.LegalLaws.{Limits, limits, lawful, room}
+use Rattle.design.specs.Cut.{row, initialWord}
+use Rattle.design.proofs.LegalLaws.{limits, room}
 use Rattle.tables.specs.Sum.{offsetFor, sumAt, sumOutside, wordOf, wordAt}
-use Rattle.tables.proofs.SumLaws.{in-range}
+use Rattle.tables.proofs.WordLaws.{exact-at, word-small}
 use Rattle.checking.specs.Check.{faithfulAt}
 use Rattle.checking.proofs.word_is_faithful.Statement.{statement}
 use Rattle.checking.proofs.word_is_faithful.Tie as tie
-
-module _ (d : Design) (l : Limits d) where
-  exact-at : (x : ℕ) → x < 2 ^ d .w → FloorInput (row d) (d .w) (d .q + 2) (2 ^ d .w + x)
-  exact-at x h =
-      record {
-        lawful = lawful d l;
-        room = coarser (d .q + 2) (omega (arith, l .widths .g-low)) (room d l);
-        range = record { low = omega arith; high = omega arith };
-      }
-
-  word-small : (Y : ℤ) → sumOutside d Y ≡ false → wordOf d Y < 2 ^ (d .q + 2)
-  unfolding wordOf
-  word-small Y e =
-      let places : fractionBits d + 2 ≡ d .q + 2 + d .g = omega arith in
-      shr-lt (d .q + 2) (d .g) (rw places at (in-range d Y e .1))
 
 -- The answer, by what the calls promise
 module _ (d : Design) (entry : ℕ) (offsets : List ℤ) (x : ℕ) (sum : TableUnits) (outside : Bool)
@@ -82,8 +65,8 @@ is-faithful-requires c κs =
     let b = c .before .before in
     let p = b .before .before .before .pre in
     let l = limits _ (p .0 .0) in (
-      rw (p .1 .1 .0, c .before .pow2 .ensures) (exact-at _ l _ (p .1 .1 .1 .word)),
-      rw (c .word-of .ensures) (word-small _ l _ (tested (b .before .sum-outside .ensures) (b .if1 .left))),
+      rw (p .1 .1 .0, c .before .pow2 .ensures) (coarser-input _ (omega arith) (exact-at _ l _ (p .1 .1 .1 .word))),
+      rw (c .word-of .ensures) (word-small _ _ (tested (b .before .sum-outside .ensures) (b .if1 .left))),
     )
 
 returns-2 : tie.Need-returns-2

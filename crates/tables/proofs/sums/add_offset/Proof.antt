@@ -1,6 +1,5 @@
 -- `tables::sums::add_offset` meets its contract: an offset of 32 bits is the same number in 64, which hold its sum with one that is small.
 use mathlib.Core.Path.{_≡_, sym, ap, ap₂, subst, _∙_}
-use mathlib.Core.List.{List}
 use Prim.Native.Nat.{ℕ, _+_, _^_, _≤_, _<_}
 use native.Mathlib.Omega.{arith}
 use borrow.Author.Needs.{needs}
@@ -26,12 +25,8 @@ narrow-fits : (z : ℤ) → mag z < 2 ^ 31 → SFits w64 (toZ w32 (ofZ w32 z))
 narrow-fits z small =
     subst (SFits w64) (sym (toZ-ofZ w32 z (record { sfits = small }))) (record { sfits = omega arith })
 
--- the sum that the machine holds, and the offset at the place that it found
-module _ (offsets : List ℤ) (sum held : ℤ) (place here : ℕ) (held-is : held ≡ sum) (here-is : here ≡ place) (low : mag sum ≤ 2 ^ 40)
-    (small : mag (getD offsets here (pos 0)) < 2 ^ 31) where
-  abbrev offset : ℤ
-  offset = getD offsets here (pos 0)
-
+-- the sum that the machine holds, and the offset
+module _ (sum held offset : ℤ) (held-is : held ≡ sum) (low : mag sum ≤ 2 ^ 40) (small : mag offset < 2 ^ 31) where
   abbrev made : ℤ
   made = held +ℤ toZ w64 (ofZ w64 (toZ w32 (ofZ w32 offset)))
 
@@ -47,40 +42,30 @@ module _ (offsets : List ℤ) (sum held : ℤ) (place here : ℕ) (held-is : hel
   added : toZ w64 (ofZ w64 made) ≡ sum +ℤ offset
   added = ap (λ (y : ℤ). toZ w64 (ofZ w64 y)) made-is ∙ toZ-ofZ w64 (sum +ℤ offset) sum-fits
 
-  promised : (units (toZ w64 (ofZ w64 made)) ≡ units (sum +ℤ getD offsets place (pos 0)))
-      × (mag (toZ w64 (ofZ w64 made)) ≤ mag sum + 2 ^ 32)
+  promised : (units (toZ w64 (ofZ w64 made)) ≡ units (sum +ℤ offset)) × (mag (toZ w64 (ofZ w64 made)) ≤ mag sum + 2 ^ 32)
   promised = (
-    ap units (added ∙ ap (λ (n : ℕ). sum +ℤ getD offsets n (pos 0)) here-is),
+    ap units added,
     subst (λ (z : ℤ). mag z ≤ mag sum + 2 ^ 32) (sym added) (omega (arith, mag-add sum offset)),
   )
 
-cast-t12 : tie.Need-cast-t12
-cast-t12 c = narrow-fits (getD (c .before .before .args .offsets .now) (c .before .place-of .result) (pos 0)) (c .offset .given)
+cast-t9 : tie.Need-cast-t9
+cast-t9 c = narrow-fits (getD (c .before .args .offsets .now) (c .before .args .place) (pos 0)) (c .offset .given)
 
 -- the sum of this call is held as it came
-held : (c : tie.After-struct-told) → let sum = c .before .before .before .before .args .sum .0 in toZ w64 (ofZ w64 sum) ≡ sum
-held c = toZ-ofZ w64 (c .before .before .before .before .args .sum .0) (record { sfits = c .struct-told .given .0 .1 })
+held : (c : tie.After-struct-told) → let sum = c .before .before .before .args .sum .0 in toZ w64 (ofZ w64 sum) ≡ sum
+held c = toZ-ofZ w64 (c .before .before .before .args .sum .0) (record { sfits = c .struct-told .given .0 .1 })
 
-add-t13 : tie.Need-add-t13
-add-t13 c =
-    let s = c .before .before .before .before in
-    made-fits (s .args .offsets .now) (s .args .sum .0) _ _ _ (held c) (c .before .before .before .place-of .ensures) (s .pre .1 .1 .1)
+add-t10 : tie.Need-add-t10
+add-t10 c =
+    let s = c .before .before .before in
+    made-fits (s .args .sum .0) _ (getD (s .args .offsets .now) (s .args .place) (pos 0)) (held c) (s .pre .1)
     (c .before .before .offset .given)
 
 returns : tie.Need-returns
 returns c =
-    let s = c .before .before .before .before in
-    promised (s .args .offsets .now) (s .args .sum .0) _ _ _ (held c) (c .before .before .before .place-of .ensures) (s .pre .1 .1 .1)
+    let s = c .before .before .before in
+    promised (s .args .sum .0) _ (getD (s .args .offsets .now) (s .args .place) (pos 0)) (held c) (s .pre .1)
     (c .before .before .offset .given)
 
 pub add-offset-spec : {M : Type 1} → statement M
-add-offset-spec =
-    tie.close
-    (tie.spec
-    (λ c κs. search needs)
-    (λ c. search needs)
-    (λ c. search needs)
-    (λ c. search needs)
-    cast-t12
-    add-t13
-    returns)
+add-offset-spec = tie.close (tie.spec (λ c. search needs) (λ c. search needs) cast-t9 add-t10 returns)

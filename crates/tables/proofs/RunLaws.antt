@@ -1,0 +1,91 @@
+-- Runs: their words differ in B_0 alone, so that they have A, every A_i and all offsets but table 0's in common.
+use mathlib.Core.Path.{_≡_, sym, ap, _∙_}
+use mathlib.Core.List.{List}
+use Prim.Native.Nat.{ℕ, suc, _+_, _-_, _*_, _/_, _%_, _^_, _≤_, _<_}
+use native.Mathlib.Nat.{add-sub-of-le, div-one, div-eq-of-lt, mod-lt}
+use native.Mathlib.Omega.{arith}
+use lib.ListN.{getD}
+use lib.IntN.{ℤ, pos, _+ℤ_}
+use lib.Pow.{high, low, pow-pos, shr-shr, split}
+use Rattle.general.specs.Below.{sumBelow, signedSum}
+use Rattle.general.proofs.Sums.{sum-mono, signed-congruence}
+use Rattle.design.specs.declared.Design.{Design}
+use Rattle.design.specs.Cut.{bOf, position, initialWord, segmentWord, offsetWord}
+use Rattle.design.specs.Stored.{offsetFrom, offsetPlace, storedPlace, storedIndex, offsetTotal}
+use Rattle.design.proofs.LegalLaws.{Limits, bits-end}
+use Rattle.design.proofs.StoredLaws.{place-in-total}
+use Rattle.design.proofs.CutLaws.{segment-word-lt}
+use Rattle.tables.specs.Sum.{offsetFor, sumAbove}
+use Rattle.tables.proofs.SumLaws.{sum-first}
+
+-- B_0 is the lowest bits.
+lowest : (d : Design) (x : ℕ) → offsetWord d 0 x ≡ x % 2 ^ bOf d 0
+unfolding offsetWord position sumBelow
+lowest d x = rw (div-one x)
+
+-- What a segment stores lies together.
+in-a-row : (d : Design) (i A index : ℕ) → storedPlace d i A 0 + index ≡ storedPlace d i A index
+unfolding storedPlace
+in-a-row d i A index = omega arith
+
+module _ (d : Design) (l : Limits d) (x B : ℕ) (starts : offsetWord d 0 x ≡ 0) (B-lt : B < 2 ^ bOf d 0) where
+  whole : x ≡ x / 2 ^ bOf d 0 * 2 ^ bOf d 0
+  whole = omega (arith, split x (bOf d 0), sym (lowest d x) ∙ starts)
+
+  -- Bits above B_0 are the same in all words of the run.
+  same-high : (e : ℕ) → bOf d 0 ≤ e → (x + B) / 2 ^ e ≡ x / 2 ^ e
+  same-high e h =
+      let bits : bOf d 0 + (e - bOf d 0) ≡ e = add-sub-of-le h in
+      let upper : (x + B) / 2 ^ bOf d 0 ≡ x / 2 ^ bOf d 0 =
+      ap (λ (n : ℕ). (n + B) / 2 ^ bOf d 0) whole ∙ high (x / 2 ^ bOf d 0) (bOf d 0) B-lt in
+      rw (← bits, ← shr-shr (x + B) (bOf d 0) (e - bOf d 0), ← shr-shr x (bOf d 0) (e - bOf d 0), upper)
+
+  pub run-first : offsetWord d 0 (x + B) ≡ B
+  run-first = lowest d (x + B) ∙ ap (λ (n : ℕ). (n + B) % 2 ^ bOf d 0) whole ∙ low (x / 2 ^ bOf d 0) (bOf d 0) B-lt
+
+  -- The cut of A and of each A_i lies above B_0, and so does each further B_i.
+  above-first : bOf d 0 ≤ d .w - d .alpha
+  above-first = omega (arith, bits-end d l 0 (l .m-low))
+
+  pub run-initial : initialWord d (x + B) ≡ initialWord d x
+  unfolding initialWord
+  run-initial = same-high (d .w - d .alpha) above-first
+
+  run-segment : (i : ℕ) → i < d .m → segmentWord d i (x + B) ≡ segmentWord d i x
+  unfolding segmentWord
+  run-segment i h = same-high _ (omega (arith, above-first, l .table i h .a-high))
+
+  run-offset : (i : ℕ) → offsetWord d (i + 1) (x + B) ≡ offsetWord d (i + 1) x
+  unfolding offsetWord position sumBelow
+  run-offset i = rw (same-high (sumBelow (i + 1) (bOf d)) (omega (arith, sum-mono (bOf d) 1 (i + 1) (omega arith))))
+
+  pub run-word : x < 2 ^ d .w → x + B < 2 ^ d .w
+  run-word h =
+      let none : (x + B) / 2 ^ d .w ≡ 0 = same-high (d .w) (omega (arith, above-first)) ∙ div-eq-of-lt h in
+      omega (arith, rw none at (split (x + B) (d .w)), mod-lt (x + B) (pow-pos (d .w)))
+
+  module _ (entry : ℕ) (offsets : List ℤ) where
+    run-other : (i : ℕ) → i < d .m - 1 → offsetFor d offsets (x + B) (i + 1) ≡ offsetFor d offsets x (i + 1)
+    unfolding offsetFor
+    run-other i h = rw (run-segment (i + 1) (omega arith), run-offset i)
+
+    run-above : sumAbove d entry offsets (x + B) ≡ sumAbove d entry offsets x
+    unfolding sumAbove
+    run-above =
+        ap (λ (z : ℤ). pos entry +ℤ z)
+        (signed-congruence (d .m - 1) (λ i. offsetFor d offsets (x + B) (i + 1)) (λ i. offsetFor d offsets x (i + 1)) run-other)
+
+    -- The run's offsets of table 0 lie one after another.
+    run-place : getD offsets (storedPlace d 0 (segmentWord d 0 x) 0 + B) (pos 0) ≡ offsetFor d offsets (x + B) 0
+    unfolding offsetFor offsetFrom offsetPlace storedIndex
+    run-place = rw (run-segment 0 (l .m-low), run-first, in-a-row d 0 (segmentWord d 0 x) B)
+
+    pub run-sum : sumAbove d entry offsets x +ℤ getD offsets (storedPlace d 0 (segmentWord d 0 x) 0 + B) (pos 0)
+        ≡ pos entry +ℤ signedSum (d .m) (offsetFor d offsets (x + B))
+    run-sum = rw (run-place, ← run-above) (sum-first d entry offsets (x + B) (l .m-low))
+
+  -- They lie within the offset tables.
+  pub run-inside : x < 2 ^ d .w → storedPlace d 0 (segmentWord d 0 x) 0 + B < offsetTotal d
+  unfolding offsetPlace storedIndex
+  run-inside h =
+      rw (in-a-row d 0 (segmentWord d 0 x) B) (place-in-total d 0 (segmentWord d 0 x) B (l .m-low) (segment-word-lt d l 0 x (l .m-low) h) B-lt)

@@ -1,0 +1,54 @@
+// Runs: B_0 lies in the lowest bits of a word, so that 2^(b_0) words in a row differ in it alone. All but their offsets of table 0, which
+// lie together, is found once for them.
+ghost use mathlib.Core.Path.{_≡_};
+ghost use Prim.Native.Nat.{_+_, _<_, _≤_};
+ghost use lib.ListN.{length};
+ghost use lib.IntN.{pos, _+ℤ_};
+ghost use Rattle.general.specs.Below.{signedSum};
+ghost use Rattle.design.specs.Cut.{offsetWord};
+ghost use Rattle.design.specs.Stored.{offsetTotal};
+ghost use Rattle.design.specs.Legal.{Legal};
+ghost use Rattle.tables.specs.Inputs.{SameInterval, RunOf};
+ghost use Rattle.tables.specs.Lookup.{lookupsOf};
+ghost use Rattle.tables.specs.Sum.{offsetFor};
+use crate::lookups::Lookups;
+use crate::lookups::place_of;
+use crate::sums::add_offset;
+use crate::sums::sum_above;
+use design::Design;
+use values::TableUnits;
+
+// The first word, its initial entry, Y without table 0, where table 0's offsets for the run begin among all offsets, and how many words
+// there are.
+pub struct Run {
+    pub start: u32,
+    pub entry: u32,
+    pub above: TableUnits,
+    pub place: u32,
+    pub size: u32,
+}
+
+// inner: the run that begins at x. `near` is any word of its interval.
+pub fn run_of(d: Design, lookups: Lookups, entry: u32, offsets: &[i32], near: u32, x: u32) -> Run
+    requires { ⌜ Legal d × (offsetTotal d ≤ length (now offsets)) ⌝ }
+    requires { ⌜ lookups ≡ lookupsOf d ⌝ }
+    requires { ⌜ SameInterval d near x × (offsetWord d 0 x ≡ 0) ⌝ }
+    ensures { λ r. ⌜ (r .start ≡ x) × (r .entry ≡ entry) × RunOf d (now (offsets .entry)) r ⌝ }
+{
+    Run {
+        start: x,
+        entry,
+        above: sum_above(d, lookups, entry, offsets, near, x),
+        place: place_of(lookups.first, near, x),
+        size: 1 << lookups.first.b,
+    }
+}
+
+// inner: Y of word b of the run. Of which design it is, is said for the promise alone.
+pub fn sum_in(d: Design, run: Run, offsets: &[i32], b: u32) -> TableUnits
+    requires { ⌜ Legal d × (offsetTotal d ≤ length (now offsets)) ⌝ }
+    requires { ⌜ RunOf d (now offsets) run × (b < run .size) ⌝ }
+    ensures { λ r. ⌜ r ≡ record { 0 = pos (run .entry) +ℤ signedSum (d .m) (offsetFor d (now (offsets .entry)) (run .start + b)) } ⌝ }
+{
+    add_offset(run.above, offsets, run.place + b)
+}
