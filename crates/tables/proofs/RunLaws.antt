@@ -1,12 +1,12 @@
 -- Runs: their words differ in B_0 alone, so that they have A, every A_i and all offsets but table 0's in common.
-use mathlib.Core.Path.{_≡_, sym, ap, _∙_}
+use mathlib.Core.Path.{_≡_, refl, sym, ap, _∙_}
 use mathlib.Core.List.{List}
 use Prim.Native.Nat.{ℕ, suc, _+_, _-_, _*_, _/_, _%_, _^_, _≤_, _<_}
-use native.Mathlib.Nat.{add-sub-of-le, div-one, div-eq-of-lt, mod-lt}
+use native.Mathlib.Nat.{add-sub-of-le, add-zero, div-one, div-eq-of-lt, mod-lt}
 use native.Mathlib.Omega.{arith}
 use lib.ListN.{getD}
 use lib.IntN.{ℤ, pos, _+ℤ_}
-use lib.Pow.{high, low, pow-pos, shr-shr, split}
+use lib.Pow.{high, low, pow-add, pow-pos, shr-shr, split}
 use Rattle.general.specs.Below.{sumBelow, signedSum}
 use Rattle.general.proofs.Sums.{sum-mono, signed-congruence}
 use Rattle.design.specs.declared.Design.{Design}
@@ -22,6 +22,16 @@ use Rattle.tables.proofs.SumLaws.{sum-first}
 lowest : (d : Design) (x : ℕ) → offsetWord d 0 x ≡ x % 2 ^ bOf d 0
 unfolding offsetWord position sumBelow
 lowest d x = rw (div-one x)
+
+-- A run begins at each multiple of its size.
+pub run-begins : (d : Design) (n : ℕ) → offsetWord d 0 (n * 2 ^ bOf d 0) ≡ 0
+run-begins d n = lowest d (n * 2 ^ bOf d 0) ∙ rw add-zero at (low n (bOf d 0) {lo = 0} (pow-pos (bOf d 0)))
+
+-- An interval is a whole number of runs.
+pub interval-runs : (d : Design) → Limits d → 2 ^ (d .w - d .alpha - bOf d 0) * 2 ^ bOf d 0 ≡ 2 ^ (d .w - d .alpha)
+interval-runs d l =
+    let bits : d .w - d .alpha - bOf d 0 + bOf d 0 ≡ d .w - d .alpha = omega (arith, bits-end d l 0 (l .m-low)) in
+    sym (pow-add 2 (d .w - d .alpha - bOf d 0) (bOf d 0)) ∙ rw bits refl
 
 -- What a segment stores lies together.
 in-a-row : (d : Design) (i A index : ℕ) → storedPlace d i A 0 + index ≡ storedPlace d i A index

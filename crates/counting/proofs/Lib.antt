@@ -1,0 +1,3 @@
+-- Laws of the counts, one file a subject.
+pub mod CountLaws
+pub mod IntervalRuns

@@ -1,0 +1,3 @@
+-- What a reader has to believe of the counts.
+pub mod Count
+pub mod Inputs
