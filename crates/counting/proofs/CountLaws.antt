@@ -1,5 +1,6 @@
 -- The counts: of no words, with one more, how large they get, and what they add up to.
-use mathlib.Core.Path.{_≡_, refl, sym, ap, _∙_}
+use mathlib.Core.Path.{_≡_, refl}
+use mathlib.Core.Bool.{cond}
 use Prim.Native.Nat.{ℕ, zero, suc, _+_, _≤_, _<_}
 use native.Mathlib.Nat.{le-trans}
 use lib.Dec.{eqb}
@@ -35,3 +36,21 @@ module _ (classes : ℕ → Class) where
         low-few = count-few Class.Low n h;
         high-few = count-few Class.High n h;
       }
+
+  -- Each word is in one class,
+  once : (class : Class) →
+      let counted : Class → ℕ = λ other. cond (eqb (placeOf class) (placeOf other)) 1 0 in
+      counted Class.Outside + counted Class.Nearest + counted Class.Faithful + counted Class.Low + counted Class.High ≡ 1
+  once Class.Outside = refl
+  once Class.Nearest = refl
+  once Class.Faithful = refl
+  once Class.Low = refl
+  once Class.High = refl
+
+  -- so that the counts add up to how many words there are.
+  pub adds-up : (n : ℕ)
+      → countOf Class.Outside n classes + countOf Class.Nearest n classes + countOf Class.Faithful n classes + countOf Class.Low n classes
+      + countOf Class.High n classes ≡ n
+  unfolding countOf countBelow
+  adds-up zero = refl
+  adds-up (suc n) = omega (arith, adds-up n, once (classes n))

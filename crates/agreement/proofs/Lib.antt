@@ -1,0 +1,3 @@
+-- The proof that counts and check agree.
+pub mod Landing
+pub mod Agrees
