@@ -12,6 +12,7 @@ use Rattle.design.specs.declared.Design.{Design}
 use Rattle.tables.specs.Set.{setChecks}
 use Rattle.tables.specs.Sum.{sumAt}
 use Rattle.checking.specs.Check.{Finding, all-faithful, lowest-unfaithful}
+use Rattle.counting.specs.declared.Counts.{Counts}
 
 -- A value, a budget or a size, a word, a sum, the length of a line
 abbrev pub behind : {Value : Type 0} → Told Value → Value → Value
@@ -28,6 +29,12 @@ abbrev pub firstAfter : ℕ → Told Finding → ℕ → ℕ
 firstAfter w (accepted all-faithful) before = 2 ^ w
 firstAfter w (accepted (lowest-unfaithful lowest)) before = lowest
 firstAfter w (refused number place) before = before
+
+-- The five counts, "sum out of range; nearest ..; faithful but not nearest; too low; too high", in that order
+abbrev pub countsAfter : Told Counts → List ℕ → List ℕ
+countsAfter (accepted counts) before =
+    counts .outside ∷ counts .nearest ∷ counts .faithful ∷ counts .low ∷ counts .high ∷ []
+countsAfter (refused number place) before = before
 
 -- Y itself is asked for, whether or not it is in range: 1 to 10, then 12, "x ≥ 2^w"
 unfoldable pub sumVerdict : Design → List ℕ → List ℤ → ℕ → Verdict

@@ -11,14 +11,17 @@ ghost use Rattle.filling.specs.Fill.{fillVerdict, initialAfter, offsetsAfter};
 ghost use Rattle.evaluating.specs.Evaluate.{evaluateTold};
 ghost use Rattle.evaluating.specs.Batch.{batchTold, outputAfter};
 ghost use Rattle.checking.specs.Check.{checkTold};
+ghost use Rattle.counting.specs.Count.{countTold};
 ghost use Rattle.exports.specs.Numbers.{designOf};
-ghost use Rattle.exports.specs.Behind.{behind, placeAfter, firstAfter, sumTold};
+ghost use Rattle.exports.specs.Behind.{behind, placeAfter, firstAfter, countsAfter, sumTold};
 
 mod design_numbers;
 mod line_calls;
 
 use checking::Checked;
 use checking::check;
+use counting::Counted;
+use counting::count;
 use design::Design;
 use design::Measured;
 use design_numbers::design_of;
@@ -210,5 +213,35 @@ pub extern "C" fn dorykleth_check(
             0
         }
         Checked::Refused(cause) => number(cause),
+    }
+}
+
+// The five counts, in the order of their names in `Counts`.
+#[no_mangle]
+pub extern "C" fn dorykleth_count(
+    design: &[u32; 14],
+    initial: &[u32],
+    offsets: &[i32],
+    counts: &mut [u32; 5],
+) -> u8
+    ensures number { λ r.
+        ⌜ r ≡ numberTold (countTold (designOf (now (design .entry))) (now (initial .entry)) (now (offsets .entry))) ⌝ }
+    ensures counts { λ _.
+        ⌜ now (counts .exit) ≡ countsAfter (countTold (designOf (now (design .entry))) (now (initial .entry)) (now (offsets .entry)))
+        (now (counts .entry)) ⌝ }
+{
+    match count(design_of(design), initial, offsets) {
+        Counted::Counts(found) => {
+            let five = [
+                found.outside,
+                found.nearest,
+                found.faithful,
+                found.low,
+                found.high,
+            ];
+            *counts = five;
+            0
+        }
+        Counted::Refused(cause) => number(cause),
     }
 }

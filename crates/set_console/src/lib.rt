@@ -1,5 +1,5 @@
-// What the programs over whole sets share: reading a set from standard input, and writing a line of a set or the answer of a check to
-// standard output. No contract can say which bytes come in or go out; what can be said of a set that is read is promised.
+// What the programs over whole sets share: reading a set from standard input, and writing a line of a set, the answer of a check or the
+// counts to standard output. No contract can say which bytes come in or go out; what can be said of a set that is read is promised.
 ghost use mathlib.Core.Path.{_≡_};
 ghost use mathlib.Core.Bool.{true};
 ghost use Prim.Native.Nat.{_+_};
@@ -12,6 +12,7 @@ ghost use Rattle.set_console.specs.Reading.{HoldsEverySet, Stepped, Came
 use checking::Checked;
 use console::KEPT;
 use console::LineEnd;
+use counting::Counted;
 use design::Design;
 use design::NO_PAIR;
 use libc::STDOUT_FILENO;
@@ -150,6 +151,28 @@ pub fn print_checked(checked: Checked) {
         }
         Checked::Unfaithful(x) => print_number(b"UNFAITHFUL ", x as u64),
         Checked::Refused(cause) => {
+            console::print_refused(cause);
+        }
+    }
+}
+
+fn print_count(label: &[u8], n: u32) {
+    io::write_all(STDOUT_FILENO, label);
+    io::print_decimal(STDOUT_FILENO, n as u64);
+}
+
+// Writes the five counts.
+pub fn print_counted(counted: Counted) {
+    match counted {
+        Counted::Counts(counts) => {
+            print_count(b"OUTSIDE ", counts.outside);
+            print_count(b" NEAREST ", counts.nearest);
+            print_count(b" FAITHFUL ", counts.faithful);
+            print_count(b" LOW ", counts.low);
+            print_count(b" HIGH ", counts.high);
+            io::write_all(STDOUT_FILENO, b"\n");
+        }
+        Counted::Refused(cause) => {
             console::print_refused(cause);
         }
     }

@@ -1,5 +1,6 @@
--- To unfold `calls-opened` is to unfold every definition that the calls over a set promise by: the fill, the evaluation and the check.
-use Rattle.general.specs.Below.{listBelow}
+-- To unfold `calls-opened` is to unfold every definition that the calls over a set promise by: the fill, the evaluation, the
+-- check and the counts.
+use Rattle.general.specs.Below.{listBelow, countBelow}
 use Rattle.entries.proofs.Opened.{entries-opened}
 use Rattle.tables.proofs.Opened.{tables-opened}
 use Rattle.filling.specs.Fill.{
@@ -27,10 +28,12 @@ use Rattle.evaluating.specs.Batch.{
   batchTold,
 }
 use Rattle.checking.specs.Check.{faithfulAt, findingBelow, checkVerdict, checkAnswer, checkTold}
+use Rattle.counting.specs.Count.{classOf, classAt, countOf, countsBelow, countVerdict, countAnswer, countTold}
 
 unfoldable pub calls-opened : Unit {0}
 unfolding
     entries-opened tables-opened admittedCheck fillVerdict listBelow initialEntries storedOffset tableEntries offsetsBelow offsetEntries
-    initialAfter offsetsAfter wordChecks evaluateVerdict evaluateAnswer evaluateTold outputCheck roomVerdict batchBelow placeVerdict batchAnswer
-    checksBelow batchVerdict outputAfter passing batchTold faithfulAt findingBelow checkVerdict checkAnswer checkTold
+    initialAfter offsetsAfter wordChecks evaluateVerdict evaluateAnswer evaluateTold outputCheck roomVerdict batchBelow placeVerdict
+    batchAnswer checksBelow batchVerdict outputAfter passing batchTold faithfulAt findingBelow checkVerdict checkAnswer checkTold countBelow
+    classOf classAt countOf countsBelow countVerdict countAnswer countTold
 calls-opened = tt

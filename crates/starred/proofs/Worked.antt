@@ -2,16 +2,19 @@
 -- 01's or were worked out from it apart from the definitions. The wrong definitions that docs/PROMISES.md lists fail here, even where their
 -- code is wrong alike.
 use mathlib.Core.Path.{_≡_, refl}
+use mathlib.Core.Bool.{true, false}
 use mathlib.Core.List.{List, [], _∷_, map}
-use Prim.Native.Nat.{ℕ, _^_}
+use Prim.Native.Nat.{ℕ, _+_, _^_}
 use Prim.Native.String.{String}
-use lib.IntN.{pos}
+use lib.IntN.{pos, negsuc}
 use lib.ListN.{replicate, set}
 use Rattle.general.specs.Lists as Lists
 use Rattle.refusal.specs.declared.Cause.{Cause}
 use Rattle.refusal.specs.declared.Verdict.{Verdict}
 use Rattle.refusal.specs.Numbers.{numberOf}
 use Rattle.values.specs.declared.Valued.{Valued}
+use Rattle.values.specs.Rows.{rowOf}
+use Rattle.values.specs.Faithful.{isFaithful, isNearest}
 use Rattle.values.specs.Value.{valueOf}
 use Rattle.design.specs.declared.Pair.{Pair}
 use Rattle.design.specs.declared.Design.{Design}
@@ -22,6 +25,9 @@ use Rattle.evaluating.specs.declared.Batched.{Batched}
 use Rattle.evaluating.specs.Batch.{batchAnswer}
 use Rattle.checking.specs.declared.Checked.{Checked}
 use Rattle.checking.specs.Check.{checkAnswer}
+use Rattle.counting.specs.declared.Class.{Class}
+use Rattle.counting.specs.declared.Counted.{Counted}
+use Rattle.counting.specs.Count.{classOf, countAnswer}
 use Rattle.frames.specs.Hex as Hex
 use Rattle.frames.specs.Line as Line
 use Rattle.frames.specs.DesignFrame as DesignFrame
@@ -82,6 +88,14 @@ Line-of-G n line = lineAt G (initialEntries G) (offsetEntries G) n ≡ ascii lin
 abbrev check-with : ℕ → Checked
 check-with entry = checkAnswer G (set (initialEntries G) 0 entry) (offsetEntries G)
 
+-- Its five counts
+abbrev counts-with : ℕ → Counted
+counts-with entry = countAnswer G (set (initialEntries G) 0 entry) (offsetEntries G)
+
+abbrev five : ℕ → ℕ → ℕ → ℕ → ℕ → Counted
+five outside nearest faithful low high =
+    Counted.Counts (record { outside = outside; nearest = nearest; faithful = faithful; low = low; high = high })
+
 pub record Worked : Type 0 where
   -- Every cause's number
   pub numbers : map numberOf causes
@@ -138,6 +152,18 @@ pub record Worked : Type 0 where
   pub just-faithful : check-with 4046 ≡ Checked.Faithful
   -- "to 4045: word 0 is named": Y is 4095, the word 255, exactly one unit from 256
   pub one-unit-off : check-with 4045 ≡ Checked.Unfaithful 0
+  -- Document 02, A1. The five counts of G's set as it is filled, and with initial entry 0 changed to 4045: word 0 is too low then.
+  pub counts : counts-with 4050 ≡ five 0 239 17 0 0
+  pub one-too-low : counts-with 4045 ≡ five 0 238 17 1 0
+  -- At x 0 of G the exact value is 256 output units: sums of -4100, whose size would give the word 256, and of 2^14 are out of range, the
+  -- words 0 and 255 too low, 256 nearest and 257 too high.
+  pub classes : map (classOf G 0) (negsuc 4099 ∷ pos 0 ∷ pos 4095 ∷ pos 4096 ∷ pos 4112 ∷ pos (2 ^ 14) ∷ [])
+      ≡ Class.Outside ∷ Class.Low ∷ Class.Low ∷ Class.Nearest ∷ Class.High ∷ Class.Outside ∷ []
+  -- At x 1 it is 65536 / 257, a little more than 255: 256 is faithful and not nearest.
+  pub only-just : classOf G 1 (pos 4096) ≡ Class.Faithful
+  -- An exact half: kind 1, w 14, q 6, x 257 has 64.5, so that 64 and 65 are both nearest, and 63 and 66 are not even faithful.
+  pub half : (map (isNearest (rowOf 1) 14 6 (2 ^ 14 + 257)) (63 ∷ 64 ∷ 65 ∷ 66 ∷ []) ≡ false ∷ true ∷ true ∷ false ∷ [])
+      × (map (isFaithful (rowOf 1) 14 6 (2 ^ 14 + 257)) (63 ∷ 64 ∷ 65 ∷ 66 ∷ []) ≡ false ∷ true ∷ true ∷ false ∷ [])
   -- Input words in decimal: leading zeros, and the greatest
   pub decimal-words : map (λ line. wordIn (ascii line)) ("007" ∷ "4294967295" ∷ []) ≡ ReadWord.Word 7 ∷ ReadWord.Word 4294967295 ∷ []
   -- No input words: an empty line, the character before 0, the one after 9, 2^32
@@ -181,6 +207,11 @@ worked =
       second-word = refl;
       just-faithful = refl;
       one-unit-off = refl;
+      counts = refl;
+      one-too-low = refl;
+      classes = refl;
+      only-just = refl;
+      half = (refl, refl);
       decimal-words = refl;
       no-words = refl;
     }

@@ -6,11 +6,11 @@ use Rattle.values.specs.Floor.{rootFrom, scaled, floorValue}
 use Rattle.values.specs.Slopes.{segmentStart, segmentEnd, hi, lo, spread, largestSpread}
 use Rattle.values.specs.Widths.{widthChecks, limitsOf}
 use Rattle.values.specs.Parts.{divisorPart, numberPart, valuePart}
-use Rattle.values.specs.Faithful.{isFaithful}
+use Rattle.values.specs.Faithful.{isFaithful, isNearest, isTooLow}
 use Rattle.values.specs.Value.{wordCheck, valueVerdict, valueOf}
 
 unfoldable pub values-opened : Unit {0}
 unfolding
-    rows kinds rowOf num den numberSide valueSide divisorPart numberPart valuePart isFaithful rootFrom scaled floorValue segmentStart
-    segmentEnd hi lo spread largest largestSpread limitsOf widthChecks wordCheck valueVerdict valueOf
+    rows kinds rowOf num den numberSide valueSide divisorPart numberPart valuePart isFaithful isNearest isTooLow rootFrom scaled floorValue
+    segmentStart segmentEnd hi lo spread largest largestSpread limitsOf widthChecks wordCheck valueVerdict valueOf
 values-opened = tt

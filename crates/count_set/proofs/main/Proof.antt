@@ -1,0 +1,17 @@
+-- `count_set::main` meets its contract: its tables hold every legal set.
+use borrow.Author.Needs.{needs}
+use Rattle.set_console.proofs.LineLaws.{every-set}
+use Rattle.count_set.proofs.main.Statement.{statement}
+use Rattle.count_set.proofs.main.Tie as tie
+
+read-and-count-requires : tie.Need-read-and-count-requires
+read-and-count-requires c κs = every-set
+
+pub main-spec : {M : Type 1} → statement M
+main-spec =
+    tie.close
+    (tie.spec
+    (λ c. search needs)
+    (λ c. search needs)
+    read-and-count-requires
+    (λ c. search needs))

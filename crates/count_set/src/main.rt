@@ -1,0 +1,24 @@
+// Reads a set from standard input, line by line, and says how many of its words are nearest, only just faithful, or neither.
+ghost use lib.ListN.{length};
+ghost use Rattle.set_console.specs.Reading.{HoldsEverySet};
+use counting::count;
+use design::limits::MOST_INITIAL;
+use design::limits::MOST_OFFSETS;
+use set_console::print_counted;
+use set_console::read_set;
+
+fn read_and_count(initial: &mut [u32], offsets: &mut [i32])
+    requires { ⌜ HoldsEverySet (length (now initial)) (length (now offsets)) ⌝ }
+{
+    let set = read_set(initial, offsets);
+    let state = set.state;
+    if set.finished {
+        print_counted(count(state.design, initial, offsets));
+    }
+}
+
+fn main() {
+    let mut initial = [0u32; MOST_INITIAL];
+    let mut offsets = [0i32; MOST_OFFSETS];
+    read_and_count(&mut initial, &mut offsets);
+}
