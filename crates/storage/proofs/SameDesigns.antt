@@ -39,6 +39,7 @@ use Rattle.filling.specs.Fill.{
 use Rattle.evaluating.specs.Evaluate.{wordChecks, evaluateVerdict, evaluateAnswer, evaluateTold}
 use Rattle.evaluating.specs.Batch.{roomVerdict, placeVerdict, batchAnswer, batchVerdict, batchTold, outputAfter}
 use Rattle.checking.specs.Check.{faithfulAt, checkVerdict, checkAnswer, checkTold}
+use Rattle.counting.specs.Count.{classOf, classAt, countOf, countsBelow, countVerdict, countAnswer, countTold}
 use Rattle.encoding.specs.DesignBytes.{designBytes}
 use Rattle.lines.specs.declared.Slot.{Slot}
 use Rattle.lines.specs.Slots.{lineCount, tableOf, offsetSlot, slotOf}
@@ -57,6 +58,7 @@ unfolding
     wordChecks evaluateVerdict evaluateAnswer roomVerdict placeVerdict batchAnswer outputAfter faithfulAt checkVerdict checkAnswer
     lineCount tableOf offsetSlot slotOf setLines numberCheck writeVerdict writeAnswer bufferAfter
     budgetTold sizeTold evaluateTold batchVerdict batchTold checkTold writeTold
+    classOf classAt countOf countsBelow countVerdict countAnswer countTold
 opened = tt
 
 -- Those of them that a rewrite has to be told to look into
@@ -72,6 +74,7 @@ ruleset insides = (
   placeVerdict,
   wordAt,
   faithfulAt,
+  classAt,
   slotOf,
 )
 
@@ -143,6 +146,7 @@ answers-same d e s =
       batch = λ initial offsets words output. rw (t, insides);
       output = λ initial offsets words output. rw (t, insides);
       check = λ initial offsets. rw (t, insides);
+      count = λ initial offsets. rw (t, insides);
       write = λ initial offsets n buffer. rw (line initial offsets n, t, insides);
       line-buffer = λ initial offsets n buffer. rw (line initial offsets n, t, insides);
       budget-told = rw (t, insides);
@@ -150,6 +154,7 @@ answers-same d e s =
       evaluate-told = λ initial offsets x. rw (t, insides);
       batch-told = λ initial offsets words output. rw (t, insides);
       check-told = λ initial offsets. rw (t, insides);
+      count-told = λ initial offsets. rw (t, insides);
       write-told = λ initial offsets n buffer. rw (line initial offsets n, t, insides);
       line = line;
       lines = λ initial offsets. rw (fun-ext (line initial offsets), t, insides);

@@ -18,6 +18,7 @@ use Rattle.filling.specs.Fill.{fillVerdict, initialAfter, offsetsAfter}
 use Rattle.evaluating.specs.Evaluate.{evaluateAnswer, evaluateTold}
 use Rattle.evaluating.specs.Batch.{batchAnswer, batchTold, outputAfter}
 use Rattle.checking.specs.Check.{checkAnswer, checkTold}
+use Rattle.counting.specs.Count.{countAnswer, countTold}
 use Rattle.lines.specs.Lines.{lineAt, setLines}
 use Rattle.writing.specs.Write.{writeAnswer, bufferAfter, writeTold}
 use Rattle.reading.specs.ReadLine.{finished, Session, verdictOn, after}
@@ -42,6 +43,7 @@ pub record SameAnswers (d e : Design) : Type 0 where
   pub output : (initial : List ℕ) (offsets : List ℤ) (words output : List ℕ)
       → outputAfter d initial offsets words output ≡ outputAfter e initial offsets words output
   pub check : (initial : List ℕ) (offsets : List ℤ) → checkAnswer d initial offsets ≡ checkAnswer e initial offsets
+  pub count : (initial : List ℕ) (offsets : List ℤ) → countAnswer d initial offsets ≡ countAnswer e initial offsets
   -- the writer, and what it leaves in the line buffer
   pub write : (initial : List ℕ) (offsets : List ℤ) (n buffer : ℕ)
       → writeAnswer d initial offsets n buffer ≡ writeAnswer e initial offsets n buffer
@@ -54,6 +56,7 @@ pub record SameAnswers (d e : Design) : Type 0 where
   pub batch-told : (initial : List ℕ) (offsets : List ℤ) (words : List ℕ) (output : ℕ)
       → batchTold d initial offsets words output ≡ batchTold e initial offsets words output
   pub check-told : (initial : List ℕ) (offsets : List ℤ) → checkTold d initial offsets ≡ checkTold e initial offsets
+  pub count-told : (initial : List ℕ) (offsets : List ℤ) → countTold d initial offsets ≡ countTold e initial offsets
   pub write-told : (initial : List ℕ) (offsets : List ℤ) (n buffer : ℕ)
       → writeTold d initial offsets n buffer ≡ writeTold e initial offsets n buffer
   -- each line, and all lines of a set

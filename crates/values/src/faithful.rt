@@ -49,6 +49,6 @@ pub fn is_too_low(row: Row, w: u32, q: u32, x: u64, y: OutputUnits) -> bool
         return true;
     }
     let exact = value_part(row, w, q, x);
-    let parts = number_parts(row, w, q, x, word - 1, word + 1);
+    let parts = number_parts(row, w, q, x, word, word + 1);
     parts.high <= exact
 }

@@ -5,10 +5,16 @@ use native.Mathlib.Nat.{zero-mul}
 use native.Mathlib.Omega.{arith}
 use Rattle.design.proofs.LegalLaws.{limits}
 use Rattle.tables.proofs.IntervalLaws.{Intervals, intervals-of}
+use Rattle.counting.specs.declared.Class.{Class}
 use Rattle.counting.specs.Count.{classAt, countsBelow}
 use Rattle.counting.proofs.CountLaws.{counts-none}
 use Rattle.counting.proofs.count_words.Statement.{statement}
 use Rattle.counting.proofs.count_words.Tie as tie
+
+-- Before the first interval
+none-yet : (classes : ℕ → Class) (rests : ℕ)
+    → record { outside = 0; nearest = 0; faithful = 0; low = 0; high = 0 } ≡ countsBelow (0 * rests) classes
+none-yet classes rests = rw zero-mul (counts-none classes)
 
 abbrev Inv-loop : tie.InvT-loop
 Inv-loop d lookups row initial offsets counts₀ interval₀ interval-end counts interval =
@@ -29,7 +35,9 @@ cast-interval-end : tie.Need-cast-interval-end Inv-loop μ-loop
 cast-interval-end c = omega (arith, counted c .intervals-small)
 
 loop-holds : tie.Need-loop-holds Inv-loop μ-loop
-loop-holds c = (rw zero-mul (counts-none _), omega arith)
+loop-holds c =
+    let a = c .before .before .args in
+    (none-yet (classAt (a .d) (a .initial .now) (a .offsets .now)) (2 ^ (a .d .w - a .d .alpha)), omega arith)
 
 count-interval-requires : tie.Need-count-interval-requires Inv-loop μ-loop
 count-interval-requires c κs =

@@ -1,5 +1,5 @@
--- `values::faithful::is_too_low` meets its contract: where the word is not 0, its test is that of `isTooLow`, since the parts compare as the
--- sides do.
+-- `values::faithful::is_too_low` meets its contract: where the word is not 0, its test is that of `isTooLow`, since the parts compare as
+-- the sides do.
 use mathlib.Core.Path.{_≡_, ap, _∙_}
 use mathlib.Core.Bool.{true}
 use Prim.Native.Nat.{ℕ, _+_, _-_, _<_, _≤_}
@@ -33,6 +33,9 @@ returns c = zero-word _ _ _ _ _ (c .if1 .taken)
 value-part-requires : tie.Need-value-part-requires
 value-part-requires c κs = let s = c .before .before in coarser-input (s .args .q) (omega arith) (s .pre .0)
 
+number-parts-requires : tie.Need-number-parts-requires
+number-parts-requires c κs = let s = c .before .before .before in (s .pre .0, (omega (arith, s .pre .1), omega (arith, s .pre .1)))
+
 returns-2 : tie.Need-returns-2
 returns-2 c =
     let n = c .before in
@@ -47,6 +50,5 @@ is-too-low-spec =
     returns
     value-part-requires
     (λ c. search needs)
-    (λ c. search needs)
-    (λ c κs. search needs)
+    number-parts-requires
     returns-2)
