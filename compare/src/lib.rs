@@ -1,5 +1,5 @@
-//! Document 01 written a second time, in Rust, and what is needed to hold it against the proved
-//! library.
+//! Document 01 and request A1 written a second time, in Rust, and what is needed to hold them
+//! against the proved library.
 
 // The reference is compiled twice on purpose, see `wide` and `narrow`.
 #![allow(clippy::duplicate_mod)]
@@ -9,4 +9,5 @@ pub mod frames;
 pub mod library;
 pub mod narrow;
 pub mod random;
+pub mod tables;
 pub mod wide;

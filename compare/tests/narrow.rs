@@ -1,7 +1,7 @@
 //! The reference gives the same in 64 bits as in 128.
 
 use compare::narrow::reference as narrow;
-use compare::random::{Random, Tables};
+use compare::random::{largest, lengths, Random, Tables, LARGEST};
 use compare::wide::reference as wide;
 
 fn same(d: &wide::Design) -> narrow::Design {
@@ -52,6 +52,17 @@ fn compare_set(random: &mut Random, d: &wide::Design) {
     let checked = wide::check(d, initial, offsets).map(named);
     let checked_narrow = narrow::check(&n, initial, offsets).map(named_narrow);
     assert_eq!(checked, checked_narrow, "{d:?}");
+    assert_eq!(counts(d, &left), counts_narrow(&n, &left), "{d:?}");
+}
+
+fn counts(d: &wide::Design, tables: &Tables) -> Result<[u32; 5], u8> {
+    let counts = wide::count(d, &tables.initial, &tables.offsets);
+    counts.map(|counts| counts.all())
+}
+
+fn counts_narrow(d: &narrow::Design, tables: &Tables) -> Result<[u32; 5], u8> {
+    let counts = narrow::count(d, &tables.initial, &tables.offsets);
+    counts.map(|counts| counts.all())
 }
 
 #[test]
@@ -78,5 +89,19 @@ fn sets() {
         }
         let d = random.largest(kind);
         compare_set(&mut random, &d);
+    }
+}
+
+/// All words as great as a sum in range can make them, at the greatest widths.
+#[test]
+fn greatest_words() {
+    for kind in 0..=4 {
+        let d = largest(kind, (16, 4), LARGEST[0]);
+        let (initial, offsets) = lengths(&d);
+        let (initial, offsets) = (vec![(1 << 22) - 1; initial], vec![0; offsets]);
+        let tables = Tables { initial, offsets };
+        let high = Ok([0, 0, 0, 0, 1 << 16]);
+        assert_eq!(counts(&d, &tables), high, "kind {kind}");
+        assert_eq!(counts_narrow(&same(&d), &tables), high, "kind {kind}");
     }
 }

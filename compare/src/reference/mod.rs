@@ -1,4 +1,4 @@
-//! Document 01: multipartite tables for reciprocal, root and reciprocal root.
+//! Document 01: multipartite tables for reciprocal, root and reciprocal root; and request A1.
 //!
 //! Names are the document's: kind, w, q, g, alpha, m, a, b, P, hi, lo, budget. `Int` is the type
 //! of every intermediate product, `Signed` that of sums; both come from the module that includes this
@@ -10,6 +10,7 @@
 pub use super::{Int, Signed};
 
 mod check;
+mod count;
 mod design;
 mod evaluate;
 mod fill;
@@ -22,6 +23,7 @@ mod slopes;
 mod tests;
 
 pub use check::{check, Checked};
+pub use count::{count, Counts};
 pub use design::{legal, size, Design};
 pub use evaluate::{evaluate, evaluate_batch, sum};
 pub use fill::fill;

@@ -1,7 +1,9 @@
-//! The document's examples, starred or not, and its traps.
+//! The document's examples, starred or not, and its traps; then those of request A1.
 
 use super::function::Function;
 use super::*;
+use crate::random::{Random, Tables};
+use crate::tables::{lone_class, lone_word};
 
 /// G is kind 0, w 8, q 8, g 4, alpha 5, m 1, (3,3).
 fn example() -> Design {
@@ -434,4 +436,172 @@ fn nothing_is_added_at_evaluation() {
     let d = three_tables(0);
     let (initial, offsets) = (vec![100; 32], vec![-3; 160]);
     assert_eq!(sum(&d, &initial, &offsets, 0), Ok(91));
+}
+
+fn counted(d: &Design, initial: &[u32], offsets: &[i32]) -> [u32; 5] {
+    count(d, initial, offsets).expect("a legal set").all()
+}
+
+/// The counts are those of outside, nearest, faithful, low and high, in this order.
+#[test]
+fn counts() {
+    let d = example();
+    let (mut initial, offsets) = filled(&d);
+    assert_eq!(counted(&d, &initial, &offsets), [0, 239, 17, 0, 0]);
+    initial[0] = 4045;
+    assert_eq!(counted(&d, &initial, &offsets), [0, 238, 17, 1, 0]);
+    assert_eq!(count(&d, &initial[..31], &offsets), Err(10));
+    assert_eq!(count(&d, &initial, &offsets[..63]), Err(10));
+    assert_eq!(count(&Design { kind: 5, ..d }, &[], &[]), Err(1));
+    assert_eq!(count(&with_pair(3, 2), &[], &[]), Err(9));
+}
+
+/// All initial entries alike and all offsets alike, so that all sums are: a word 0 is too low, and
+/// sums out of range are so at either end, however far.
+#[test]
+fn counts_of_one_sum() {
+    let d = example();
+    let all = |entry, offset| counted(&d, &[entry; 32], &[offset; 64]);
+    let (outside, low, high) = ([256, 0, 0, 0, 0], [0, 0, 0, 256, 0], [0, 0, 0, 0, 256]);
+    assert_eq!(all(0, 0), low);
+    assert_eq!(all(0, -1), outside);
+    assert_eq!(all(1, -1), low);
+    assert_eq!(all(0, 15), low);
+    assert_eq!(all(0, 16), low);
+    assert_eq!(all((1 << 14) - 1, 0), high);
+    assert_eq!(all(1 << 14, -1), high);
+    assert_eq!(all(1 << 14, 0), outside);
+    assert_eq!(all(u32::MAX, i32::MIN), outside);
+    assert_eq!(all(u32::MAX, i32::MAX), outside);
+    assert_eq!(all(0, i32::MIN), outside);
+    assert_eq!(all(1 << 31, i32::MIN), low);
+}
+
+/// The class of a word of x, made from its lowest sum and from its highest.
+fn class(d: &Design, x: u32, y: i64) -> &'static str {
+    let pairs = &d.pairs[..d.m as usize];
+    let ends = [y << d.g, ((y + 1) << d.g) - 1].map(|sum| {
+        let Tables { initial, offsets } = lone_word(d.w, d.alpha, pairs, x, sum);
+        let counts = counted(d, &initial, &offsets);
+        assert_eq!(counts.iter().sum::<u32>(), 1 << d.w);
+        lone_class(counts)
+    });
+    assert_eq!(ends[0], ends[1]);
+    ends[0]
+}
+
+fn classes<const N: usize>(d: &Design, x: u32, words: [i64; N]) -> [&'static str; N] {
+    words.map(|y| class(d, x, y))
+}
+
+/// Request A1's "the half included". With kind 1, w 14 and q 6, X is 129² at x 257, and E is
+/// 64·129/128 = 64.5 output units; with kind 2 and w 15, X is 183² at x 721, and E is 91.5. At the
+/// words beside them E is a little less and a little more.
+#[test]
+fn halves_are_nearest() {
+    let design = |kind, w, alpha, pairs| Design {
+        kind,
+        w,
+        q: 6,
+        g: 2,
+        alpha,
+        m: 2,
+        pairs,
+    };
+    let middle = ["low", "nearest", "nearest", "high"];
+    let below = ["low", "nearest", "faithful", "high"];
+    let above = ["low", "faithful", "nearest", "high"];
+    let d = design(1, 14, 5, [(3, 4), (5, 5), (0, 0), (0, 0)]);
+    for (x, expected) in [(256, below), (257, middle), (258, above)] {
+        assert_eq!(classes(&d, x, [63, 64, 65, 66]), expected);
+    }
+    let d = design(2, 15, 10, [(10, 2), (1, 3), (0, 0), (0, 0)]);
+    for (x, expected) in [(720, below), (721, middle), (722, above)] {
+        assert_eq!(classes(&d, x, [90, 91, 92, 93]), expected);
+    }
+}
+
+/// A whole unit is too far, half a unit is not: E is 256 at x 0 for kinds 0, 1 and 3, and
+/// 2^8·3/2 = 384 at x 32, argument 9/4, for kind 2.
+#[test]
+fn whole_units_are_too_far() {
+    for (kind, x, exact) in [(0, 0, 256), (1, 0, 256), (3, 0, 256), (2, 32, 384)] {
+        let d = Design { kind, ..example() };
+        let words = [0, 1, exact - 1, exact, exact + 1, 1023];
+        let expected = ["low", "low", "low", "nearest", "high", "high"];
+        assert_eq!(classes(&d, x, words), expected, "kind {kind}");
+        assert_eq!(class(&d, x, 1024), "outside");
+    }
+}
+
+/// Kinds without halves and whole units at the last word of G's widths: E is 128.25 for kind 0,
+/// 181.20 for kind 3, 128.13 for kind 4.
+#[test]
+fn words_beside_the_exact_value() {
+    let expected = ["low", "nearest", "faithful", "high"];
+    for (kind, floor) in [(0, 128), (3, 181), (4, 128)] {
+        let d = Design { kind, ..example() };
+        let words = [floor - 1, floor, floor + 1, floor + 2];
+        assert_eq!(classes(&d, 255, words), expected, "kind {kind}");
+    }
+}
+
+/// An admitted design of each kind with one to four tables.
+fn all_numbers_of_tables() -> Vec<Design> {
+    let pairs = [
+        [(5, 4), (0, 0), (0, 0), (0, 0)],
+        [(4, 2), (5, 2), (0, 0), (0, 0)],
+        [(3, 1), (4, 2), (5, 1), (0, 0)],
+        [(3, 1), (4, 1), (4, 1), (5, 1)],
+    ];
+    let of_kind = |kind| {
+        (1..).zip(pairs).map(move |(m, pairs)| Design {
+            m,
+            pairs,
+            ..three_tables(kind)
+        })
+    };
+    (0..5).flat_map(of_kind).collect()
+}
+
+/// Moves some entries of a set with 32 initial entries, by at most `reach`.
+fn move_entries(random: &mut Random, reach: u32, initial: &mut [u32], offsets: &mut [i32]) {
+    for _ in 0..random.place(6) {
+        let change = random.within(0..=2 * reach) as i32 - reach as i32;
+        let place = random.place(32 + offsets.len());
+        match place.checked_sub(32) {
+            None => initial[place] = initial[place].wrapping_add_signed(change),
+            Some(place) => offsets[place] += change,
+        }
+    }
+}
+
+/// "The five add up to 2^w, and the check says faithful exactly when the first and the last two
+/// are zero". Returns the verdict.
+fn agreed(d: &Design, initial: &[u32], offsets: &[i32]) -> bool {
+    let counts = count(d, initial, offsets).unwrap();
+    let unfaithful = counts.outside + counts.low + counts.high;
+    let faithful = check(d, initial, offsets) == Ok(Checked::Faithful);
+    assert_eq!(counts.all().iter().sum::<u32>(), 1 << d.w);
+    assert_eq!(faithful, unfaithful == 0, "{d:?} {counts:?}");
+    faithful
+}
+
+/// Filled sets, then with some entries moved by more and more.
+#[test]
+fn counts_and_verdicts_agree() {
+    let mut random = Random::new(3);
+    let mut verdicts = [0; 2];
+    for d in all_numbers_of_tables() {
+        let (initial, offsets) = filled(&d);
+        assert!(agreed(&d, &initial, &offsets));
+        let entries = size(&d).unwrap() as usize / 24;
+        for reach in (0..64).map(|round| 1 << (round / 4)) {
+            let (mut initial, mut offsets) = (initial.clone(), offsets.clone());
+            let of_set = &mut offsets[..entries - 32];
+            move_entries(&mut random, reach, &mut initial, of_set);
+            verdicts[usize::from(agreed(&d, &initial, &offsets))] += 1;
+        }
+    }
+    assert!(verdicts.iter().all(|&times| times > 500), "{verdicts:?}");
 }
