@@ -1,6 +1,6 @@
 //! The C boundary: the proved library's functions under the signatures of the reference.
 
-use crate::wide::reference::{Checked, Design};
+use crate::wide::reference::{Checked, Counts, Design};
 
 mod c {
     extern "C" {
@@ -51,6 +51,14 @@ mod c {
             offsets: *const i32,
             offsets_len: usize,
             first: *mut u64,
+        ) -> u8;
+        pub fn dorykleth_count(
+            design: *const u32,
+            initial: *const u32,
+            initial_len: usize,
+            offsets: *const i32,
+            offsets_len: usize,
+            counts: *mut u32,
         ) -> u8;
         pub fn dorykleth_write_line(
             design: *const u32,
@@ -240,6 +248,30 @@ pub fn check(d: &Design, initial: &[u32], offsets: &[i32]) -> Result<Checked, u8
     Ok(Checked::Unfaithful(
         u32::try_from(first).unwrap_or(u32::MAX),
     ))
+}
+
+pub fn count(d: &Design, initial: &[u32], offsets: &[i32]) -> Result<Counts, u8> {
+    let mut counts = [UNTOUCHED as u32; 5];
+    // SAFETY: 14 numbers and two slices with their lengths to read, five live numbers to write.
+    let refusal = unsafe {
+        c::dorykleth_count(
+            numbers(d).as_ptr(),
+            initial.as_ptr(),
+            initial.len(),
+            offsets.as_ptr(),
+            offsets.len(),
+            counts.as_mut_ptr(),
+        )
+    };
+    let counts = settled(refusal, counts, [UNTOUCHED as u32; 5])?;
+    let [outside, nearest, faithful, low, high] = counts;
+    Ok(Counts {
+        outside,
+        nearest,
+        faithful,
+        low,
+        high,
+    })
 }
 
 pub fn write_line(

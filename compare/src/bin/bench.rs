@@ -65,7 +65,10 @@ fn time_design(d: &Design) {
     let [rattle, rust, bare] = time_batch(&mut set);
     print_row("evaluate a batch", [rattle, rust]);
     print_row("the batch, bare lookups in Rust", [rattle, bare]);
-    print_row("check", time_check(&set));
+    let [check, count] = time_check_and_count(&set);
+    print_row("check", check);
+    print_row("count", count);
+    print_ratios("count over check", count, check);
     print_row("fill", time_fill(&mut set));
     print_row("budget", time_budget(&set));
     print_row("write a whole set, line by line", time_write(&set));
@@ -199,17 +202,22 @@ fn bare<const M: usize>(
     }
 }
 
-fn time_check(set: &Set) -> [f64; 2] {
+/// The check and the count of the same set, each by the library and by the reference, all four
+/// in turn.
+fn time_check_and_count(set: &Set) -> [[f64; 2]; 2] {
     let Set {
         d,
         same,
         tables: Tables { initial, offsets },
         ..
     } = set;
-    medians([
+    let [check, check_rust, count, count_rust] = medians([
         &mut || ignore(black_box(library::check(black_box(d), initial, offsets))),
         &mut || ignore(black_box(rust::check(black_box(same), initial, offsets))),
-    ])
+        &mut || ignore(black_box(library::count(black_box(d), initial, offsets))),
+        &mut || ignore(black_box(rust::count(black_box(same), initial, offsets))),
+    ]);
+    [[check, check_rust], [count, count_rust]]
 }
 
 fn time_fill(set: &mut Set) -> [f64; 2] {
@@ -349,4 +357,10 @@ fn print_row(name: &str, [rattle, rust]: [f64; 2]) {
     let ratio = rattle / rust;
     let (rattle, rust) = (microseconds(rattle), microseconds(rust));
     println!("{name:34} {rattle:>9} {rust:>9} {ratio:>12.2}");
+}
+
+/// How many times longer one call took than another, in each version.
+fn print_ratios(name: &str, longer: [f64; 2], shorter: [f64; 2]) {
+    let (rattle, rust) = (longer[0] / shorter[0], longer[1] / shorter[1]);
+    println!("{name:34} {rattle:>9.2} {rust:>9.2}");
 }

@@ -6,7 +6,7 @@ use std::process::exit;
 use super::tally::Tally;
 use crate::library;
 use crate::random::Tables;
-use crate::wide::reference::{self, Checked, Design, Reading};
+use crate::wide::reference::{self, Checked, Counts, Design, Reading};
 
 type Fill = fn(&Design, &mut [u32], &mut [i32]) -> Result<(), u8>;
 type Batch = fn(&Design, &[u32], &[i32], &[u32], &mut [u32]) -> Result<usize, (u8, usize)>;
@@ -83,6 +83,23 @@ fn input(d: &Design, tables: &Tables, rest: String) -> String {
     let initial = shown("initial", &tables.initial);
     let offsets = shown("offsets", &tables.offsets);
     format!("{d:?}\n{initial}{offsets}{rest}\n")
+}
+
+/// The classes of the counts, in their order, as they are noted when a word is in them.
+const CLASSES: [&str; 5] = [
+    "count: some outside",
+    "count: some nearest",
+    "count: some faithful",
+    "count: some low",
+    "count: some high",
+];
+
+/// "The five add up to 2^w, and the check says faithful exactly when the first and the last two
+/// are zero."
+fn agree(d: &Design, checked: Checked, counts: &Counts) -> bool {
+    let unfaithful = counts.outside + counts.low + counts.high;
+    counts.all().iter().sum::<u32>() == 1 << d.w
+        && (checked == Checked::Faithful) == (unfaithful == 0)
 }
 
 #[derive(Default)]
@@ -202,17 +219,45 @@ impl Calls {
         }
     }
 
-    pub fn check(&mut self, d: &Design, tables: &Tables) {
+    /// The verdict and the counts, which are returned.
+    pub fn check_and_count(&mut self, d: &Design, tables: &Tables) -> Result<Counts, u8> {
+        let (checked, counts) = (self.check(d, tables), self.count(d, tables));
+        let (checked, counts) = (checked?, counts?);
+        if !agree(d, checked, &counts) {
+            let input = input(d, tables, String::new());
+            print!("check and count do not agree\n{input}{checked:?}\n{counts:?}\n");
+            exit(1);
+        }
+        Ok(counts)
+    }
+
+    fn check(&mut self, d: &Design, tables: &Tables) -> Result<Checked, u8> {
         let Tables { initial, offsets } = tables;
         let reference = reference::check(d, initial, offsets);
         let library = library::check(d, initial, offsets);
         let shown = || input(d, tables, String::new());
-        match self.same_answer("check", (reference, library), shown) {
+        let checked = self.same_answer("check", (reference, library), shown);
+        match checked {
             Ok(Checked::Faithful) => self.tally.note("check: faithful"),
             Ok(Checked::Unfaithful(0)) => self.tally.note("check: unfaithful, word 0"),
             Ok(_) => self.tally.note("check: unfaithful, another word"),
             Err(_) => {}
         }
+        checked
+    }
+
+    fn count(&mut self, d: &Design, tables: &Tables) -> Result<Counts, u8> {
+        let Tables { initial, offsets } = tables;
+        let reference = reference::count(d, initial, offsets);
+        let library = library::count(d, initial, offsets);
+        let shown = || input(d, tables, String::new());
+        let counts = self.same_answer("count", (reference, library), shown)?;
+        for (class, count) in CLASSES.into_iter().zip(counts.all()) {
+            if count > 0 {
+                self.tally.note(class);
+            }
+        }
+        Ok(counts)
     }
 
     /// Returns the written line.

@@ -1,6 +1,7 @@
 //! The comparison: both versions on the same input, with fixed seeds.
 
 mod calls;
+mod counts;
 mod lines;
 mod sets;
 mod tally;
@@ -18,7 +19,7 @@ pub struct Comparison {
 type Part = fn(&mut Comparison);
 
 /// The parts of the comparison, each with a seed of its own.
-const PARTS: [(&str, Part); 13] = [
+const PARTS: [(&str, Part); 16] = [
     ("values", Comparison::values),
     ("designs", Comparison::designs),
     ("fills", Comparison::fills),
@@ -35,6 +36,9 @@ const PARTS: [(&str, Part); 13] = [
     ("written lines", Comparison::written_lines),
     ("read lines", Comparison::read_lines),
     ("reports", Comparison::reports),
+    ("single words counted", Comparison::single_words),
+    ("exact halves", Comparison::exact_halves),
+    ("words next to exact", Comparison::words_next_to_exact),
 ];
 
 /// Ends the program at the first difference. Returns whether all that should come up did.

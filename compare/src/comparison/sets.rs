@@ -1,4 +1,4 @@
-//! Values, designs, filled sets, words, batches and verdicts.
+//! Values, designs, filled sets, words, batches, verdicts and counts.
 
 use super::Comparison;
 use crate::random::{lengths, limits, Given, Tables};
@@ -192,10 +192,10 @@ impl Comparison {
         }
     }
 
-    /// Words, batches and the verdict for given tables, which must stay as they are.
+    /// Words, batches, the verdict and the counts for given tables, which must stay as they are.
     fn examine(&mut self, d: &Design, tables: &Tables) {
         let before = tables.clone();
-        self.calls.check(d, tables);
+        let _ = self.calls.check_and_count(d, tables);
         self.words(d, tables);
         for _ in 0..4 {
             self.batch(d, tables);
@@ -309,7 +309,7 @@ impl Comparison {
             for (place, change) in (0..32).flat_map(|place| (-64..=64).map(move |n| (place, n))) {
                 let mut changed = tables.clone();
                 changed.initial[place] = changed.initial[place].wrapping_add_signed(change);
-                self.calls.check(&d, &changed);
+                let _ = self.calls.check_and_count(&d, &changed);
             }
         }
     }

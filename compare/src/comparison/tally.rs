@@ -12,8 +12,8 @@ const fn call(name: &'static str, refusals: &'static [u8]) -> Call {
     Call { name, refusals }
 }
 
-/// The document's "Checks in order".
-pub const CALLS: [Call; 12] = [
+/// The document's "Checks in order"; the count "refuses as the check does".
+pub const CALLS: [Call; 13] = [
     call("value", &[0, 1, 2, 3, 4, 12]),
     call("legal", &[0, 1, 2, 3, 4, 5, 6, 7, 8, 9]),
     call("budget", &[0, 1, 2, 3, 4, 5, 6, 7, 8, 9]),
@@ -26,6 +26,7 @@ pub const CALLS: [Call; 12] = [
         &[0, 1, 2, 3, 4, 5, 6, 7, 8, 9, 10, 14, 12, 13],
     ),
     call("check", &[0, 1, 2, 3, 4, 5, 6, 7, 8, 9, 10]),
+    call("count", &[0, 1, 2, 3, 4, 5, 6, 7, 8, 9, 10]),
     call(
         "write_line",
         &[0, 1, 2, 3, 4, 5, 6, 7, 8, 9, 10, 19, 18, 14],
@@ -38,13 +39,29 @@ pub const CALLS: [Call; 12] = [
 const PLAIN: Call = call("is_finished", &[0]);
 
 /// Things that must come up, and how often at the least.
-const WANTED: [(&str, u64); 25] = [
+const WANTED: [(&str, u64); 41] = [
     ("budget equal to the limit", 5),
     ("budget one below the limit", 5),
     ("budget of 2^32 or more", 100),
     ("check: faithful", 1000),
     ("check: unfaithful, word 0", 100),
     ("check: unfaithful, another word", 1000),
+    ("count: some outside", 1000),
+    ("count: some nearest", 1000),
+    ("count: some faithful", 1000),
+    ("count: some low", 1000),
+    ("count: some high", 1000),
+    ("word exact: nearest", 1000),
+    ("word half a unit too low: nearest", 400),
+    ("word half a unit too high: nearest", 400),
+    ("word a whole unit too low: low", 1000),
+    ("word a whole unit too high: high", 1000),
+    ("word of sum -1: outside", 800),
+    ("word of sum 0: low", 800),
+    ("word of sum 2^g-1: low", 800),
+    ("word of sum 2^g: low", 800),
+    ("word of sum 2^(P+2)-1: high", 800),
+    ("word of sum 2^(P+2): outside", 800),
     ("is_finished: no", 1000),
     ("is_finished: yes", 1000),
     ("report: ADMITTED", 500),
