@@ -11,7 +11,7 @@ struct Wanted {
 }
 
 /// Refusal 10 is none of them: the programs' tables are long enough for every set.
-const WANTED: [Wanted; 4] = [
+const WANTED: [Wanted; 5] = [
     Wanted {
         name: "report",
         answers: &["ADMITTED", "NOT ADMITTED"],
@@ -25,6 +25,18 @@ const WANTED: [Wanted; 4] = [
     Wanted {
         name: "check_set",
         answers: &["FAITHFUL", "UNFAITHFUL", "UNFINISHED"],
+        refused: "LINE REFUSED",
+    },
+    Wanted {
+        name: "count_set",
+        answers: &[
+            "OUTSIDE",
+            "NEAREST",
+            "FAITHFUL",
+            "LOW",
+            "HIGH",
+            "UNFINISHED",
+        ],
         refused: "LINE REFUSED",
     },
     Wanted {
@@ -51,16 +63,25 @@ impl Wanted {
     }
 }
 
-/// A printed line without the numbers that only say where.
-fn sort_of(line: &str) -> String {
+/// The answers in a printed line: the line without the numbers that only say where, or the classes
+/// that are not empty.
+fn answers_in(line: &str) -> Vec<String> {
     let words: Vec<&str> = line.split(' ').collect();
-    match words[..] {
+    let answer = match words[..] {
+        ["OUTSIDE", ..] => return classes(&words),
         ["LINE", _, "REFUSED", refusal] => format!("LINE REFUSED {refusal}"),
         ["BUDGET", _, "LIMIT", _, "BITS", _, ref verdict @ ..] => verdict.join(" "),
         ["UNFAITHFUL" | "UNFINISHED", _] => words[0].into(),
         _ if line.starts_with(|c: char| c.is_ascii_digit()) => "digits".into(),
         _ => line.into(),
-    }
+    };
+    vec![answer]
+}
+
+/// The classes with a count above 0, each class standing before its count.
+fn classes(words: &[&str]) -> Vec<String> {
+    let counts = words.chunks_exact(2).filter(|pair| pair[1] != "0");
+    counts.map(|pair| pair[0].to_string()).collect()
 }
 
 #[derive(Default)]
@@ -69,10 +90,10 @@ pub struct Answers {
 }
 
 impl Answers {
-    /// Counts each printed line.
+    /// Counts the answers in each printed line.
     pub fn note(&mut self, name: &'static str, text: &str) {
-        for line in text.lines() {
-            *self.counts.entry((name, sort_of(line))).or_default() += 1;
+        for answer in text.lines().flat_map(answers_in) {
+            *self.counts.entry((name, answer)).or_default() += 1;
         }
     }
 

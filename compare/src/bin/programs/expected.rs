@@ -99,6 +99,21 @@ pub fn check_set(input: &[u8]) -> String {
     }
 }
 
+pub fn count_set(input: &[u8]) -> String {
+    let (d, tables, _) = match read_set(input) {
+        Ok(set) => set,
+        Err(text) => return text,
+    };
+    match reference::count(&d, &tables.initial, &tables.offsets) {
+        Ok(counts) => {
+            let [outside, nearest, faithful, low, high] = counts.all();
+            let passing = format!("NEAREST {nearest} FAITHFUL {faithful}");
+            format!("OUTSIDE {outside} {passing} LOW {low} HIGH {high}\n")
+        }
+        Err(refusal) => format!("REFUSED {refusal}\n"),
+    }
+}
+
 /// A decimal number below 2^32: digits and nothing else.
 fn decimal(line: &[u8]) -> Option<u32> {
     let text = std::str::from_utf8(line).ok()?;

@@ -33,6 +33,17 @@ const SMALLEST: Design = Design {
     pairs: [(1, 1); 4],
 };
 
+/// A design with few entries and the most words.
+const FEW_ENTRIES: Design = Design {
+    kind: 1,
+    w: 16,
+    q: 14,
+    g: 6,
+    alpha: 2,
+    m: 2,
+    pairs: [(1, 7); 4],
+};
+
 /// What may stand behind a line that is sound without it: a character, two, and so many that no
 /// program should wait for the last.
 fn behind() -> Vec<String> {
@@ -82,6 +93,7 @@ impl Runs {
         self.design_lines();
         self.lines_of_any_length();
         self.other_set(&SMALLEST);
+        self.sets_of_one_sum();
         for kind in 0..=4 {
             self.sets(kind);
         }
@@ -154,7 +166,9 @@ impl Runs {
         for name in ["report", "make_set"] {
             self.reads_only(name, &lines[0], &lines[1]);
         }
-        self.reads_only("check_set", &lines.concat(), "7\n");
+        for name in ["check_set", "count_set"] {
+            self.reads_only(name, &lines.concat(), "7\n");
+        }
     }
 
     /// A set that nobody filled, of a legal design, admitted or not.
@@ -190,6 +204,17 @@ impl Runs {
             let line = lines[0].trim_end();
             self.line(format!("{line}{text}\n").as_bytes());
             self.line(format!("{line}{text}").as_bytes());
+        }
+    }
+
+    /// Sets of 16 bits with the same sum for all words, at the ends of the range and beyond, so
+    /// that all words land in one class.
+    fn sets_of_one_sum(&mut self) {
+        let end = 1 << (FEW_ENTRIES.q + FEW_ENTRIES.g + 2);
+        let (initial, offsets) = lengths(&FEW_ENTRIES);
+        for (entry, offset) in [(0, 0), (1, -1), (end - 1, 0), (end, 0)] {
+            let (initial, offsets) = (vec![entry; initial], vec![offset; offsets]);
+            self.set_and_words(&FEW_ENTRIES, &Tables { initial, offsets });
         }
     }
 

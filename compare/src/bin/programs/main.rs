@@ -21,8 +21,9 @@ const LINE_PROGRAMS: [Program; 2] = [
     ("report", expected::report),
     ("make_set", expected::make_set),
 ];
-const SET_PROGRAMS: [Program; 2] = [
+const SET_PROGRAMS: [Program; 3] = [
     ("check_set", expected::check_set),
+    ("count_set", expected::count_set),
     ("evaluate_set", expected::evaluate_set),
 ];
 
