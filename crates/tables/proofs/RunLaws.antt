@@ -16,7 +16,7 @@ use Rattle.design.proofs.LegalLaws.{Limits, bits-end}
 use Rattle.design.proofs.StoredLaws.{place-in-total}
 use Rattle.design.proofs.CutLaws.{segment-word-lt}
 use Rattle.tables.specs.Sum.{offsetFor, sumAbove}
-use Rattle.tables.proofs.SumLaws.{sum-first}
+use Rattle.tables.proofs.SumLaws.{first-last}
 
 -- B_0 is the lowest bits.
 lowest : (d : Design) (x : ℕ) → offsetWord d 0 x ≡ x % 2 ^ bOf d 0
@@ -79,7 +79,7 @@ module _ (d : Design) (l : Limits d) (x B : ℕ) (starts : offsetWord d 0 x ≡ 
     unfolding offsetFor
     run-other i h = rw (run-segment (i + 1) (omega arith), run-offset i)
 
-    run-above : sumAbove d entry offsets (x + B) ≡ sumAbove d entry offsets x
+    run-above : sumAbove d (pos entry) offsets (x + B) ≡ sumAbove d (pos entry) offsets x
     unfolding sumAbove
     run-above =
         ap (λ (z : ℤ). pos entry +ℤ z)
@@ -90,9 +90,9 @@ module _ (d : Design) (l : Limits d) (x B : ℕ) (starts : offsetWord d 0 x ≡ 
     unfolding offsetFor offsetFrom offsetPlace storedIndex
     run-place = rw (run-segment 0 (l .m-low), run-first, in-a-row d 0 (segmentWord d 0 x) B)
 
-    pub run-sum : sumAbove d entry offsets x +ℤ getD offsets (storedPlace d 0 (segmentWord d 0 x) 0 + B) (pos 0)
+    pub run-sum : sumAbove d (pos entry) offsets x +ℤ getD offsets (storedPlace d 0 (segmentWord d 0 x) 0 + B) (pos 0)
         ≡ pos entry +ℤ signedSum (d .m) (offsetFor d offsets (x + B))
-    run-sum = rw (run-place, ← run-above) (sum-first d entry offsets (x + B) (l .m-low))
+    run-sum = rw (run-place, ← run-above) (first-last d entry offsets (x + B) (l .m-low))
 
   -- They lie within the offset tables.
   pub run-inside : x < 2 ^ d .w → storedPlace d 0 (segmentWord d 0 x) 0 + B < offsetTotal d

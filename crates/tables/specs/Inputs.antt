@@ -33,17 +33,17 @@ pub record Small (lookup : Lookup) : Type 0 where
   pub position-small : lookup .position < 32
   pub start-small : lookup .start ≤ mostOffsets
 
--- A sum of an initial entry and the offsets of i tables from 1 on, each of 32 bits
-pub record Summed (d : Design) (entry : ℕ) (offsets : List ℤ) (x i : ℕ) (sum : ℤ) : Type 0 where
-  pub sum-is : sum ≡ pos entry +ℤ signedSum i (λ j. offsetFor d offsets x (j + 1))
-  pub small : mag sum ≤ 2 ^ 32 + i * 2 ^ 32
+-- A sum with the offsets of i tables from 1 on, each of 32 bits
+pub record Summed (d : Design) (before : ℤ) (offsets : List ℤ) (x i : ℕ) (sum : ℤ) : Type 0 where
+  pub sum-is : sum ≡ before +ℤ signedSum i (λ j. offsetFor d offsets x (j + 1))
+  pub small : mag sum ≤ mag before + i * 2 ^ 32
 
 -- A run: 2^(b_0) words that differ in B_0 alone, the first with B_0 = 0. `above` is their Y without table 0, and their offsets of table 0
 -- lie from `place` on.
 pub record RunOf (d : Design) (offsets : List ℤ) (run : Run) : Type 0 where
   pub word : run .start < 2 ^ d .w
   pub starts : offsetWord d 0 (run .start) ≡ 0
-  pub above-is : run .above .0 ≡ sumAbove d (run .entry) offsets (run .start)
+  pub above-is : run .above .0 ≡ sumAbove d (pos (run .entry)) offsets (run .start)
   pub above-small : mag (run .above .0) ≤ 2 ^ 40
   pub place-is : run .place ≡ storedPlace d 0 (segmentWord d 0 (run .start)) 0
   pub size-is : run .size ≡ 2 ^ bOf d 0

@@ -15,9 +15,9 @@ unfoldable pub offsetFor : Design → List ℤ → ℕ → ℕ → ℤ
 offsetFor d offsets x i =
     offsetFrom d i (offsetWord d i x) (getD offsets (offsetPlace d i (segmentWord d i x) (offsetWord d i x)) (pos 0))
 
--- Y without table 0, from an initial entry on. Words that differ in B_0 alone have it in common.
-unfoldable pub sumAbove : Design → ℕ → List ℤ → ℕ → ℤ
-sumAbove d entry offsets x = pos entry +ℤ signedSum (d .m - 1) (λ i. offsetFor d offsets x (i + 1))
+-- A sum with the offsets of the tables from 1 on, which words that differ in B_0 alone have in common
+unfoldable pub sumAbove : Design → ℤ → List ℤ → ℕ → ℤ
+sumAbove d sum offsets x = sum +ℤ signedSum (d .m - 1) (λ i. offsetFor d offsets x (i + 1))
 
 -- "Y is the initial entry plus the m offsets, each offset signed."
 unfoldable pub sumAt : Design → List ℕ → List ℤ → ℕ → ℤ

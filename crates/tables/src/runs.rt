@@ -13,8 +13,8 @@ ghost use Rattle.tables.specs.Lookup.{lookupsOf};
 ghost use Rattle.tables.specs.Sum.{offsetFor};
 use crate::lookups::Lookups;
 use crate::lookups::place_of;
+use crate::sums::add_above;
 use crate::sums::add_offset;
-use crate::sums::sum_above;
 use design::Design;
 use values::TableUnits;
 
@@ -35,10 +35,11 @@ pub fn run_of(d: Design, lookups: Lookups, entry: u32, offsets: &[i32], near: u3
     requires { ⌜ SameInterval d near x × (offsetWord d 0 x ≡ 0) ⌝ }
     ensures { λ r. ⌜ (r .start ≡ x) × (r .entry ≡ entry) × RunOf d (now (offsets .entry)) r ⌝ }
 {
+    let none = TableUnits(entry as i64);
     Run {
         start: x,
         entry,
-        above: sum_above(d, lookups, entry, offsets, near, x),
+        above: add_above(d, lookups, none, offsets, near, x),
         place: place_of(lookups.first, near, x),
         size: 1 << lookups.first.b,
     }

@@ -46,26 +46,25 @@ fn add_table(
     add_offset(sum, offsets, place_of(lookup, near, x))
 }
 
-// Y without table 0, from x's initial entry on. `near` is any word of x's interval.
-pub(crate) fn sum_above(
+// The offsets of the tables from 1 on more. `near` is any word of x's interval.
+pub(crate) fn add_above(
     d: Design,
     lookups: Lookups,
-    entry: u32,
+    sum: TableUnits,
     offsets: &[i32],
     near: u32,
     x: u32,
 ) -> TableUnits
     requires { ⌜ Legal d × (offsetTotal d ≤ length (now offsets)) ⌝ }
     requires { ⌜ lookups ≡ lookupsOf d ⌝ }
-    requires { ⌜ SameInterval d near x ⌝ }
-    ensures { λ r. ⌜ (r ≡ record { 0 = sumAbove d entry (now (offsets .entry)) x }) × (mag (r .0) ≤ 2 ^ 40) ⌝ }
+    requires { ⌜ SameInterval d near x × (mag (sum .0) ≤ 2 ^ 34) ⌝ }
+    ensures { λ r. ⌜ (r ≡ record { 0 = sumAbove d (sum .0) (now (offsets .entry)) x }) × (mag (r .0) ≤ 2 ^ 40) ⌝ }
 {
     let m = d.m;
-    let none = TableUnits(entry as i64);
     if m == 1 {
-        return none;
+        return sum;
     }
-    let one = add_table(d, 1, lookups.second, none, offsets, near, x);
+    let one = add_table(d, 1, lookups.second, sum, offsets, near, x);
     if m == 2 {
         return one;
     }
@@ -90,8 +89,9 @@ pub fn sum_from(
     requires { ⌜ SameInterval d near x ⌝ }
     ensures { λ r. ⌜ r ≡ record { 0 = pos entry +ℤ signedSum (d .m) (offsetFor d (now (offsets .entry)) x) } ⌝ }
 {
-    let above = sum_above(d, lookups, entry, offsets, near, x);
-    add_table(d, 0, lookups.first, above, offsets, near, x)
+    let none = TableUnits(entry as i64);
+    let first = add_table(d, 0, lookups.first, none, offsets, near, x);
+    add_above(d, lookups, first, offsets, near, x)
 }
 
 // inner: Y, summed from the tables: the initial entry and m offsets.

@@ -99,9 +99,6 @@ module _ (row : Row) (w s X : ℕ) (fit : FloorInput row w (s + 2) X) (n : ℕ) 
   power-high : n ^ row .k ≤ 2 ^ (row .k * (s + 2))
   power-high = le-trans (pow-le-pow-left small (row .k)) (le-of-eq (pow-swap 2 (s + 2) (row .k) ∙ pow-pow 2 (row .k) (s + 2)))
 
-  pub power-fits : n ^ row .k < 2 ^ 64
-  power-fits = lt-of-le-of-lt power-high (pow-lt {j = 64} (omega (arith, fit .room .power)))
-
   pub number-part-fits : numberPart row w s X n < 2 ^ 64
   unfolding numberPart divisorPart
   number-part-fits =

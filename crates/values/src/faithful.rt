@@ -1,10 +1,10 @@
-// How an output word stands to the exact value, told by the parts of the exact value and of two numbers around the word.
+// How an output word stands to the exact value, told by the parts of the exact value and of the word's neighbours.
 ghost use mathlib.Core.Path.{_≡_};
 ghost use Prim.Native.Nat.{_+_, _^_, _<_};
 ghost use Rattle.values.specs.Inputs.{FloorInput};
 ghost use Rattle.values.specs.Faithful.{isFaithful, isNearest, isTooLow};
 use crate::OutputUnits;
-use crate::parts::number_parts;
+use crate::parts::neighbour_parts;
 use crate::parts::value_part;
 use crate::rows::Row;
 
@@ -19,7 +19,7 @@ pub fn is_faithful(row: Row, w: u32, q: u32, x: u64, y: OutputUnits) -> bool
         return false;
     }
     let exact = value_part(row, w, q, x);
-    let parts = number_parts(row, w, q, x, word - 1, word + 1);
+    let parts = neighbour_parts(row, w, q, x, word);
     parts.low < exact && exact < parts.high
 }
 
@@ -34,7 +34,7 @@ pub fn is_nearest(row: Row, w: u32, q: u32, x: u64, y: OutputUnits) -> bool
         return false;
     }
     let exact = value_part(row, w, q + 1, x);
-    let parts = number_parts(row, w, q + 1, x, 2 * word - 1, 2 * word + 1);
+    let parts = neighbour_parts(row, w, q + 1, x, 2 * word);
     parts.low <= exact && exact <= parts.high
 }
 
@@ -49,6 +49,6 @@ pub fn is_too_low(row: Row, w: u32, q: u32, x: u64, y: OutputUnits) -> bool
         return true;
     }
     let exact = value_part(row, w, q, x);
-    let parts = number_parts(row, w, q, x, word, word + 1);
+    let parts = neighbour_parts(row, w, q, x, word);
     parts.high <= exact
 }

@@ -44,21 +44,24 @@ pub(crate) struct Parts {
     pub high: u64,
 }
 
-// The numbers' parts, n^k times the divisor, for numbers of s + 2 bits, with one look at the degree for both.
-pub(crate) fn number_parts(row: Row, w: u32, s: u32, x: u64, low: u64, high: u64) -> Parts
+// The parts of n - 1 and n + 1, n^k times the divisor, for numbers of s + 2 bits, from the same products: (n ∓ 1)·d is n·d ∓ d, and
+// (n ∓ 1)²·d is (n² + 1)·d ∓ 2·n·d.
+pub(crate) fn neighbour_parts(row: Row, w: u32, s: u32, x: u64, n: u64) -> Parts
     requires { ⌜ FloorInput row w (s + 2) x ⌝ }
-    requires { ⌜ (low ≤ 2 ^ (s + 2)) × (high ≤ 2 ^ (s + 2)) ⌝ }
-    ensures { λ r. ⌜ r ≡ record { low = numberPart row w s x low; high = numberPart row w s x high } ⌝ }
+    requires { ⌜ (1 ≤ n) × (n + 1 ≤ 2 ^ (s + 2)) ⌝ }
+    ensures { λ r. ⌜ r ≡ record { low = numberPart row w s x (n - 1); high = numberPart row w s x (n + 1) } ⌝ }
 {
     let divisor = divisor_part(row, w, s, x);
+    let once = n * divisor;
     if row.k == 1 {
         return Parts {
-            low: low * divisor,
-            high: high * divisor,
+            low: once - divisor,
+            high: once + divisor,
         };
     }
+    let middle = n * once + divisor;
     Parts {
-        low: low * low * divisor,
-        high: high * high * divisor,
+        low: middle - 2 * once,
+        high: middle + 2 * once,
     }
 }

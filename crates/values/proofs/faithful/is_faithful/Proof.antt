@@ -44,17 +44,23 @@ returns c = zero-word _ _ _ _ _ (c .if1 .taken)
 value-part-requires : tie.Need-value-part-requires
 value-part-requires c κs = let s = c .before .before in coarser-input (s .args .q) (omega arith) (s .pre .0)
 
--- the word is not 0, and the two parts are those of its neighbours
+-- the word is not 0
 positive : (c : tie.Else1) → 0 < c .before .before .args .y .0
 positive c = omega (arith, c .if1 .left)
 
-low-part : (c : tie.After-number-parts) → let a = c .before .before .before .before .args in
-    c .number-parts .result .low ≡ numberPart (a .row) (a .w) (a .q) (a .x) (a .y .0 - 1)
-low-part c = ap (λ (p : Parts). p .low) (c .number-parts .ensures)
+neighbour-parts-requires : tie.Need-neighbour-parts-requires
+neighbour-parts-requires c κs =
+    let p = c .before .before .before .pre in
+    (p .0, (positive (c .before), omega (arith, p .1)))
 
-high-part : (c : tie.After-number-parts) → let a = c .before .before .before .before .args in
-    c .number-parts .result .high ≡ numberPart (a .row) (a .w) (a .q) (a .x) (a .y .0 + 1)
-high-part c = ap (λ (p : Parts). p .high) (c .number-parts .ensures)
+-- the two parts are those of its neighbours
+low-part : (c : tie.After-neighbour-parts) → let a = c .before .before .before .before .args in
+    c .neighbour-parts .result .low ≡ numberPart (a .row) (a .w) (a .q) (a .x) (a .y .0 - 1)
+low-part c = ap (λ (p : Parts). p .low) (c .neighbour-parts .ensures)
+
+high-part : (c : tie.After-neighbour-parts) → let a = c .before .before .before .before .args in
+    c .neighbour-parts .result .high ≡ numberPart (a .row) (a .w) (a .q) (a .x) (a .y .0 + 1)
+high-part c = ap (λ (p : Parts). p .high) (c .neighbour-parts .ensures)
 
 returns-2 : tie.Need-returns-2
 returns-2 c =
@@ -71,13 +77,4 @@ returns-3 c =
 
 pub is-faithful-spec : {M : Type 1} → statement M
 is-faithful-spec =
-    tie.close
-    (tie.spec
-    (λ c. search needs)
-    returns
-    value-part-requires
-    (λ c. search needs)
-    (λ c. search needs)
-    (λ c κs. search needs)
-    returns-2
-    returns-3)
+    tie.close (tie.spec (λ c. search needs) returns value-part-requires neighbour-parts-requires returns-2 returns-3)

@@ -46,28 +46,31 @@ returns c = zero-word _ _ _ _ _ (c .if1 .taken)
 value-part-requires : tie.Need-value-part-requires
 value-part-requires c κs = let s = c .before .before in coarser-input (s .args .q + 1) (omega arith) (s .pre .0)
 
--- halves of a word of q + 2 bits have one bit more
-halves-small : (q y : ℕ) → y < 2 ^ (q + 2) → (2 * y - 1 ≤ 2 ^ (q + 1 + 2)) × (2 * y + 1 ≤ 2 ^ (q + 1 + 2))
-halves-small q y h =
-    let e : q + 1 + 2 ≡ suc (q + 2) = omega arith in
-    rw (e, pow-suc) (omega arith, omega arith)
-
-number-parts-requires : tie.Need-number-parts-requires
-number-parts-requires c κs =
-    let s = c .before .before .before in
-    (coarser-input (s .args .q + 1 + 2) (omega arith) (s .pre .0), halves-small _ _ (s .pre .1))
-
--- the word is not 0, and the two parts are those of its halves' neighbours
+-- the word is not 0
 positive : (c : tie.Else1) → 0 < c .before .before .args .y .0
 positive c = omega (arith, c .if1 .left)
 
-low-part : (c : tie.After-number-parts) → let a = c .before .before .before .before .args in
-    c .number-parts .result .low ≡ numberPart (a .row) (a .w) (a .q + 1) (a .x) (2 * a .y .0 - 1)
-low-part c = ap (λ (p : Parts). p .low) (c .number-parts .ensures)
+-- halves of a word of q + 2 bits have one bit more
+halves-small : (q y : ℕ) → y < 2 ^ (q + 2) → 2 * y + 1 ≤ 2 ^ (q + 1 + 2)
+halves-small q y h =
+    let e : q + 1 + 2 ≡ suc (q + 2) = omega arith in
+    rw (e, pow-suc) (omega arith)
 
-high-part : (c : tie.After-number-parts) → let a = c .before .before .before .before .args in
-    c .number-parts .result .high ≡ numberPart (a .row) (a .w) (a .q + 1) (a .x) (2 * a .y .0 + 1)
-high-part c = ap (λ (p : Parts). p .high) (c .number-parts .ensures)
+neighbour-parts-requires : tie.Need-neighbour-parts-requires
+neighbour-parts-requires c κs =
+    let s = c .before .before .before in (
+      coarser-input (s .args .q + 1 + 2) (omega arith) (s .pre .0),
+      (omega (arith, positive (c .before)), halves-small _ _ (s .pre .1)),
+    )
+
+-- the two parts are those of its halves' neighbours
+low-part : (c : tie.After-neighbour-parts) → let a = c .before .before .before .before .args in
+    c .neighbour-parts .result .low ≡ numberPart (a .row) (a .w) (a .q + 1) (a .x) (2 * a .y .0 - 1)
+low-part c = ap (λ (p : Parts). p .low) (c .neighbour-parts .ensures)
+
+high-part : (c : tie.After-neighbour-parts) → let a = c .before .before .before .before .args in
+    c .neighbour-parts .result .high ≡ numberPart (a .row) (a .w) (a .q + 1) (a .x) (2 * a .y .0 + 1)
+high-part c = ap (λ (p : Parts). p .high) (c .neighbour-parts .ensures)
 
 returns-2 : tie.Need-returns-2
 returns-2 c =
@@ -92,9 +95,6 @@ is-nearest-spec =
     value-part-requires
     (λ c. search needs)
     (λ c. search needs)
-    (λ c. search needs)
-    (λ c. search needs)
-    (λ c. search needs)
-    number-parts-requires
+    neighbour-parts-requires
     returns-2
     returns-3)

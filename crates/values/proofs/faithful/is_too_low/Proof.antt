@@ -33,22 +33,16 @@ returns c = zero-word _ _ _ _ _ (c .if1 .taken)
 value-part-requires : tie.Need-value-part-requires
 value-part-requires c κs = let s = c .before .before in coarser-input (s .args .q) (omega arith) (s .pre .0)
 
-number-parts-requires : tie.Need-number-parts-requires
-number-parts-requires c κs = let s = c .before .before .before in (s .pre .0, (omega (arith, s .pre .1), omega (arith, s .pre .1)))
+neighbour-parts-requires : tie.Need-neighbour-parts-requires
+neighbour-parts-requires c κs =
+    let p = c .before .before .before .pre in
+    (p .0, (omega (arith, c .before .if1 .left), omega (arith, p .1)))
 
 returns-2 : tie.Need-returns-2
 returns-2 c =
     let n = c .before in
     let v = n .before in
-    by-part _ _ _ _ _ _ _ (v .value-part .ensures) (ap (λ (p : Parts). p .high) (n .number-parts .ensures)) (v .before .if1 .left)
+    by-part _ _ _ _ _ _ _ (v .value-part .ensures) (ap (λ (p : Parts). p .high) (n .neighbour-parts .ensures)) (v .before .if1 .left)
 
 pub is-too-low-spec : {M : Type 1} → statement M
-is-too-low-spec =
-    tie.close
-    (tie.spec
-    (λ c. search needs)
-    returns
-    value-part-requires
-    (λ c. search needs)
-    number-parts-requires
-    returns-2)
+is-too-low-spec = tie.close (tie.spec (λ c. search needs) returns value-part-requires neighbour-parts-requires returns-2)
