@@ -1,6 +1,5 @@
 -- Counts and check agree.
-use mathlib.Core.Path.{_≡_, refl, sym, ap, _∙_}
-use mathlib.Core.Bool.{true, false}
+use mathlib.Core.Path.{_≡_, refl}
 use mathlib.Core.List.{List}
 use mathlib.Core.Logic.{_↔_}
 use Prim.Native.Nat.{ℕ, _+_, _^_, _<_}
@@ -23,7 +22,7 @@ use Rattle.counting.specs.declared.Counts.{Counts}
 use Rattle.counting.specs.declared.Counted.{Counted}
 use Rattle.counting.specs.Count.{placeOf, classAt, countOf, countsBelow, countVerdict, countAnswer, countTold}
 use Rattle.counting.proofs.CountLaws as CountLaws
-use Rattle.agreement.specs.Agreement.{Agrees, Agreement}
+use Rattle.agreement.specs.Agreement.{Agreement}
 use Rattle.agreement.proofs.Landing.{up-to-high, lands, zero-low, faithful-class, class-faithful}
 
 -- The number that is told goes by the verdict alone.

@@ -1,5 +1,5 @@
 -- Each input lands in the first class that fits, and its word is faithful exactly where that class is nearest or faithful.
-use mathlib.Core.Path.{_≡_, refl, sym, _∙_}
+use mathlib.Core.Path.{_≡_, refl}
 use mathlib.Core.Bool.{Bool, true, false, cond}
 use mathlib.Core.List.{List}
 use Prim.Native.Nat.{ℕ, _+_, _^_, _≤_, _<_}
@@ -21,7 +21,7 @@ use Rattle.values.proofs.FaithfulLaws.{
 }
 use Rattle.design.specs.declared.Design.{Design}
 use Rattle.design.specs.Cut.{row}
-use Rattle.tables.specs.Sum.{sumAt, sumOutside, wordOf, wordAt}
+use Rattle.tables.specs.Sum.{sumAt, sumOutside, wordAt}
 use Rattle.checking.specs.Check.{FaithfulWord}
 use Rattle.counting.specs.declared.Class.{Class}
 use Rattle.counting.specs.Count.{placeOf, classOf, classAt}

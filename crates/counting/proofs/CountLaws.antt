@@ -1,7 +1,7 @@
 -- The counts: of no words, with one more, how large they get, and what they add up to.
 use mathlib.Core.Path.{_≡_, refl}
 use mathlib.Core.Bool.{cond}
-use Prim.Native.Nat.{ℕ, zero, suc, _+_, _≤_, _<_}
+use Prim.Native.Nat.{ℕ, zero, suc, _+_, _≤_}
 use native.Mathlib.Nat.{le-trans}
 use lib.Dec.{eqb}
 use native.Mathlib.Omega.{arith}
@@ -9,7 +9,6 @@ use Rattle.general.specs.Below.{countBelow}
 use Rattle.general.proofs.Sums.{count-next, count-bounded}
 use Rattle.values.specs.Room.{wordBound}
 use Rattle.counting.specs.declared.Class.{Class}
-use Rattle.counting.specs.declared.Counts.{Counts}
 use Rattle.counting.specs.Count.{placeOf, countOf, countsBelow}
 use Rattle.counting.specs.Inputs.{Few, withClass}
 

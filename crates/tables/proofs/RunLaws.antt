@@ -1,7 +1,7 @@
 -- Runs: their words differ in B_0 alone, so that they have A, every A_i and all offsets but table 0's in common.
 use mathlib.Core.Path.{_≡_, refl, sym, ap, _∙_}
 use mathlib.Core.List.{List}
-use Prim.Native.Nat.{ℕ, suc, _+_, _-_, _*_, _/_, _%_, _^_, _≤_, _<_}
+use Prim.Native.Nat.{ℕ, _+_, _-_, _*_, _/_, _%_, _^_, _≤_, _<_}
 use native.Mathlib.Nat.{add-sub-of-le, add-zero, div-one, div-eq-of-lt, mod-lt}
 use native.Mathlib.Omega.{arith}
 use lib.ListN.{getD}
@@ -98,4 +98,5 @@ module _ (d : Design) (l : Limits d) (x B : ℕ) (starts : offsetWord d 0 x ≡ 
   pub run-inside : x < 2 ^ d .w → storedPlace d 0 (segmentWord d 0 x) 0 + B < offsetTotal d
   unfolding offsetPlace storedIndex
   run-inside h =
-      rw (in-a-row d 0 (segmentWord d 0 x) B) (place-in-total d 0 (segmentWord d 0 x) B (l .m-low) (segment-word-lt d l 0 x (l .m-low) h) B-lt)
+      rw (in-a-row d 0 (segmentWord d 0 x) B)
+      (place-in-total d 0 (segmentWord d 0 x) B (l .m-low) (segment-word-lt d l 0 x (l .m-low) h) B-lt)

@@ -9,7 +9,6 @@ use Rattle.values.specs.Rows.{rows, kinds, rowOf}
 use Rattle.values.specs.Exact.{num, den, numberSide, valueSide, AtMost, Greatest}
 use Rattle.values.specs.Floor.{floorValue}
 use Rattle.values.specs.Inputs.{InRange}
-use Rattle.values.specs.Faithful.{Faithful, Nearest}
 use Rattle.values.specs.Document.{SidesSaid, FloorSaid, Between, WordSaid, Document}
 use Rattle.values.proofs.FloorLaws.{floor-greatest}
 use Rattle.values.proofs.NewtonLaws.{first-power}

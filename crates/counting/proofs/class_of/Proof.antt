@@ -1,5 +1,5 @@
 -- `counting::class_of` meets its contract: its tests are those of the definition, in the same order, each tried where those before it fail.
-use mathlib.Core.Path.{_≡_, _∙_, sym}
+use mathlib.Core.Path.{_≡_}
 use mathlib.Core.Bool.{Bool, true, false}
 use Prim.Native.Nat.{ℕ, _+_, _^_, _<_}
 use native.Mathlib.Omega.{arith}
@@ -89,7 +89,8 @@ is-too-low-requires : tie.Need-is-too-low-requires
 is-too-low-requires c κs = let a = asked (c .before .before .before .before) in (coarser-input _ (omega arith) (a .0), a .1)
 
 -- what they tell
-test-told : (c : tie.After-pow2) (test : Row → ℕ → ℕ → ℕ → ℕ → Bool) {result answer : Bool} → let a = c .before .before .before .before .args in
+test-told : (c : tie.After-pow2) (test : Row → ℕ → ℕ → ℕ → ℕ → Bool) {result answer : Bool} →
+    let a = c .before .before .before .before .args in
     result ≡ test (a .row) (a .d .w) (a .d .q) (c .pow2 .result + a .x) (c .before .word-of .result .0) → result ≡ answer
     → at (a .d) (a .x) (a .sum .0) test ≡ answer
 test-told c test =

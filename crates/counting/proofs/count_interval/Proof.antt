@@ -1,17 +1,11 @@
 -- `counting::count_interval` meets its contract: before a run of the interval, the words below it are counted.
 use mathlib.Core.Path.{_≡_, _∙_, sym}
-use mathlib.Core.List.{List}
-use Prim.Native.Nat.{ℕ, _+_, _-_, _*_, _^_, _≤_, _<_}
+use Prim.Native.Nat.{ℕ, _+_, _-_, _*_, _≤_, _<_}
 use native.Mathlib.Nat.{add-zero, zero-mul}
 use native.Mathlib.Omega.{arith}
-use lib.ListN.{length, getD}
 use Rattle.values.specs.Room.{wordBound}
-use Rattle.design.specs.declared.Design.{Design}
 use Rattle.design.proofs.LegalLaws.{limits}
-use Rattle.tables.specs.declared.runs.Run.{Run}
-use Rattle.tables.specs.Inputs.{RunOf}
 use Rattle.counting.specs.declared.Class.{Class}
-use Rattle.counting.specs.declared.Counts.{Counts}
 use Rattle.counting.specs.Count.{classAt, countsBelow}
 use Rattle.counting.proofs.IntervalRuns.{
   first-bits,
@@ -72,7 +66,8 @@ pow2-requires-2 c κs =
     omega (arith, first-bits _ (p .1 .0 .0), bits-small l, l .widths .room .w-small)
 
 -- the interval's runs
-counted : (c : tie.After-pow22 Inv-loop μ-loop) → Runs (c .before .before .before .before .args .d) (c .before .pow2 .result) (c .pow22 .result)
+counted : (c : tie.After-pow22 Inv-loop μ-loop)
+    → Runs (c .before .before .before .before .args .d) (c .before .pow2 .result) (c .pow22 .result)
 counted c =
     let p = c .before .before .before .before .pre in
     runs-of (limits _ (p .0 .legal)) (first-bits _ (p .1 .0 .0)) (c .before .pow2 .ensures) (c .pow22 .ensures)

@@ -1,5 +1,5 @@
 -- `counting::count_run` meets its contract: before word b of the run, the words below it are counted.
-use mathlib.Core.Path.{_≡_, _∙_, ap, sym}
+use mathlib.Core.Path.{_≡_, _∙_}
 use mathlib.Core.List.{List}
 use Prim.Native.Nat.{ℕ, _+_, _-_, _^_, _≤_, _<_}
 use native.Mathlib.Nat.{add-zero, add-assoc}
@@ -20,7 +20,7 @@ use Rattle.tables.proofs.RunLaws.{run-initial, run-word}
 use Rattle.counting.specs.declared.Class.{Class}
 use Rattle.counting.specs.declared.Counts.{Counts}
 use Rattle.counting.specs.Count.{classOf, classAt, countsBelow}
-use Rattle.counting.specs.Inputs.{Few, withClass}
+use Rattle.counting.specs.Inputs.{withClass}
 use Rattle.counting.proofs.CountLaws.{counts-next, counts-few}
 use Rattle.counting.proofs.count_run.Statement.{statement}
 use Rattle.counting.proofs.count_run.Tie as tie
@@ -41,8 +41,8 @@ module _ {d : Design} (l : Limits d) {offsets : List ℤ} {run : Run} (r : RunOf
     classed class-is = class-is ∙ rw summed
 
 -- One word more
-more : (classes : ℕ → Class) (n b : ℕ) {counts next : Counts} {class : Class} → counts ≡ countsBelow (n + b) classes → class ≡ classes (n + b)
-    → next ≡ withClass counts class → next ≡ countsBelow (n + (b + 1)) classes
+more : (classes : ℕ → Class) (n b : ℕ) {counts next : Counts} {class : Class} → counts ≡ countsBelow (n + b) classes
+    → class ≡ classes (n + b) → next ≡ withClass counts class → next ≡ countsBelow (n + (b + 1)) classes
 more classes n b counts-are class-is next-is = next-is ∙ rw (counts-are, class-is, counts-next classes (n + b), add-assoc n b 1)
 
 abbrev Inv-loop : tie.InvT-loop

@@ -1,5 +1,4 @@
 -- `counting::Counts::with` meets its contract: of the five counts the one of the class grows by one.
-use mathlib.Core.Path.{_≡_}
 use native.Mathlib.Nat.{add-zero}
 use borrow.Author.Needs.{needs}
 use Rattle.counting.specs.Inputs.{withClass}

@@ -28,24 +28,21 @@ module _ (d : Design) (offsets : List ℤ) (run : Run) (b : ℕ) (usable : Legal
   inside : run .place + b < offsetTotal d
   inside = rw (r .place-is) (run-inside d (limits d (usable .0)) (run .start) b (r .starts) (rw (r .size-is) at b-lt) (r .word))
 
-  summed : run .above .0 +ℤ getD offsets (run .place + b) (pos 0) ≡ pos (run .entry) +ℤ signedSum (d .m) (offsetFor d offsets (run .start + b))
+  summed : run .above .0 +ℤ getD offsets (run .place + b) (pos 0)
+      ≡ pos (run .entry) +ℤ signedSum (d .m) (offsetFor d offsets (run .start + b))
   summed =
       rw (r .above-is, r .place-is)
       (run-sum d (limits d (usable .0)) (run .start) b (r .starts) (rw (r .size-is) at b-lt) (run .entry) offsets)
 
+-- where this call reads
+read : (c : tie.Start) → let a = c .args in a .run .place + a .b < offsetTotal (a .d)
+read c = let p = c .pre in inside _ (c .args .offsets .now) _ _ (p .0) (p .1 .0) (p .1 .1)
+
 add-add-offset : tie.Need-add-add-offset
-add-add-offset c =
-    let s = c .before in
-    let p = s .pre in
-    omega (arith, inside (s .args .d) (s .args .offsets .now) (s .args .run) (s .args .b) (p .0) (p .1 .0) (p .1 .1), offset-total-small _ (limits _ (p .0 .0)))
+add-add-offset c = omega (arith, read (c .before), offset-total-small _ (limits _ (c .before .pre .0 .0)))
 
 add-offset-requires : tie.Need-add-offset-requires
-add-offset-requires c κs =
-    let s = c .before in
-    let p = s .pre in (
-      lt-of-lt-of-le (inside (s .args .d) (s .args .offsets .now) (s .args .run) (s .args .b) (p .0) (p .1 .0) (p .1 .1)) (p .0 .1),
-      p .1 .0 .above-small,
-    )
+add-offset-requires c κs = let p = c .before .pre in (lt-of-lt-of-le (read (c .before)) (p .0 .1), p .1 .0 .above-small)
 
 returns : tie.Need-returns
 returns c =

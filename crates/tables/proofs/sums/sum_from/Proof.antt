@@ -1,5 +1,5 @@
 -- `tables::sums::sum_from` meets its contract: table 0 and those from 1 on make Y.
-use mathlib.Core.Path.{_≡_, refl, ap, _∙_}
+use mathlib.Core.Path.{_≡_, ap, _∙_}
 use mathlib.Core.List.{List}
 use Prim.Native.Nat.{ℕ, _≤_}
 use native.Mathlib.Omega.{arith}
