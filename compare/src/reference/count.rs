@@ -47,8 +47,8 @@ pub fn count(d: &Design, initial: &[u32], offsets: &[i32]) -> Result<Counts, u8>
 }
 
 /// In half output units a word y is 2y, and the exact value is the one with q+1 fraction bits.
-/// "Within half an output unit of the exact value, the half included" is then, for every kind,
-/// f(2y-1) ≤ exact ≤ f(2y+1), and faithful is f(2y-2) < exact < f(2y+2).
+/// "nearest (within half an output unit of the exact value, the half included)" is then, for every
+/// kind, f(2y-1) ≤ exact ≤ f(2y+1), and faithful is f(2y-2) < exact < f(2y+2).
 fn count_set<const M: usize>(legal: &Legal, initial: &[u32], offsets: &[i32]) -> Counts {
     let set = Set::<M>::new(legal, initial, offsets);
     let Function { row, w, q, .. } = legal.function;
@@ -72,7 +72,7 @@ fn count_set<const M: usize>(legal: &Legal, initial: &[u32], offsets: &[i32]) ->
     }
 }
 
-/// "Each input lands in the first that fits, in that order." The words of one initial entry lie
+/// "Each input lands in the first that fits, in that order". The words of one initial entry lie
 /// together.
 fn count_words<const M: usize>(
     set: &Set<M>,

@@ -5,7 +5,6 @@ use mathlib.Core.Logic.{_↔_}
 use Prim.Native.Nat.{ℕ, _+_, _^_, _<_}
 use native.Mathlib.Omega.{arith}
 use borrow.Author.Tests.{eqb-false, ne-eqb}
-use lib.Dec.{eqb}
 use lib.IntN.{ℤ}
 use Rattle.general.proofs.Sums.{none-counted, count-none}
 use Rattle.refusal.specs.declared.Verdict.{Verdict}
@@ -20,7 +19,7 @@ use Rattle.checking.proofs.CheckLaws.{check-means}
 use Rattle.counting.specs.declared.Class.{Class}
 use Rattle.counting.specs.declared.Counts.{Counts}
 use Rattle.counting.specs.declared.Counted.{Counted}
-use Rattle.counting.specs.Count.{placeOf, classAt, countOf, countsBelow, countVerdict, countAnswer, countTold}
+use Rattle.counting.specs.Count.{rankOf, isClass, classAt, countOf, countsBelow, countVerdict, countAnswer, countTold}
 use Rattle.counting.proofs.CountLaws as CountLaws
 use Rattle.agreement.specs.Agreement.{Agreement}
 use Rattle.agreement.proofs.Landing.{up-to-high, lands, zero-low, faithful-class, class-faithful}
@@ -38,13 +37,13 @@ given (Verdict.Refused cause) e = let z : _≡_ {A = ℕ} 0 1 = cc in absurd (om
 
 -- No input is in a class exactly where its count is 0.
 module _ (class : Class) (n : ℕ) (classes : ℕ → Class) where
-  none-in : countOf class n classes ≡ 0 → (x : ℕ) → x < n → placeOf (classes x) ≡ placeOf class → ⊥
+  none-in : countOf class n classes ≡ 0 → (x : ℕ) → x < n → rankOf (classes x) ≡ rankOf class → ⊥
   unfolding countOf
-  none-in e x h = eqb-false _ _ (none-counted n (λ x. eqb (placeOf (classes x)) (placeOf class)) e x h)
+  none-in e x h = eqb-false _ _ (none-counted n (λ x. isClass (classes x) class) e x h)
 
-  in-none : ((x : ℕ) → x < n → placeOf (classes x) ≡ placeOf class → ⊥) → countOf class n classes ≡ 0
+  in-none : ((x : ℕ) → x < n → rankOf (classes x) ≡ rankOf class → ⊥) → countOf class n classes ≡ 0
   unfolding countOf
-  in-none other = count-none n (λ x. eqb (placeOf (classes x)) (placeOf class)) (λ x h. ne-eqb _ _ (other x h))
+  in-none other = count-none n (λ x. isClass (classes x) class) (λ x h. ne-eqb _ _ (other x h))
 
 module _ (d : Design) (initial : List ℕ) (offsets : List ℤ) where
   abbrev classes : ℕ → Class

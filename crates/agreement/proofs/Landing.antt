@@ -24,20 +24,20 @@ use Rattle.design.specs.Cut.{row}
 use Rattle.tables.specs.Sum.{sumAt, sumOutside, wordAt}
 use Rattle.checking.specs.Check.{FaithfulWord}
 use Rattle.counting.specs.declared.Class.{Class}
-use Rattle.counting.specs.Count.{placeOf, classOf, classAt}
+use Rattle.counting.specs.Count.{rankOf, classOf, classAt}
 use Rattle.agreement.specs.Agreement.{HasWord, Fits, Lands}
 
 -- How late a class can come that is not one of the first, or any
-up-to-faithful : (n : Bool) → placeOf (cond n Class.Nearest Class.Faithful) ≤ 2
+up-to-faithful : (n : Bool) → rankOf (cond n Class.Nearest Class.Faithful) ≤ 2
 up-to-faithful true = omega arith
 up-to-faithful false = omega arith
 
-up-to-low : (n f : Bool) → placeOf (cond n Class.Nearest (cond f Class.Faithful Class.Low)) ≤ 3
+up-to-low : (n f : Bool) → rankOf (cond n Class.Nearest (cond f Class.Faithful Class.Low)) ≤ 3
 up-to-low true f = omega arith
 up-to-low false true = omega arith
 up-to-low false false = omega arith
 
-pub up-to-high : (class : Class) → placeOf class ≤ 4
+pub up-to-high : (class : Class) → rankOf class ≤ 4
 up-to-high Class.Outside = omega arith
 up-to-high Class.Nearest = omega arith
 up-to-high Class.Faithful = omega arith
@@ -64,7 +64,7 @@ module _ (d : Design) (initial : List ℕ) (offsets : List ℤ) (x : ℕ) where
       go false eo false en false ef true el = (eo, low-test _ _ _ _ _ el)
       go false eo false en false ef false el = (eo, high-test _ _ _ _ _ ef el)
 
-  first : (class : Class) → Fits d initial offsets x class → placeOf (classAt d initial offsets x) ≤ placeOf class
+  first : (class : Class) → Fits d initial offsets x class → rankOf (classAt d initial offsets x) ≤ rankOf class
   unfolding classAt classOf wordAt
   first Class.Outside h = rw h (omega arith)
   first Class.Nearest h = rw (h .0, nearest-tested _ _ _ _ _ (h .1)) (omega arith)
@@ -76,29 +76,29 @@ module _ (d : Design) (initial : List ℕ) (offsets : List ℤ) (x : ℕ) where
   lands = record { fits = fits; first = first }
 
   -- A word 0 is neither nearest nor faithful.
-  pub zero-low : HasWord d initial offsets x → wordAt d initial offsets x ≡ 0 → classAt d initial offsets x ≡ Class.Low
+  pub zero-low : HasWord d initial offsets x (λ row w q X y. y ≡ 0) → classAt d initial offsets x ≡ Class.Low
   unfolding classAt classOf wordAt isNearest isFaithful isTooLow
-  zero-low has-word zero = rw (has-word, zero) refl
+  zero-low h = rw (h .0, h .1) refl
 
   -- A faithful word's class is one of the two,
-  good-class : (n : Bool) → (1 ≤ placeOf (cond n Class.Nearest Class.Faithful)) × (placeOf (cond n Class.Nearest Class.Faithful) ≤ 2)
+  good-class : (n : Bool) → (1 ≤ rankOf (cond n Class.Nearest Class.Faithful)) × (rankOf (cond n Class.Nearest Class.Faithful) ≤ 2)
   good-class true = (omega arith, omega arith)
   good-class false = (omega arith, omega arith)
 
   pub faithful-class : FaithfulWord d initial offsets x
-      → (1 ≤ placeOf (classAt d initial offsets x)) × (placeOf (classAt d initial offsets x) ≤ 2)
+      → (1 ≤ rankOf (classAt d initial offsets x)) × (rankOf (classAt d initial offsets x) ≤ 2)
   unfolding classAt classOf wordAt
   faithful-class f = rw (f .has-word, faithful-tested _ _ _ _ _ (f .faithful)) (good-class (at isNearest))
 
   -- and the other way round.
-  pub class-faithful : Lawful (row d) → x < 2 ^ d .w → 1 ≤ placeOf (classAt d initial offsets x)
-      → placeOf (classAt d initial offsets x) ≤ 2 → FaithfulWord d initial offsets x
+  pub class-faithful : Lawful (row d) → x < 2 ^ d .w → 1 ≤ rankOf (classAt d initial offsets x)
+      → rankOf (classAt d initial offsets x) ≤ 2 → FaithfulWord d initial offsets x
   class-faithful lawful h = by-class (classAt d initial offsets x) fits
     where
       range : InRange (d .w) (2 ^ d .w + x)
       range = record { low = omega arith; high = omega arith }
 
-      by-class : (class : Class) → Fits d initial offsets x class → 1 ≤ placeOf class → placeOf class ≤ 2 → FaithfulWord d initial offsets x
+      by-class : (class : Class) → Fits d initial offsets x class → 1 ≤ rankOf class → rankOf class ≤ 2 → FaithfulWord d initial offsets x
       by-class Class.Outside f low high = absurd (omega arith)
       by-class Class.Nearest f low high = record { has-word = f .0; faithful = nearest-faithful _ _ _ _ _ lawful range (f .1) }
       by-class Class.Faithful f low high = record { has-word = f .0; faithful = f .1 }

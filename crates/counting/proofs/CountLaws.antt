@@ -3,13 +3,12 @@ use mathlib.Core.Path.{_≡_, refl}
 use mathlib.Core.Bool.{cond}
 use Prim.Native.Nat.{ℕ, zero, suc, _+_, _≤_}
 use native.Mathlib.Nat.{le-trans}
-use lib.Dec.{eqb}
 use native.Mathlib.Omega.{arith}
 use Rattle.general.specs.Below.{countBelow}
 use Rattle.general.proofs.Sums.{count-next, count-bounded}
 use Rattle.values.specs.Room.{wordBound}
 use Rattle.counting.specs.declared.Class.{Class}
-use Rattle.counting.specs.Count.{placeOf, countOf, countsBelow}
+use Rattle.counting.specs.Count.{isClass, countOf, countsBelow}
 use Rattle.counting.specs.Inputs.{Few, withClass}
 
 module _ (classes : ℕ → Class) where
@@ -23,7 +22,7 @@ module _ (classes : ℕ → Class) where
 
   count-few : (class : Class) (n : ℕ) → n ≤ wordBound → countOf class n classes ≤ wordBound
   unfolding countOf
-  count-few class n h = le-trans (count-bounded n (λ x. eqb (placeOf (classes x)) (placeOf class))) h
+  count-few class n h = le-trans (count-bounded n (λ x. isClass (classes x) class)) h
 
   pub counts-few : (n : ℕ) → n ≤ wordBound → Few (countsBelow n classes)
   unfolding countsBelow
@@ -38,7 +37,7 @@ module _ (classes : ℕ → Class) where
 
   -- Each word is in one class,
   once : (class : Class) →
-      let counted : Class → ℕ = λ other. cond (eqb (placeOf class) (placeOf other)) 1 0 in
+      let counted : Class → ℕ = λ other. cond (isClass class other) 1 0 in
       counted Class.Outside + counted Class.Nearest + counted Class.Faithful + counted Class.Low + counted Class.High ≡ 1
   once Class.Outside = refl
   once Class.Nearest = refl

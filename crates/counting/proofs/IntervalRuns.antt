@@ -1,20 +1,20 @@
 -- The runs of an interval, one after another: where each begins, and what its words have in common with those of the interval.
 use mathlib.Core.Path.{_≡_, refl}
 use Prim.Native.Nat.{ℕ, _+_, _-_, _*_, _^_, _≤_, _<_}
-use native.Mathlib.Nat.{le-trans, mul-le-mul-right}
+use native.Mathlib.Nat.{mul-le-mul-right}
 use native.Mathlib.Omega.{arith}
-use lib.Pow.{pow-mono, pow-pos}
-use Rattle.values.specs.Room.{widestWord, wordBound}
+use lib.Pow.{pow-pos}
+use Rattle.values.specs.Room.{wordBound}
 use Rattle.design.specs.declared.Design.{Design}
 use Rattle.design.specs.Cut.{bOf, initialWord, offsetWord}
 use Rattle.design.specs.Stored.{initialCount}
-use Rattle.design.proofs.LegalLaws.{Limits, bits-end}
+use Rattle.design.proofs.LegalLaws.{Limits}
 use Rattle.tables.specs.declared.lookups.Lookups.{Lookups}
 use Rattle.tables.specs.Inputs.{SameInterval}
 use Rattle.tables.specs.Lookup.{lookupOf, lookupsOf}
 use Rattle.tables.proofs.LookupLaws.{looked}
-use Rattle.tables.proofs.IntervalLaws.{Intervals, intervals-of, interval-word, one-interval, start-inside}
-use Rattle.tables.proofs.RunLaws.{run-begins, interval-runs}
+use Rattle.tables.proofs.IntervalLaws.{Intervals, power-small, intervals-of, interval-word, one-interval, start-inside}
+use Rattle.tables.proofs.RunLaws.{run-begins, first-within, interval-runs}
 
 -- The bits of B_0, as the lookup of table 0 has them
 pub first-bits : (d : Design) {lookups : Lookups} → lookups ≡ lookupsOf d → lookups .first .b ≡ bOf d 0
@@ -31,12 +31,6 @@ pub record Runs (d : Design) (runs size : ℕ) : Type 0 where
   pub size-small : size ≤ wordBound
 
 module _ {d : Design} (l : Limits d) where
-  pub bits-small : bOf d 0 ≤ d .w - d .alpha
-  bits-small = omega (arith, bits-end d l 0 (l .m-low))
-
-  pub power-small : (n : ℕ) → n ≤ d .w → 2 ^ n ≤ wordBound
-  power-small n h = pow-mono {j = widestWord} (le-trans h (l .widths .room .w-small))
-
   pub runs-of : {b runs size : ℕ} → b ≡ bOf d 0 → runs ≡ 2 ^ (d .w - d .alpha - b) → size ≡ 2 ^ b → Runs d runs size
   unfolding initialCount
   runs-of {b} {runs} {size} bits runs-told size-told =
@@ -48,8 +42,8 @@ module _ {d : Design} (l : Limits d) where
         size-pos = rw size-is (pow-pos (bOf d 0));
         rests-is = rests-is;
         intervals = intervals-of d l refl rests-is;
-        runs-small = rw runs-is (power-small _ (omega arith));
-        size-small = rw size-is (power-small _ (omega (arith, bits-small)));
+        runs-small = rw runs-is (power-small d l _ (omega arith));
+        size-small = rw size-is (power-small d l _ (omega (arith, first-within d l)));
       }
 
 -- Run `number` of an interval

@@ -1,6 +1,6 @@
 -- Document 02, A1: what the call `count` answers. "The call refuses as the check does", 1 to 10, and else gives "five counts over all 2^w
 -- inputs".
-use mathlib.Core.Bool.{cond}
+use mathlib.Core.Bool.{Bool, cond}
 use mathlib.Core.List.{List}
 use Prim.Native.Nat.{ℕ, _+_, _^_}
 use lib.Dec.{eqb}
@@ -20,13 +20,13 @@ use Rattle.counting.specs.declared.Class.{Class}
 use Rattle.counting.specs.declared.Counts.{Counts}
 use Rattle.counting.specs.declared.Counted.{Counted}
 
--- "sum out of range; nearest ..; faithful but not nearest; too low; too high", "in that order": the place of each
-abbrev pub placeOf : Class → ℕ
-placeOf Class.Outside = 0
-placeOf Class.Nearest = 1
-placeOf Class.Faithful = 2
-placeOf Class.Low = 3
-placeOf Class.High = 4
+-- "sum out of range; nearest ..; faithful but not nearest; too low; too high", "in that order": the rank of each
+abbrev pub rankOf : Class → ℕ
+rankOf Class.Outside = 0
+rankOf Class.Nearest = 1
+rankOf Class.Faithful = 2
+rankOf Class.Low = 3
+rankOf Class.High = 4
 
 -- The class of an input x whose sum is Y: "Each input lands in the first that fits". What is neither faithful nor too low is too high.
 unfoldable pub classOf : Design → ℕ → ℤ → Class
@@ -40,9 +40,13 @@ classOf d x Y =
 unfoldable pub classAt : Design → List ℕ → List ℤ → ℕ → Class
 classAt d initial offsets x = classOf d x (sumAt d initial offsets x)
 
+-- Whether two classes are the same
+abbrev pub isClass : Class → Class → Bool
+isClass class other = eqb (rankOf class) (rankOf other)
+
 -- How many of the inputs below n are in the class
 unfoldable pub countOf : Class → ℕ → (ℕ → Class) → ℕ
-countOf class n classes = countBelow n (λ x. eqb (placeOf (classes x)) (placeOf class))
+countOf class n classes = countBelow n (λ x. isClass (classes x) class)
 
 -- The five counts of the inputs below n
 unfoldable pub countsBelow : ℕ → (ℕ → Class) → Counts

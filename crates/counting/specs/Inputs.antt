@@ -1,13 +1,12 @@
 -- What inner calls may count on, and what they promise one another.
 use mathlib.Core.Bool.{cond}
 use Prim.Native.Nat.{ℕ, _+_, _≤_}
-use lib.Dec.{eqb}
 use Rattle.values.specs.Room.{wordBound}
 use Rattle.counting.specs.declared.Class.{Class}
 use Rattle.counting.specs.declared.Counts.{Counts}
-use Rattle.counting.specs.Count.{placeOf}
+use Rattle.counting.specs.Count.{isClass}
 
--- Counts of no more words than there are
+-- Counts of no more words than the widest inputs make
 pub record Few (counts : Counts) : Type 0 where
   pub outside-few : counts .outside ≤ wordBound
   pub nearest-few : counts .nearest ≤ wordBound
@@ -27,4 +26,4 @@ withClass counts class =
     }
   where
     oneIf : Class → ℕ
-    oneIf counted = cond (eqb (placeOf class) (placeOf counted)) 1 0
+    oneIf counted = cond (isClass class counted) 1 0

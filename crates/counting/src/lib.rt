@@ -53,7 +53,7 @@ pub enum Counted {
 }
 
 impl Counts {
-    // One word more, by its class.
+    // The counts with one word more, by its class.
     fn with(mut self, class: Class) -> Counts
         requires { ⌜ Few self ⌝ }
         ensures { λ r. ⌜ r ≡ withClass self class ⌝ }
@@ -92,7 +92,7 @@ fn class_of(d: Design, row: Row, sum: TableUnits, x: u32) -> Class
     Class::High
 }
 
-// The words of a run more. The initial entries are there for the promise alone.
+// The counts with the words of a run. The initial entries are there for the promise alone.
 fn count_run(
     d: Design,
     row: Row,
@@ -115,7 +115,7 @@ fn count_run(
     counts
 }
 
-// The words of an interval more, a run at a time. Its initial entry and its segments are found once.
+// The counts with the words of an interval, a run at a time. Its initial entry and its segments are found once.
 fn count_interval(
     d: Design,
     lookups: Lookups,
@@ -145,7 +145,7 @@ fn count_interval(
     counts
 }
 
-// All words, an interval at a time.
+// The counts of all words, an interval at a time.
 fn count_words(d: Design, lookups: Lookups, row: Row, initial: &[u32], offsets: &[i32]) -> Counts
     requires { ⌜ Usable d (length (now initial)) (length (now offsets)) ⌝ }
     requires { ⌜ (lookups ≡ lookupsOf d) × (row ≡ Cut.row d) ⌝ }

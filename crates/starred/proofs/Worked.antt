@@ -14,7 +14,7 @@ use Rattle.refusal.specs.declared.Verdict.{Verdict}
 use Rattle.refusal.specs.Numbers.{numberOf}
 use Rattle.values.specs.declared.Valued.{Valued}
 use Rattle.values.specs.Rows.{rowOf}
-use Rattle.values.specs.Faithful.{isFaithful, isNearest}
+use Rattle.values.specs.Faithful.{isFaithful, isNearest, isTooLow}
 use Rattle.values.specs.Value.{valueOf}
 use Rattle.design.specs.declared.Pair.{Pair}
 use Rattle.design.specs.declared.Design.{Design}
@@ -155,15 +155,20 @@ pub record Worked : Type 0 where
   -- Document 02, A1. The five counts of G's set as it is filled, and with initial entry 0 changed to 4045: word 0 is too low then.
   pub counts : counts-with 4050 ≡ five 0 239 17 0 0
   pub one-too-low : counts-with 4045 ≡ five 0 238 17 1 0
+  -- With initial entry 0 changed to 8 and offset 0 to 70 each class has some: inputs 5 to 7 are out of range, 0 to 4 too low (3 and 4 with
+  -- a word 0), 16 and 24 too high.
+  pub all-classes : countAnswer G (set (initialEntries G) 0 8) (set (offsetEntries G) 0 (pos 70)) ≡ five 3 228 18 5 2
   -- At x 0 of G the exact value is 256 output units: sums of -4100, whose size would give the word 256, and of 2^14 are out of range, the
   -- words 0 and 255 too low, 256 nearest and 257 too high.
   pub classes : map (classOf G 0) (negsuc 4099 ∷ pos 0 ∷ pos 4095 ∷ pos 4096 ∷ pos 4112 ∷ pos (2 ^ 14) ∷ [])
       ≡ Class.Outside ∷ Class.Low ∷ Class.Low ∷ Class.Nearest ∷ Class.High ∷ Class.Outside ∷ []
   -- At x 1 it is 65536 / 257, a little more than 255: 256 is faithful and not nearest.
   pub only-just : classOf G 1 (pos 4096) ≡ Class.Faithful
-  -- An exact half: kind 1, w 14, q 6, x 257 has 64.5, so that 64 and 65 are both nearest, and 63 and 66 are not even faithful.
+  -- An exact half: kind 1, w 14, q 6, x 257 has 64.5, so that 64 and 65 are both nearest, 63 is too low, and 66 is
+  -- none of these.
   pub half : (map (isNearest (rowOf 1) 14 6 (2 ^ 14 + 257)) (63 ∷ 64 ∷ 65 ∷ 66 ∷ []) ≡ false ∷ true ∷ true ∷ false ∷ [])
       × (map (isFaithful (rowOf 1) 14 6 (2 ^ 14 + 257)) (63 ∷ 64 ∷ 65 ∷ 66 ∷ []) ≡ false ∷ true ∷ true ∷ false ∷ [])
+      × (map (isTooLow (rowOf 1) 14 6 (2 ^ 14 + 257)) (63 ∷ 64 ∷ 65 ∷ 66 ∷ []) ≡ true ∷ false ∷ false ∷ false ∷ [])
   -- Input words in decimal: leading zeros, and the greatest
   pub decimal-words : map (λ line. wordIn (ascii line)) ("007" ∷ "4294967295" ∷ []) ≡ ReadWord.Word 7 ∷ ReadWord.Word 4294967295 ∷ []
   -- No input words: an empty line, the character before 0, the one after 9, 2^32
@@ -209,9 +214,10 @@ worked =
       one-unit-off = refl;
       counts = refl;
       one-too-low = refl;
+      all-classes = refl;
       classes = refl;
       only-just = refl;
-      half = (refl, refl);
+      half = (refl, refl, refl);
       decimal-words = refl;
       no-words = refl;
     }

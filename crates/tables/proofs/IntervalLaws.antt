@@ -1,7 +1,7 @@
 -- The intervals, each the words of one initial entry: how many there are, and what their words have in common.
 use mathlib.Core.Path.{_≡_, refl, sym, _∙_}
 use Prim.Native.Nat.{ℕ, _+_, _-_, _*_, _^_, _≤_, _<_}
-use native.Mathlib.Nat.{add-sub-of-le, add-zero, le-of-lt, mul-le-mul-right}
+use native.Mathlib.Nat.{add-sub-of-le, add-zero, le-of-lt, le-trans, mul-le-mul-right}
 use native.Mathlib.Omega.{arith}
 use lib.Pow.{high, pow-add, pow-mono}
 use Rattle.values.specs.Room.{widestWord, wordBound}
@@ -21,11 +21,14 @@ pub record Intervals (d : Design) (intervals rests : ℕ) : Type 0 where
   pub rests-small : rests ≤ wordBound
 
 module _ (d : Design) (l : Limits d) where
+  pub power-small : (n : ℕ) → n ≤ d .w → 2 ^ n ≤ wordBound
+  power-small n h = pow-mono {j = widestWord} (le-trans h (l .widths .room .w-small))
+
   pub intervals-fit : 2 ^ d .alpha ≤ wordBound
-  intervals-fit = pow-mono {j = widestWord} (omega (arith, l .alpha-below, l .widths .room .w-small))
+  intervals-fit = power-small (d .alpha) (le-of-lt (l .alpha-below))
 
   pub rests-fit : 2 ^ (d .w - d .alpha) ≤ wordBound
-  rests-fit = pow-mono {j = widestWord} (omega (arith, l .widths .room .w-small))
+  rests-fit = power-small (d .w - d .alpha) (omega arith)
 
   pub intervals-of : {intervals rests : ℕ} → intervals ≡ 2 ^ d .alpha → rests ≡ 2 ^ (d .w - d .alpha) → Intervals d intervals rests
   unfolding initialCount

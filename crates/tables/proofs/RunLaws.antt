@@ -7,7 +7,7 @@ use native.Mathlib.Omega.{arith}
 use lib.ListN.{getD}
 use lib.IntN.{ℤ, pos, _+ℤ_}
 use lib.Pow.{high, low, pow-add, pow-pos, shr-shr, split}
-use Rattle.general.specs.Below.{sumBelow, signedSum}
+use Rattle.general.specs.Below.{sumBelow}
 use Rattle.general.proofs.Sums.{sum-mono, signed-congruence}
 use Rattle.design.specs.declared.Design.{Design}
 use Rattle.design.specs.Cut.{bOf, position, initialWord, segmentWord, offsetWord}
@@ -15,7 +15,8 @@ use Rattle.design.specs.Stored.{offsetFrom, offsetPlace, storedPlace, storedInd
 use Rattle.design.proofs.LegalLaws.{Limits, bits-end}
 use Rattle.design.proofs.StoredLaws.{place-in-total}
 use Rattle.design.proofs.CutLaws.{segment-word-lt}
-use Rattle.tables.specs.Sum.{offsetFor, sumAbove}
+use Rattle.tables.specs.Inputs.{sumAbove}
+use Rattle.tables.specs.Sum.{offsetFor, sumFrom}
 use Rattle.tables.proofs.SumLaws.{first-last}
 
 -- B_0 is the lowest bits.
@@ -27,10 +28,14 @@ lowest d x = rw (div-one x)
 pub run-begins : (d : Design) (n : ℕ) → offsetWord d 0 (n * 2 ^ bOf d 0) ≡ 0
 run-begins d n = lowest d (n * 2 ^ bOf d 0) ∙ rw add-zero at (low n (bOf d 0) {lo = 0} (pow-pos (bOf d 0)))
 
+-- B_0 lies below the cut of A.
+pub first-within : (d : Design) → Limits d → bOf d 0 ≤ d .w - d .alpha
+first-within d l = omega (arith, bits-end d l 0 (l .m-low))
+
 -- An interval is a whole number of runs.
 pub interval-runs : (d : Design) → Limits d → 2 ^ (d .w - d .alpha - bOf d 0) * 2 ^ bOf d 0 ≡ 2 ^ (d .w - d .alpha)
 interval-runs d l =
-    let bits : d .w - d .alpha - bOf d 0 + bOf d 0 ≡ d .w - d .alpha = omega (arith, bits-end d l 0 (l .m-low)) in
+    let bits : d .w - d .alpha - bOf d 0 + bOf d 0 ≡ d .w - d .alpha = omega (arith, first-within d l) in
     sym (pow-add 2 (d .w - d .alpha - bOf d 0) (bOf d 0)) ∙ rw bits refl
 
 -- What a segment stores lies together.
@@ -54,16 +59,13 @@ module _ (d : Design) (l : Limits d) (x B : ℕ) (starts : offsetWord d 0 x ≡ 
   run-first = lowest d (x + B) ∙ ap (λ (n : ℕ). (n + B) % 2 ^ bOf d 0) whole ∙ low (x / 2 ^ bOf d 0) (bOf d 0) B-lt
 
   -- The cut of A and of each A_i lies above B_0, and so does each further B_i.
-  above-first : bOf d 0 ≤ d .w - d .alpha
-  above-first = omega (arith, bits-end d l 0 (l .m-low))
-
   pub run-initial : initialWord d (x + B) ≡ initialWord d x
   unfolding initialWord
-  run-initial = same-high (d .w - d .alpha) above-first
+  run-initial = same-high (d .w - d .alpha) (first-within d l)
 
   run-segment : (i : ℕ) → i < d .m → segmentWord d i (x + B) ≡ segmentWord d i x
   unfolding segmentWord
-  run-segment i h = same-high _ (omega (arith, above-first, l .table i h .a-high))
+  run-segment i h = same-high _ (omega (arith, first-within d l, l .table i h .a-high))
 
   run-offset : (i : ℕ) → offsetWord d (i + 1) (x + B) ≡ offsetWord d (i + 1) x
   unfolding offsetWord position sumBelow
@@ -71,7 +73,7 @@ module _ (d : Design) (l : Limits d) (x B : ℕ) (starts : offsetWord d 0 x ≡ 
 
   pub run-word : x < 2 ^ d .w → x + B < 2 ^ d .w
   run-word h =
-      let none : (x + B) / 2 ^ d .w ≡ 0 = same-high (d .w) (omega (arith, above-first)) ∙ div-eq-of-lt h in
+      let none : (x + B) / 2 ^ d .w ≡ 0 = same-high (d .w) (omega (arith, first-within d l)) ∙ div-eq-of-lt h in
       omega (arith, rw none at (split (x + B) (d .w)), mod-lt (x + B) (pow-pos (d .w)))
 
   module _ (entry : ℕ) (offsets : List ℤ) where
@@ -91,7 +93,7 @@ module _ (d : Design) (l : Limits d) (x B : ℕ) (starts : offsetWord d 0 x ≡ 
     run-place = rw (run-segment 0 (l .m-low), run-first, in-a-row d 0 (segmentWord d 0 x) B)
 
     pub run-sum : sumAbove d (pos entry) offsets x +ℤ getD offsets (storedPlace d 0 (segmentWord d 0 x) 0 + B) (pos 0)
-        ≡ pos entry +ℤ signedSum (d .m) (offsetFor d offsets (x + B))
+        ≡ sumFrom d entry offsets (x + B)
     run-sum = rw (run-place, ← run-above) (first-last d entry offsets (x + B) (l .m-low))
 
   -- They lie within the offset tables.

@@ -3,7 +3,7 @@
 use mathlib.Core.Path.{_≡_, sym, ap, _∙_}
 use mathlib.Core.Bool.{false, true≢false}
 use mathlib.Core.List.{List}
-use Prim.Native.Nat.{ℕ, suc, _+_, _-_, _^_, _≤_, _<_}
+use Prim.Native.Nat.{ℕ, suc, _+_, _-_, _*_, _^_, _≤_, _<_}
 use native.Mathlib.Omega.{arith}
 use borrow.Author.Tests.{leb-false}
 use lib.Dec.{T, leb, ltb}
@@ -12,10 +12,20 @@ use lib.Signed.{mag, nonNeg}
 use Rattle.general.specs.Below.{signedSum}
 use Rattle.general.proofs.Tests.{neither}
 use Rattle.general.proofs.Sums.{signed-next, signed-first}
+use Rattle.values.specs.declared.TableUnits.{TableUnits}
 use Rattle.design.specs.declared.Design.{Design}
 use Rattle.design.specs.Cut.{fractionBits}
-use Rattle.tables.specs.Inputs.{Summed}
-use Rattle.tables.specs.Sum.{offsetFor, sumAbove, sumOutside}
+use Rattle.tables.specs.Inputs.{sumAbove}
+use Rattle.tables.specs.Sum.{offsetFor, sumFrom, sumOutside}
+
+-- A sum with the offsets of i tables from 1 on, each of 32 bits
+pub record Summed (d : Design) (before : ℤ) (offsets : List ℤ) (x i : ℕ) (sum : ℤ) : Type 0 where
+  pub sum-is : sum ≡ before +ℤ signedSum i (λ j. offsetFor d offsets x (j + 1))
+  pub small : mag sum ≤ mag before + i * 2 ^ 32
+
+-- A signed number as a count of table units
+abbrev pub units : ℤ → TableUnits
+units z = record { 0 = z }
 
 -- Before any table, with one more, and with all of them
 module _ (d : Design) (before : ℤ) (offsets : List ℤ) (x : ℕ) where
@@ -56,11 +66,11 @@ module _ (d : Design) (entry : ℕ) (offsets : List ℤ) (x : ℕ) (some : 1 ≤
       let e : d .m ≡ suc (d .m - 1) = omega arith in
       sym (signed-first (d .m - 1) (offsetFor d offsets x)) ∙ ap (λ (n : ℕ). signedSum n (offsetFor d offsets x)) (sym e)
 
-  pub first-first : sumAbove d (pos entry +ℤ first) offsets x ≡ pos entry +ℤ signedSum (d .m) (offsetFor d offsets x)
+  pub first-first : sumAbove d (pos entry +ℤ first) offsets x ≡ sumFrom d entry offsets x
   unfolding sumAbove
   first-first = +ℤ-assoc (pos entry) first above ∙ ap (λ (z : ℤ). pos entry +ℤ z) all-tables
 
-  pub first-last : sumAbove d (pos entry) offsets x +ℤ first ≡ pos entry +ℤ signedSum (d .m) (offsetFor d offsets x)
+  pub first-last : sumAbove d (pos entry) offsets x +ℤ first ≡ sumFrom d entry offsets x
   unfolding sumAbove
   first-last = +ℤ-assoc (pos entry) above first ∙ ap (λ (z : ℤ). pos entry +ℤ z) (+ℤ-comm above first ∙ all-tables)
 

@@ -1,7 +1,7 @@
--- What inner calls may count on. Their callers are proved to see to it.
+-- What inner calls may count on, which their callers are proved to see to, and what they promise one another.
 use mathlib.Core.Path.{_≡_}
 use mathlib.Core.List.{List}
-use Prim.Native.Nat.{ℕ, _+_, _*_, _^_, _≤_, _<_}
+use Prim.Native.Nat.{ℕ, _+_, _-_, _^_, _≤_, _<_}
 use lib.IntN.{ℤ, pos, _+ℤ_}
 use lib.Signed.{mag}
 use Rattle.general.specs.Below.{signedSum}
@@ -12,7 +12,7 @@ use Rattle.design.specs.Stored.{initialCount, offsetTotal, storedPlace}
 use Rattle.design.specs.Legal.{Legal}
 use Rattle.tables.specs.declared.lookups.Lookup.{Lookup}
 use Rattle.tables.specs.declared.runs.Run.{Run}
-use Rattle.tables.specs.Sum.{offsetFor, sumAbove}
+use Rattle.tables.specs.Sum.{offsetFor}
 
 -- A legal design with tables, here their lengths, that are long enough for it
 pub record Usable (d : Design) (initial offsets : ℕ) : Type 0 where
@@ -33,10 +33,9 @@ pub record Small (lookup : Lookup) : Type 0 where
   pub position-small : lookup .position < 32
   pub start-small : lookup .start ≤ mostOffsets
 
--- A sum with the offsets of i tables from 1 on, each of 32 bits
-pub record Summed (d : Design) (before : ℤ) (offsets : List ℤ) (x i : ℕ) (sum : ℤ) : Type 0 where
-  pub sum-is : sum ≡ before +ℤ signedSum i (λ j. offsetFor d offsets x (j + 1))
-  pub small : mag sum ≤ mag before + i * 2 ^ 32
+-- A sum with the offsets of the tables from 1 on, which words that differ in B_0 alone have in common
+unfoldable pub sumAbove : Design → ℤ → List ℤ → ℕ → ℤ
+sumAbove d sum offsets x = sum +ℤ signedSum (d .m - 1) (λ i. offsetFor d offsets x (i + 1))
 
 -- A run: 2^(b_0) words that differ in B_0 alone, the first with B_0 = 0. `above` is their Y without table 0, and their offsets of table 0
 -- lie from `place` on.

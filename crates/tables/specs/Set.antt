@@ -1,4 +1,4 @@
--- Refusals 1 to 10: what fill, evaluation, check and writer try first of a design and the tables that are lent for it.
+-- Refusals 1 to 10: what fill, evaluation, check, counts and writer try first of a design and the tables that are lent for it.
 use mathlib.Core.Bool.{_||_}
 use mathlib.Core.List.{List, [], _∷_, _++_}
 use Prim.Native.Nat.{ℕ}

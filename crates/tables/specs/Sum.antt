@@ -1,7 +1,7 @@
 -- Document 01, "Evaluating and checking": the sum Y over any tables, whoever filled them, and the word.
 use mathlib.Core.Bool.{Bool, _||_}
 use mathlib.Core.List.{List}
-use Prim.Native.Nat.{ℕ, _+_, _-_, _/_, _^_}
+use Prim.Native.Nat.{ℕ, _+_, _/_, _^_}
 use lib.ListN.{getD}
 use lib.IntN.{ℤ, pos, _+ℤ_, natAbs}
 use lib.Signed.{ltZ, leZ}
@@ -15,13 +15,12 @@ unfoldable pub offsetFor : Design → List ℤ → ℕ → ℕ → ℤ
 offsetFor d offsets x i =
     offsetFrom d i (offsetWord d i x) (getD offsets (offsetPlace d i (segmentWord d i x) (offsetWord d i x)) (pos 0))
 
--- A sum with the offsets of the tables from 1 on, which words that differ in B_0 alone have in common
-unfoldable pub sumAbove : Design → ℤ → List ℤ → ℕ → ℤ
-sumAbove d sum offsets x = sum +ℤ signedSum (d .m - 1) (λ i. offsetFor d offsets x (i + 1))
+-- "Y is the initial entry plus the m offsets, each offset signed": from an initial entry, and from that which x looks up
+abbrev pub sumFrom : Design → ℕ → List ℤ → ℕ → ℤ
+sumFrom d entry offsets x = pos entry +ℤ signedSum (d .m) (offsetFor d offsets x)
 
--- "Y is the initial entry plus the m offsets, each offset signed."
 unfoldable pub sumAt : Design → List ℕ → List ℤ → ℕ → ℤ
-sumAt d initial offsets x = pos (getD initial (initialWord d x) 0) +ℤ signedSum (d .m) (offsetFor d offsets x)
+sumAt d initial offsets x = sumFrom d (getD initial (initialWord d x) 0) offsets x
 
 -- not "0 ≤ Y < 2^(P+2)"
 unfoldable pub sumOutside : Design → ℤ → Bool

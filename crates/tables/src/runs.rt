@@ -3,14 +3,12 @@
 ghost use mathlib.Core.Path.{_≡_};
 ghost use Prim.Native.Nat.{_+_, _<_, _≤_};
 ghost use lib.ListN.{length};
-ghost use lib.IntN.{pos, _+ℤ_};
-ghost use Rattle.general.specs.Below.{signedSum};
 ghost use Rattle.design.specs.Cut.{offsetWord};
 ghost use Rattle.design.specs.Stored.{offsetTotal};
 ghost use Rattle.design.specs.Legal.{Legal};
 ghost use Rattle.tables.specs.Inputs.{SameInterval, RunOf};
 ghost use Rattle.tables.specs.Lookup.{lookupsOf};
-ghost use Rattle.tables.specs.Sum.{offsetFor};
+ghost use Rattle.tables.specs.Sum.{sumFrom};
 use crate::lookups::Lookups;
 use crate::lookups::place_of;
 use crate::sums::add_above;
@@ -49,7 +47,7 @@ pub fn run_of(d: Design, lookups: Lookups, entry: u32, offsets: &[i32], near: u3
 pub fn sum_in(d: Design, run: Run, offsets: &[i32], b: u32) -> TableUnits
     requires { ⌜ Legal d × (offsetTotal d ≤ length (now offsets)) ⌝ }
     requires { ⌜ RunOf d (now offsets) run × (b < run .size) ⌝ }
-    ensures { λ r. ⌜ r ≡ record { 0 = pos (run .entry) +ℤ signedSum (d .m) (offsetFor d (now (offsets .entry)) (run .start + b)) } ⌝ }
+    ensures { λ r. ⌜ r ≡ record { 0 = sumFrom d (run .entry) (now (offsets .entry)) (run .start + b) } ⌝ }
 {
     add_offset(run.above, offsets, run.place + b)
 }

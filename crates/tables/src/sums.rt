@@ -5,12 +5,11 @@ ghost use Prim.Native.Nat.{_+_, _^_, _≤_, _<_};
 ghost use lib.ListN.{length, getD};
 ghost use lib.IntN.{pos, _+ℤ_};
 ghost use lib.Signed.{mag};
-ghost use Rattle.general.specs.Below.{signedSum};
 ghost use Rattle.design.specs.Stored.{offsetTotal};
 ghost use Rattle.design.specs.Legal.{Legal};
-ghost use Rattle.tables.specs.Inputs.{Usable, SameInterval};
+ghost use Rattle.tables.specs.Inputs.{Usable, SameInterval, sumAbove};
 ghost use Rattle.tables.specs.Lookup.{lookupsOf, lookupOf};
-ghost use Rattle.tables.specs.Sum.{offsetFor, sumAbove, sumAt, sumOutside, wordOf};
+ghost use Rattle.tables.specs.Sum.{offsetFor, sumFrom, sumAt, sumOutside, wordOf};
 use crate::lookups::Lookup;
 use crate::lookups::Lookups;
 use crate::lookups::place_of;
@@ -19,7 +18,7 @@ use general::pow2;
 use values::OutputUnits;
 use values::TableUnits;
 
-// One offset more, by its place among all offsets.
+// Adds an offset, by its place among all offsets.
 pub(crate) fn add_offset(sum: TableUnits, offsets: &[i32], place: u32) -> TableUnits
     requires { ⌜ (place < length (now offsets)) × (mag (sum .0) ≤ 2 ^ 40) ⌝ }
     ensures { λ r. ⌜ (r ≡ record { 0 = sum .0 +ℤ getD (now (offsets .entry)) place (pos 0) }) × (mag (r .0) ≤ mag (sum .0) + 2 ^ 32) ⌝ }
@@ -28,7 +27,7 @@ pub(crate) fn add_offset(sum: TableUnits, offsets: &[i32], place: u32) -> TableU
     TableUnits(sum.0 + offset as i64)
 }
 
-// The offset of table i more. Which table it is of which design is said for the promise alone.
+// Adds the offset of table i. Which table it is of which design is said for the promise alone.
 fn add_table(
     d: Design,
     i: u32,
@@ -46,7 +45,7 @@ fn add_table(
     add_offset(sum, offsets, place_of(lookup, near, x))
 }
 
-// The offsets of the tables from 1 on more. `near` is any word of x's interval.
+// Adds the offsets of the tables from 1 on. `near` is any word of x's interval.
 pub(crate) fn add_above(
     d: Design,
     lookups: Lookups,
@@ -87,7 +86,7 @@ pub fn sum_from(
     requires { ⌜ Legal d × (offsetTotal d ≤ length (now offsets)) ⌝ }
     requires { ⌜ lookups ≡ lookupsOf d ⌝ }
     requires { ⌜ SameInterval d near x ⌝ }
-    ensures { λ r. ⌜ r ≡ record { 0 = pos entry +ℤ signedSum (d .m) (offsetFor d (now (offsets .entry)) x) } ⌝ }
+    ensures { λ r. ⌜ r ≡ record { 0 = sumFrom d entry (now (offsets .entry)) x } ⌝ }
 {
     let none = TableUnits(entry as i64);
     let first = add_table(d, 0, lookups.first, none, offsets, near, x);

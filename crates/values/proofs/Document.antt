@@ -1,4 +1,4 @@
--- Both sides of the one inequality, L, faithful and nearest are for each kind what document 01 writes.
+-- Both sides of the one inequality, L and faithful are for each kind what document 01 writes, and nearest is the same with halves.
 use mathlib.Core.Path.{_≡_, refl, sym, ap₂, transport}
 use mathlib.Core.Logic.{_⊎_, inl, inr, ⊎-elim}
 use Prim.Native.Nat.{ℕ, zero, suc, _+_, _-_, _*_, _^_, _≤_, _<_}

@@ -1,4 +1,4 @@
--- Document 01, "Functions and their exact values", in its own words for each kind with its c.
+-- Document 01, "Functions and their exact values", in its own words for each kind with its c, and document 02's nearest in the same form.
 use mathlib.Core.Path.{_≡_}
 use mathlib.Core.Logic.{_⊎_, _↔_}
 use mathlib.Core.List.{[], _∷_, map}
@@ -31,7 +31,7 @@ pub record FloorSaid (kind w P X : ℕ) : Type 0 where
   pub reciprocal-root : (kind ≡ 3) ⊎ (kind ≡ 4)
       → Greatest (λ n. n ^ 2 * (rowOf kind .c * X) ≤ 4 ^ P * 2 ^ w) (floorValue (rowOf kind) w P X)
 
--- The exact value between two numbers, in the words of document 01 for each kind with its c: `_≺_` is < for faithful and ≤ for the second
+-- The exact value between two numbers, as document 01 writes it for each kind with its c: `_≺_` is < for faithful and ≤ for the second
 -- bound and for nearest, s is q, P + 18 or q + 1, and low and high are y-1 and y+1, Y'-R and Y'+R, or 2y-1 and 2y+1.
 module _ (_≺_ : ℕ → ℕ → Type 0) where
   infix 50 _≺_

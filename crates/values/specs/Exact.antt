@@ -1,7 +1,7 @@
 -- Document 01's inequalities between a whole number and the exact value, in one form for every kind and every unit.
 -- The argument is c·X / 2^w, and the exact value's k-th power is the argument (sign +) or its reciprocal (sign -): num / den.
 -- With s fraction bits, n is at most the exact value when n^k·den ≤ (2^k)^s·num. Table units have s = P, output units s = q,
--- and 2^-18 table units s = P + 18.
+-- halves of them s = q + 1, and 2^-18 table units s = P + 18.
 use mathlib.Core.Bool.{cond}
 use Prim.Native.Nat.{ℕ, _*_, _^_, _≤_, _<_}
 use Rattle.values.specs.declared.rows.Row.{Row}

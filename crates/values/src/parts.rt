@@ -44,8 +44,8 @@ pub(crate) struct Parts {
     pub high: u64,
 }
 
-// The parts of n - 1 and n + 1, n^k times the divisor, for numbers of s + 2 bits, from the same products: (n ∓ 1)·d is n·d ∓ d, and
-// (n ∓ 1)²·d is (n² + 1)·d ∓ 2·n·d.
+// The parts of n - 1 and n + 1, the k-th power of each times the divisor d, for numbers of s + 2 bits, from the same products: (n ∓ 1)·d is
+// n·d ∓ d, and (n ∓ 1)²·d is (n² + 1)·d ∓ 2·n·d.
 pub(crate) fn neighbour_parts(row: Row, w: u32, s: u32, x: u64, n: u64) -> Parts
     requires { ⌜ FloorInput row w (s + 2) x ⌝ }
     requires { ⌜ (1 ≤ n) × (n + 1 ≤ 2 ^ (s + 2)) ⌝ }

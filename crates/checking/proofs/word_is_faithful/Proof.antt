@@ -5,9 +5,8 @@ use mathlib.Core.List.{List}
 use Prim.Native.Nat.{ℕ, _+_, _^_}
 use native.Mathlib.Omega.{arith}
 use lib.ListN.{getD}
-use lib.IntN.{ℤ, pos, _+ℤ_}
+use lib.IntN.{ℤ}
 use borrow.Author.Needs.{needs}
-use Rattle.general.specs.Below.{signedSum}
 use Rattle.general.proofs.Tests.{tested}
 use Rattle.values.specs.declared.TableUnits.{TableUnits}
 use Rattle.values.specs.declared.OutputUnits.{OutputUnits}
@@ -17,7 +16,7 @@ use Rattle.values.proofs.Bounds.{coarser-input, words-few}
 use Rattle.design.specs.declared.Design.{Design}
 use Rattle.design.specs.Cut.{row, initialWord}
 use Rattle.design.proofs.LegalLaws.{limits, room}
-use Rattle.tables.specs.Sum.{offsetFor, sumAt, sumOutside, wordOf, wordAt}
+use Rattle.tables.specs.Sum.{sumFrom, sumAt, sumOutside, wordOf, wordAt}
 use Rattle.tables.proofs.WordLaws.{exact-at, word-small}
 use Rattle.checking.specs.Check.{faithfulAt}
 use Rattle.checking.proofs.word_is_faithful.Statement.{statement}
@@ -25,7 +24,7 @@ use Rattle.checking.proofs.word_is_faithful.Tie as tie
 
 -- The answer, by what the calls promise
 module _ (d : Design) (entry : ℕ) (offsets : List ℤ) (x : ℕ) (sum : TableUnits) (outside : Bool)
-    (from-entry : sum ≡ record { 0 = pos entry +ℤ signedSum (d .m) (offsetFor d offsets x) }) (outside-is : outside ≡ sumOutside d (sum .0))
+    (from-entry : sum ≡ record { 0 = sumFrom d entry offsets x }) (outside-is : outside ≡ sumOutside d (sum .0))
     (initial : List ℕ) (entry-is : getD initial (initialWord d x) 0 ≡ entry) where
   sum-is : sum ≡ record { 0 = sumAt d initial offsets x }
   unfolding sumAt

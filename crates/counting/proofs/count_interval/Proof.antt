@@ -5,12 +5,12 @@ use native.Mathlib.Nat.{add-zero, zero-mul}
 use native.Mathlib.Omega.{arith}
 use Rattle.values.specs.Room.{wordBound}
 use Rattle.design.proofs.LegalLaws.{limits}
+use Rattle.tables.proofs.IntervalLaws.{power-small}
+use Rattle.tables.proofs.RunLaws.{first-within}
 use Rattle.counting.specs.declared.Class.{Class}
 use Rattle.counting.specs.Count.{classAt, countsBelow}
 use Rattle.counting.proofs.IntervalRuns.{
   first-bits,
-  bits-small,
-  power-small,
   Runs,
   runs-of,
   start-small,
@@ -48,7 +48,7 @@ sub-pow2 : tie.Need-sub-pow2 Inv-loop μ-loop
 sub-pow2 c = omega (arith, limits _ (c .before .before .pre .0 .legal) .alpha-below)
 
 sub-pow2-2 : tie.Need-sub-pow2-2 Inv-loop μ-loop
-sub-pow2-2 c = let p = c .before .before .pre in rw (first-bits _ (p .1 .0 .0)) (bits-small (limits _ (p .0 .legal)))
+sub-pow2-2 c = let p = c .before .before .pre in rw (first-bits _ (p .1 .0 .0)) (first-within _ (limits _ (p .0 .legal)))
 
 pow2-requires : tie.Need-pow2-requires Inv-loop μ-loop
 pow2-requires c κs = omega (arith, limits _ (c .before .before .pre .0 .legal) .widths .room .w-small)
@@ -57,13 +57,13 @@ cast-runs : tie.Need-cast-runs Inv-loop μ-loop
 cast-runs c =
     let s = c .before .before .before in
     let bits = s .args .d .w - s .args .d .alpha - s .args .lookups .first .b in
-    omega (arith, c .pow2 .ensures, power-small (limits _ (s .pre .0 .legal)) bits (omega arith))
+    omega (arith, c .pow2 .ensures, power-small _ (limits _ (s .pre .0 .legal)) bits (omega arith))
 
 pow2-requires-2 : tie.Need-pow2-requires-2 Inv-loop μ-loop
 pow2-requires-2 c κs =
     let p = c .before .before .before .pre in
     let l = limits _ (p .0 .legal) in
-    omega (arith, first-bits _ (p .1 .0 .0), bits-small l, l .widths .room .w-small)
+    omega (arith, first-bits _ (p .1 .0 .0), first-within _ l, l .widths .room .w-small)
 
 -- the interval's runs
 counted : (c : tie.After-pow22 Inv-loop μ-loop)

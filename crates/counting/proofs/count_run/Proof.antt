@@ -5,8 +5,7 @@ use Prim.Native.Nat.{ℕ, _+_, _-_, _^_, _≤_, _<_}
 use native.Mathlib.Nat.{add-zero, add-assoc}
 use native.Mathlib.Omega.{arith}
 use lib.ListN.{getD}
-use lib.IntN.{ℤ, pos, _+ℤ_}
-use Rattle.general.specs.Below.{signedSum}
+use lib.IntN.{ℤ}
 use Rattle.values.specs.declared.TableUnits.{TableUnits}
 use Rattle.values.specs.Room.{wordBound}
 use Rattle.values.proofs.Bounds.{words-few}
@@ -15,7 +14,7 @@ use Rattle.design.specs.Cut.{initialWord}
 use Rattle.design.proofs.LegalLaws.{Limits, limits}
 use Rattle.tables.specs.declared.runs.Run.{Run}
 use Rattle.tables.specs.Inputs.{RunOf}
-use Rattle.tables.specs.Sum.{offsetFor, sumAt}
+use Rattle.tables.specs.Sum.{sumFrom, sumAt}
 use Rattle.tables.proofs.RunLaws.{run-initial, run-word}
 use Rattle.counting.specs.declared.Class.{Class}
 use Rattle.counting.specs.declared.Counts.{Counts}
@@ -31,7 +30,7 @@ module _ {d : Design} (l : Limits d) {offsets : List ℤ} {run : Run} (r : RunOf
   word-lt = run-word d l (run .start) b (r .starts) (rw (r .size-is) at b-lt) (r .word)
 
   module _ (initial : List ℕ) (entry-is : run .entry ≡ getD initial (initialWord d (run .start)) 0) {sum : TableUnits}
-      (sum-is : sum ≡ record { 0 = pos (run .entry) +ℤ signedSum (d .m) (offsetFor d offsets (run .start + b)) }) where
+      (sum-is : sum ≡ record { 0 = sumFrom d (run .entry) offsets (run .start + b) }) where
     summed : sum ≡ record { 0 = sumAt d initial offsets (run .start + b) }
     unfolding sumAt
     summed = rw (run-initial d l (run .start) b (r .starts) (rw (r .size-is) at b-lt), ← entry-is) sum-is

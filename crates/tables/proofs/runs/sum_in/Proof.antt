@@ -6,8 +6,6 @@ use native.Mathlib.Omega.{arith}
 use native.Mathlib.Nat.{lt-of-lt-of-le}
 use lib.ListN.{length, getD}
 use lib.IntN.{ℤ, pos, _+ℤ_}
-use Rattle.general.specs.Below.{signedSum}
-use Rattle.values.specs.declared.TableUnits.{TableUnits}
 use Rattle.design.specs.declared.Design.{Design}
 use Rattle.design.specs.Stored.{offsetTotal}
 use Rattle.design.specs.Legal.{Legal}
@@ -15,21 +13,18 @@ use Rattle.design.proofs.LegalLaws.{limits}
 use Rattle.design.proofs.StoredLaws.{offset-total-small}
 use Rattle.tables.specs.declared.runs.Run.{Run}
 use Rattle.tables.specs.Inputs.{RunOf}
-use Rattle.tables.specs.Sum.{offsetFor}
+use Rattle.tables.specs.Sum.{sumFrom}
+use Rattle.tables.proofs.SumLaws.{units}
 use Rattle.tables.proofs.RunLaws.{run-sum, run-inside}
 use Rattle.tables.proofs.runs.sum_in.Statement.{statement}
 use Rattle.tables.proofs.runs.sum_in.Tie as tie
-
-abbrev units : ℤ → TableUnits
-units z = record { 0 = z }
 
 module _ (d : Design) (offsets : List ℤ) (run : Run) (b : ℕ) (usable : Legal d × (offsetTotal d ≤ length offsets)) (r : RunOf d offsets run)
     (b-lt : b < run .size) where
   inside : run .place + b < offsetTotal d
   inside = rw (r .place-is) (run-inside d (limits d (usable .0)) (run .start) b (r .starts) (rw (r .size-is) at b-lt) (r .word))
 
-  summed : run .above .0 +ℤ getD offsets (run .place + b) (pos 0)
-      ≡ pos (run .entry) +ℤ signedSum (d .m) (offsetFor d offsets (run .start + b))
+  summed : run .above .0 +ℤ getD offsets (run .place + b) (pos 0) ≡ sumFrom d (run .entry) offsets (run .start + b)
   summed =
       rw (r .above-is, r .place-is)
       (run-sum d (limits d (usable .0)) (run .start) b (r .starts) (rw (r .size-is) at b-lt) (run .entry) offsets)

@@ -8,15 +8,12 @@ use lib.Signed.{mag}
 use Rattle.values.specs.declared.TableUnits.{TableUnits}
 use Rattle.design.specs.declared.Design.{Design}
 use Rattle.design.proofs.LegalLaws.{limits}
-use Rattle.tables.specs.Inputs.{Summed}
-use Rattle.tables.specs.Sum.{offsetFor, sumAbove}
+use Rattle.tables.specs.Inputs.{sumAbove}
+use Rattle.tables.specs.Sum.{offsetFor}
 use Rattle.tables.proofs.LookupLaws.{looked}
-use Rattle.tables.proofs.SumLaws.{summed-none, summed-more, summed-all}
+use Rattle.tables.proofs.SumLaws.{Summed, units, summed-none, summed-more, summed-all}
 use Rattle.tables.proofs.sums.add_above.Statement.{statement}
 use Rattle.tables.proofs.sums.add_above.Tie as tie
-
-abbrev units : ℤ → TableUnits
-units z = record { 0 = z }
 
 module _ {d : Design} {before : ℤ} {offsets : List ℤ} {x i : ℕ} {sum : ℤ} (s : Summed d before offsets x i sum) where
   -- one table more,

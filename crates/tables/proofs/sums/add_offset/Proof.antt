@@ -10,12 +10,9 @@ use mir.Syntax.{w32, w64}
 use mir.Val.{SFits, ofZ, toZ}
 use mir.ValLaws.{toZ-ofZ}
 use Rattle.general.proofs.SignedLaws.{mag-add}
-use Rattle.values.specs.declared.TableUnits.{TableUnits}
+use Rattle.tables.proofs.SumLaws.{units}
 use Rattle.tables.proofs.sums.add_offset.Statement.{statement}
 use Rattle.tables.proofs.sums.add_offset.Tie as tie
-
-abbrev units : ℤ → TableUnits
-units z = record { 0 = z }
 
 wide : (z : ℤ) → mag z < 2 ^ 31 → toZ w64 (ofZ w64 (toZ w32 (ofZ w32 z))) ≡ z
 wide z small =

@@ -8,22 +8,19 @@ use lib.IntN.{ℤ, pos, _+ℤ_}
 use mir.Syntax.{w64}
 use mir.Val.{toZ}
 use mir.ValLaws.{toZ-pos}
-use Rattle.general.specs.Below.{signedSum}
 use Rattle.values.specs.declared.TableUnits.{TableUnits}
 use Rattle.design.specs.declared.Design.{Design}
 use Rattle.design.proofs.LegalLaws.{limits}
-use Rattle.tables.specs.Sum.{offsetFor, sumAbove}
+use Rattle.tables.specs.Inputs.{sumAbove}
+use Rattle.tables.specs.Sum.{offsetFor, sumFrom}
 use Rattle.tables.proofs.LookupLaws.{looked}
-use Rattle.tables.proofs.SumLaws.{first-first}
+use Rattle.tables.proofs.SumLaws.{units, first-first}
 use Rattle.tables.proofs.sums.sum_from.Statement.{statement}
 use Rattle.tables.proofs.sums.sum_from.Tie as tie
 
-abbrev units : ℤ → TableUnits
-units z = record { 0 = z }
-
 with-above : (d : Design) (entry : ℕ) (offsets : List ℤ) (x : ℕ) (none : ℤ) (first sum : TableUnits) → 1 ≤ d .m → none ≡ pos entry
     → first ≡ units (none +ℤ offsetFor d offsets x 0) → sum ≡ units (sumAbove d (first .0) offsets x)
-    → sum ≡ units (pos entry +ℤ signedSum (d .m) (offsetFor d offsets x))
+    → sum ≡ units (sumFrom d entry offsets x)
 with-above d entry offsets x none first sum some none-is first-is sum-is =
     sum-is ∙ ap units (rw (first-is, none-is) (first-first d entry offsets x some))
 
