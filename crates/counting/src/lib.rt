@@ -95,6 +95,7 @@ fn class_of(d: Design, row: Row, sum: TableUnits, x: u32) -> Class
 // The counts with the words of a run. The initial entries are there for the promise alone.
 fn count_run(
     d: Design,
+    lookups: Lookups,
     row: Row,
     run: Run,
     initial: &[u32],
@@ -102,14 +103,14 @@ fn count_run(
     before: Counts,
 ) -> Counts
     requires { ⌜ Usable d (length (now initial)) (length (now offsets)) ⌝ }
-    requires { ⌜ row ≡ Cut.row d ⌝ }
+    requires { ⌜ (lookups ≡ lookupsOf d) × (row ≡ Cut.row d) ⌝ }
     requires { ⌜ RunOf d (now offsets) run × (run .entry ≡ getD (now initial) (Cut.initialWord d (run .start)) 0) ⌝ }
     requires { ⌜ before ≡ countsBelow (run .start) (classAt d (now initial) (now offsets)) ⌝ }
     ensures { λ r. ⌜ r ≡ countsBelow (run .start + run .size) (classAt d (now (initial .entry)) (now (offsets .entry))) ⌝ }
 {
     let mut counts = before;
     for b in 0..run.size {
-        let class = class_of(d, row, sum_in(d, run, offsets, b), run.start + b);
+        let class = class_of(d, row, sum_in(d, lookups, run, offsets, b), run.start + b);
         counts = counts.with(class);
     }
     counts
@@ -140,7 +141,7 @@ fn count_interval(
     let mut counts = before;
     for number in 0..runs {
         let run = run_of(d, lookups, entry, offsets, start, start + number * size);
-        counts = count_run(d, row, run, initial, offsets, counts);
+        counts = count_run(d, lookups, row, run, initial, offsets, counts);
     }
     counts
 }

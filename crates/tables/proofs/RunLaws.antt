@@ -4,18 +4,14 @@ use mathlib.Core.List.{List}
 use Prim.Native.Nat.{ℕ, _+_, _-_, _*_, _/_, _%_, _^_, _≤_, _<_}
 use native.Mathlib.Nat.{add-sub-of-le, add-zero, div-one, div-eq-of-lt, mod-lt}
 use native.Mathlib.Omega.{arith}
-use lib.ListN.{getD}
 use lib.IntN.{ℤ, pos, _+ℤ_}
 use lib.Pow.{high, low, pow-add, pow-pos, shr-shr, split}
 use Rattle.general.specs.Below.{sumBelow}
 use Rattle.general.proofs.Sums.{sum-mono, signed-congruence}
 use Rattle.design.specs.declared.Design.{Design}
 use Rattle.design.specs.Cut.{bOf, position, initialWord, segmentWord, offsetWord}
-use Rattle.design.specs.Stored.{offsetFrom, offsetPlace, storedPlace, storedIndex, offsetTotal}
 use Rattle.design.proofs.LegalLaws.{Limits, bits-end}
-use Rattle.design.proofs.StoredLaws.{place-in-total}
-use Rattle.design.proofs.CutLaws.{segment-word-lt}
-use Rattle.tables.specs.Inputs.{sumAbove}
+use Rattle.tables.specs.Inputs.{SameInterval, sumAbove}
 use Rattle.tables.specs.Sum.{offsetFor, sumFrom}
 use Rattle.tables.proofs.SumLaws.{first-last}
 
@@ -38,11 +34,6 @@ interval-runs d l =
     let bits : d .w - d .alpha - bOf d 0 + bOf d 0 ≡ d .w - d .alpha = omega (arith, first-within d l) in
     sym (pow-add 2 (d .w - d .alpha - bOf d 0) (bOf d 0)) ∙ rw bits refl
 
--- What a segment stores lies together.
-in-a-row : (d : Design) (i A index : ℕ) → storedPlace d i A 0 + index ≡ storedPlace d i A index
-unfolding storedPlace
-in-a-row d i A index = omega arith
-
 module _ (d : Design) (l : Limits d) (x B : ℕ) (starts : offsetWord d 0 x ≡ 0) (B-lt : B < 2 ^ bOf d 0) where
   whole : x ≡ x / 2 ^ bOf d 0 * 2 ^ bOf d 0
   whole = omega (arith, split x (bOf d 0), sym (lowest d x) ∙ starts)
@@ -54,9 +45,6 @@ module _ (d : Design) (l : Limits d) (x B : ℕ) (starts : offsetWord d 0 x ≡ 
       let upper : (x + B) / 2 ^ bOf d 0 ≡ x / 2 ^ bOf d 0 =
       ap (λ (n : ℕ). (n + B) / 2 ^ bOf d 0) whole ∙ high (x / 2 ^ bOf d 0) (bOf d 0) B-lt in
       rw (← bits, ← shr-shr (x + B) (bOf d 0) (e - bOf d 0), ← shr-shr x (bOf d 0) (e - bOf d 0), upper)
-
-  pub run-first : offsetWord d 0 (x + B) ≡ B
-  run-first = lowest d (x + B) ∙ ap (λ (n : ℕ). (n + B) % 2 ^ bOf d 0) whole ∙ low (x / 2 ^ bOf d 0) (bOf d 0) B-lt
 
   -- The cut of A and of each A_i lies above B_0, and so does each further B_i.
   pub run-initial : initialWord d (x + B) ≡ initialWord d x
@@ -71,7 +59,7 @@ module _ (d : Design) (l : Limits d) (x B : ℕ) (starts : offsetWord d 0 x ≡ 
   unfolding offsetWord position sumBelow
   run-offset i = rw (same-high (sumBelow (i + 1) (bOf d)) (omega (arith, sum-mono (bOf d) 1 (i + 1) (omega arith))))
 
-  pub run-word : x < 2 ^ d .w → x + B < 2 ^ d .w
+  run-word : x < 2 ^ d .w → x + B < 2 ^ d .w
   run-word h =
       let none : (x + B) / 2 ^ d .w ≡ 0 = same-high (d .w) (omega (arith, first-within d l)) ∙ div-eq-of-lt h in
       omega (arith, rw none at (split (x + B) (d .w)), mod-lt (x + B) (pow-pos (d .w)))
@@ -87,18 +75,11 @@ module _ (d : Design) (l : Limits d) (x B : ℕ) (starts : offsetWord d 0 x ≡ 
         ap (λ (z : ℤ). pos entry +ℤ z)
         (signed-congruence (d .m - 1) (λ i. offsetFor d offsets (x + B) (i + 1)) (λ i. offsetFor d offsets x (i + 1)) run-other)
 
-    -- The run's offsets of table 0 lie one after another.
-    run-place : getD offsets (storedPlace d 0 (segmentWord d 0 x) 0 + B) (pos 0) ≡ offsetFor d offsets (x + B) 0
-    unfolding offsetFor offsetFrom offsetPlace storedIndex
-    run-place = rw (run-segment 0 (l .m-low), run-first, in-a-row d 0 (segmentWord d 0 x) B)
+    -- Table 0's offset makes it the word's Y.
+    pub run-sum : sumAbove d (pos entry) offsets x +ℤ offsetFor d offsets (x + B) 0 ≡ sumFrom d entry offsets (x + B)
+    run-sum = rw (← run-above) (first-last d entry offsets (x + B) (l .m-low))
 
-    pub run-sum : sumAbove d (pos entry) offsets x +ℤ getD offsets (storedPlace d 0 (segmentWord d 0 x) 0 + B) (pos 0)
-        ≡ sumFrom d entry offsets (x + B)
-    run-sum = rw (run-place, ← run-above) (first-last d entry offsets (x + B) (l .m-low))
-
-  -- They lie within the offset tables.
-  pub run-inside : x < 2 ^ d .w → storedPlace d 0 (segmentWord d 0 x) 0 + B < offsetTotal d
-  unfolding offsetPlace storedIndex
-  run-inside h =
-      rw (in-a-row d 0 (segmentWord d 0 x) B)
-      (place-in-total d 0 (segmentWord d 0 x) B (l .m-low) (segment-word-lt d l 0 x (l .m-low) h) B-lt)
+  -- The words of a run lie in one interval.
+  pub run-interval : {near : ℕ} → SameInterval d near x → SameInterval d near (x + B)
+  run-interval words =
+      record { near-word = words .near-word; word = run-word (words .word); same = words .same ∙ sym run-initial }

@@ -7,8 +7,8 @@ use lib.Signed.{mag}
 use Rattle.general.specs.Below.{signedSum}
 use Rattle.design.specs.declared.Design.{Design}
 use Rattle.design.specs.Limits.{mostOffsets}
-use Rattle.design.specs.Cut.{bOf, initialWord, segmentWord, offsetWord}
-use Rattle.design.specs.Stored.{initialCount, offsetTotal, storedPlace}
+use Rattle.design.specs.Cut.{bOf, initialWord, offsetWord}
+use Rattle.design.specs.Stored.{initialCount, offsetTotal}
 use Rattle.design.specs.Legal.{Legal}
 use Rattle.tables.specs.declared.lookups.Lookup.{Lookup}
 use Rattle.tables.specs.declared.runs.Run.{Run}
@@ -37,12 +37,10 @@ pub record Small (lookup : Lookup) : Type 0 where
 unfoldable pub sumAbove : Design → ℤ → List ℤ → ℕ → ℤ
 sumAbove d sum offsets x = sum +ℤ signedSum (d .m - 1) (λ i. offsetFor d offsets x (i + 1))
 
--- A run: 2^(b_0) words that differ in B_0 alone, the first with B_0 = 0. `above` is their Y without table 0, and their offsets of table 0
--- lie from `place` on.
+-- A run: 2^(b_0) words that differ in B_0 alone, the first with B_0 = 0. `above` is their Y without table 0.
 pub record RunOf (d : Design) (offsets : List ℤ) (run : Run) : Type 0 where
-  pub word : run .start < 2 ^ d .w
+  pub interval : SameInterval d (run .near) (run .start)
   pub starts : offsetWord d 0 (run .start) ≡ 0
+  pub size-is : run .size ≡ 2 ^ bOf d 0
   pub above-is : run .above .0 ≡ sumAbove d (pos (run .entry)) offsets (run .start)
   pub above-small : mag (run .above .0) ≤ 2 ^ 40
-  pub place-is : run .place ≡ storedPlace d 0 (segmentWord d 0 (run .start)) 0
-  pub size-is : run .size ≡ 2 ^ bOf d 0

@@ -1,5 +1,5 @@
-// Runs: B_0 lies in the lowest bits of a word, so that 2^(b_0) words in a row differ in it alone. All but their offsets of table 0, which
-// lie together, is found once for them.
+// Runs: B_0 lies in the lowest bits of a word, so that 2^(b_0) words in a row differ in it alone. All but their offsets of table 0 is found
+// once for them.
 ghost use mathlib.Core.Path.{_≡_};
 ghost use Prim.Native.Nat.{_+_, _<_, _≤_};
 ghost use lib.ListN.{length};
@@ -10,20 +10,18 @@ ghost use Rattle.tables.specs.Inputs.{SameInterval, RunOf};
 ghost use Rattle.tables.specs.Lookup.{lookupsOf};
 ghost use Rattle.tables.specs.Sum.{sumFrom};
 use crate::lookups::Lookups;
-use crate::lookups::place_of;
 use crate::sums::add_above;
-use crate::sums::add_offset;
+use crate::sums::add_table;
 use design::Design;
 use values::TableUnits;
 
-// The first word, its initial entry, Y without table 0, where table 0's offsets for the run begin among all offsets, and how many words
-// there are.
+// A word of the run's interval, the first word of the run and how many there are, their initial entry, and their Y without table 0.
 pub struct Run {
+    pub near: u32,
     pub start: u32,
+    pub size: u32,
     pub entry: u32,
     pub above: TableUnits,
-    pub place: u32,
-    pub size: u32,
 }
 
 // inner: the run that begins at x. `near` is any word of its interval.
@@ -35,19 +33,21 @@ pub fn run_of(d: Design, lookups: Lookups, entry: u32, offsets: &[i32], near: u3
 {
     let none = TableUnits(entry as i64);
     Run {
+        near,
         start: x,
+        size: 1 << lookups.first.b,
         entry,
         above: add_above(d, lookups, none, offsets, near, x),
-        place: place_of(lookups.first, near, x),
-        size: 1 << lookups.first.b,
     }
 }
 
-// inner: Y of word b of the run. Of which design it is, is said for the promise alone.
-pub fn sum_in(d: Design, run: Run, offsets: &[i32], b: u32) -> TableUnits
+// inner: Y of word b of the run.
+pub fn sum_in(d: Design, lookups: Lookups, run: Run, offsets: &[i32], b: u32) -> TableUnits
     requires { ⌜ Legal d × (offsetTotal d ≤ length (now offsets)) ⌝ }
+    requires { ⌜ lookups ≡ lookupsOf d ⌝ }
     requires { ⌜ RunOf d (now offsets) run × (b < run .size) ⌝ }
     ensures { λ r. ⌜ r ≡ record { 0 = sumFrom d (run .entry) (now (offsets .entry)) (run .start + b) } ⌝ }
 {
-    add_offset(run.above, offsets, run.place + b)
+    let x = run.start + b;
+    add_table(d, 0, lookups.first, run.above, offsets, run.near, x)
 }

@@ -19,7 +19,7 @@ use values::OutputUnits;
 use values::TableUnits;
 
 // Adds an offset, by its place among all offsets.
-pub(crate) fn add_offset(sum: TableUnits, offsets: &[i32], place: u32) -> TableUnits
+fn add_offset(sum: TableUnits, offsets: &[i32], place: u32) -> TableUnits
     requires { ⌜ (place < length (now offsets)) × (mag (sum .0) ≤ 2 ^ 40) ⌝ }
     ensures { λ r. ⌜ (r ≡ record { 0 = sum .0 +ℤ getD (now (offsets .entry)) place (pos 0) }) × (mag (r .0) ≤ mag (sum .0) + 2 ^ 32) ⌝ }
 {
@@ -28,7 +28,7 @@ pub(crate) fn add_offset(sum: TableUnits, offsets: &[i32], place: u32) -> TableU
 }
 
 // Adds the offset of table i. Which table it is of which design is said for the promise alone.
-fn add_table(
+pub(crate) fn add_table(
     d: Design,
     i: u32,
     lookup: Lookup,

@@ -121,7 +121,7 @@ count-run-requires c κs =
     let e = c .run-of .ensures in (
       p .0,
       (
-        p .1 .0 .1,
+        p .1 .0,
         (
           (e .2, rw (e .0, entry-number (counted q) (p .1 .1 .0) {number = c .before .before .loop .number} (omega arith)) (e .1)),
           rw (e .0) (c .before .before .loop .inv .0),

@@ -15,7 +15,7 @@ use Rattle.design.proofs.LegalLaws.{Limits, limits}
 use Rattle.tables.specs.declared.runs.Run.{Run}
 use Rattle.tables.specs.Inputs.{RunOf}
 use Rattle.tables.specs.Sum.{sumFrom, sumAt}
-use Rattle.tables.proofs.RunLaws.{run-initial, run-word}
+use Rattle.tables.proofs.RunLaws.{run-initial, run-interval}
 use Rattle.counting.specs.declared.Class.{Class}
 use Rattle.counting.specs.declared.Counts.{Counts}
 use Rattle.counting.specs.Count.{classOf, classAt, countsBelow}
@@ -27,7 +27,7 @@ use Rattle.counting.proofs.count_run.Tie as tie
 -- Word b of the run
 module _ {d : Design} (l : Limits d) {offsets : List ℤ} {run : Run} (r : RunOf d offsets run) (b : ℕ) (b-lt : b < run .size) where
   word-lt : run .start + b < 2 ^ d .w
-  word-lt = run-word d l (run .start) b (r .starts) (rw (r .size-is) at b-lt) (r .word)
+  word-lt = run-interval d l (run .start) b (r .starts) (rw (r .size-is) at b-lt) (r .interval) .word
 
   module _ (initial : List ℕ) (entry-is : run .entry ≡ getD initial (initialWord d (run .start)) 0) {sum : TableUnits}
       (sum-is : sum ≡ record { 0 = sumFrom d (run .entry) offsets (run .start + b) }) where
@@ -45,11 +45,11 @@ more : (classes : ℕ → Class) (n b : ℕ) {counts next : Counts} {class : Cla
 more classes n b counts-are class-is next-is = next-is ∙ rw (counts-are, class-is, counts-next classes (n + b), add-assoc n b 1)
 
 abbrev Inv-loop : tie.InvT-loop
-Inv-loop d row run initial offsets counts₀ b₀ b-end counts b =
+Inv-loop d lookups row run initial offsets counts₀ b₀ b-end counts b =
     (counts ≡ countsBelow (run .start + b) (classAt d initial offsets)) × (b ≤ run .size)
 
 abbrev μ-loop : tie.MeasureT-loop
-μ-loop d row run initial offsets counts₀ b₀ b-end counts b = b-end - b
+μ-loop d lookups row run initial offsets counts₀ b₀ b-end counts b = b-end - b
 
 loop-holds : tie.Need-loop-holds Inv-loop μ-loop
 loop-holds c = (rw add-zero (c .before .pre .1 .1 .1), omega arith)
@@ -57,7 +57,7 @@ loop-holds c = (rw add-zero (c .before .pre .1 .1 .1), omega arith)
 sum-in-requires : tie.Need-sum-in-requires Inv-loop μ-loop
 sum-in-requires c κs =
     let p = c .before .before .before .pre in
-    ((p .0 .legal, p .0 .offsets-long), (p .1 .1 .0 .0, omega arith))
+    ((p .0 .legal, p .0 .offsets-long), (p .1 .0 .0, (p .1 .1 .0 .0, omega arith)))
 
 -- this turn's word
 word : (c : tie.In-loop Inv-loop μ-loop) → let a = c .before .before .before .args in a .run .start + c .before .loop .b < 2 ^ a .d .w
@@ -75,7 +75,7 @@ class-of-requires : tie.Need-class-of-requires Inv-loop μ-loop
 class-of-requires c κs =
     let i = c .before .before in
     let p = i .before .before .before .pre in
-    ((p .0 .legal, p .1 .0), word i)
+    ((p .0 .legal, p .1 .0 .1), word i)
 
 with-requires : tie.Need-with-requires Inv-loop μ-loop
 with-requires c κs =
