@@ -24,6 +24,10 @@ numberOf Cause.Frame = 16
 numberOf Cause.State = 17
 numberOf Cause.EntryWidth = 18
 numberOf Cause.LineNumber = 19
+-- document 02, A2: "New numbers, which like all later ones join 01's table"
+numberOf Cause.AddressRange = 20
+numberOf Cause.Record = 21
+numberOf Cause.RecordDue = 22
 
 -- The number of a verdict; 0 where nothing is turned down.
 abbrev pub verdictNumber : Verdict → ℕ

@@ -1,4 +1,4 @@
-// Why a call is turned down: document 01's causes, one name each.
+// Why a call is turned down: the causes of document 01 and those that document 02 adds, one name each.
 ghost use mathlib.Core.Path.{_≡_};
 ghost use Rattle.refusal.specs.Numbers.{numberOf};
 ghost use Rattle.refusal.specs.Checks as Checks;
@@ -23,6 +23,9 @@ pub enum Cause {
     State,
     EntryWidth,
     LineNumber,
+    AddressRange,
+    Record,
+    RecordDue,
 }
 
 // What a list of checks comes to: nothing turned the input down, or the first check that did.
@@ -55,6 +58,9 @@ pub fn number(cause: Cause) -> u8
         Cause::State => 17,
         Cause::EntryWidth => 18,
         Cause::LineNumber => 19,
+        Cause::AddressRange => 20,
+        Cause::Record => 21,
+        Cause::RecordDue => 22,
     }
 }
 
