@@ -66,8 +66,9 @@ fn is_possible(state: Reading) -> bool
     state.taken as u64 <= line_count(state.design)
 }
 
-// Whether a frame is not the one due, which begins as `head` does and has an entry of `width` bytes and a sum byte behind that.
-fn head_fails(head: Frame, width: usize, bytes: [u8; CAPACITY], count: usize) -> bool
+// inner: whether a frame is not the one due, which begins as `head` does and has `width` bytes more and a sum byte behind that. (Records use
+// it, too.)
+pub fn head_fails(head: Frame, width: usize, bytes: [u8; CAPACITY], count: usize) -> bool
     requires { ⌜ head .count + width ≤ capacity ⌝ }
     ensures { λ r. ⌜ r ≡ headFails (held head) width bytes count ⌝ }
 {

@@ -61,8 +61,8 @@ fn entry_number(slot: Slot, initial: &[u32], offsets: &[i32]) -> u32
     }
 }
 
-// 18 and 14 of the asked line, by its length and that of the line buffer.
-fn line_verdict(fits: bool, line: usize, buffer: usize) -> Verdict
+// inner: 18 and 14 of what is asked for, a line or a record, by its length and that of its buffer.
+pub fn line_verdict(fits: bool, line: usize, buffer: usize) -> Verdict
     ensures { λ r. ⌜ r ≡ verdict (askedChecks fits line buffer) ⌝ }
 {
     if !fits {

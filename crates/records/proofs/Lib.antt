@@ -1,0 +1,2 @@
+-- Laws of records.
+pub mod CountLaws
