@@ -1,5 +1,5 @@
 -- A byte and its two digits: reading what is written gives the bytes back, and writing what is read gives the line back.
-use mathlib.Core.Path.{_≡_, refl, ap, _∙_}
+use mathlib.Core.Path.{_≡_, refl, _∙_}
 use mathlib.Core.Bool.{Bool, true, false, or-true}
 use mathlib.Core.List.{List, [], _∷_, _++_}
 use Prim.Native.Nat.{ℕ, zero, suc, _+_, _-_, _*_, _/_, _%_, _≤_, _<_}
@@ -110,15 +110,6 @@ bytes-small (high ∷ low ∷ rest) e =
       omega (arith, ltb-true (digitValue high) 16 (first .0), ltb-true (digitValue low) 16 (second .0)),
       bytes-small rest (second .1),
     )
-
--- A line has half as many bytes as digits.
-pub bytes-length : (n : ℕ) (line : List ℕ) → length line ≡ 2 * n → length (bytesOf line) ≡ n
-unfolding bytesOf
-bytes-length zero [] e = refl
-bytes-length (suc n) [] e = absurd (omega arith)
-bytes-length n (c ∷ []) e = absurd (omega arith)
-bytes-length zero (high ∷ low ∷ rest) e = absurd (omega arith)
-bytes-length (suc n) (high ∷ low ∷ rest) e = ap suc (bytes-length n rest (omega arith))
 
 -- A line that is read is written again.
 pub hex-again : (n : ℕ) (line : List ℕ) → length line ≡ 2 * n → allDigits line ≡ true → hexOf (bytesOf line) ≡ line

@@ -9,7 +9,8 @@ use lib.Seq.{take-all, take-suc, length-take-le}
 use borrow.Author.Tests.{eqb-false, ne-eqb, le-ltb, not-false}
 use Rattle.general.proofs.Tests.{neither}
 use Rattle.frames.specs.Hex.{allDigits, bytesOf}
-use Rattle.frames.specs.Line.{sumFails, longestLine, lengthFails, digitsFail, isEmpty, lineFails}
+use Rattle.frames.specs.Line.{sumFails, textFails, longestLine, lengthFails, digitsFail, isEmpty, lineFails}
+use Rattle.frames.proofs.HexLaws.{bytes-length}
 use Rattle.frames.proofs.LineLaws.{sound-length}
 use Rattle.encoding.specs.Encode.{hexOf, sumByte, withSum, lineOf}
 use Rattle.encoding.proofs.HexBack.{
@@ -18,7 +19,6 @@ use Rattle.encoding.proofs.HexBack.{
   hex-digits,
   hex-back,
   bytes-small,
-  bytes-length,
   hex-again,
   bytes-append,
   bytes-parts,
@@ -59,7 +59,7 @@ module _ (f : List ℕ) where
 
   -- The line of a frame that is not too long is sound.
   pub line-sound : Bytes f → Short f → lineFails (lineOf f) ≡ false
-  unfolding lineFails digitsFail
+  unfolding lineFails digitsFail textFails
   line-sound small short =
       rw (
         line-length,
@@ -90,12 +90,12 @@ before-sum n bs e small sum =
 
 -- A sound line is the line of the frame that is left of its bytes without the last.
 pub front : (line : List ℕ) → lineFails line ≡ false → Front line
-unfolding lineFails digitsFail lineOf
+unfolding lineFails digitsFail textFails lineOf
 front line sound =
     let some = neither (isEmpty line) (digitsFail line) sound in
-    let tests = neither _ (sumFails (bytesOf line)) (some .1) in
-    let shape = neither (lengthFails (length line)) _ (tests .0) in
-    let digits : allDigits line ≡ true = not-false _ (shape .1) in
+    let shape = neither (lengthFails (length line)) (textFails line) (some .1) in
+    let tests = neither _ (sumFails (bytesOf line)) (shape .1) in
+    let digits : allDigits line ≡ true = not-false _ (tests .0) in
     let even = sound-length (length line) (shape .0) in
     let empty = eqb-false (length line) 0 (some .0) in
     let full : 1 ≤ length line = omega arith in

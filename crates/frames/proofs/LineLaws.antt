@@ -1,6 +1,6 @@
 -- Which tests of a line refuse it, and what it decodes to then and otherwise.
-use mathlib.Core.Path.{_≡_, refl, sym, ap, _∙_}
-use mathlib.Core.Bool.{Bool, true, false, or-true}
+use mathlib.Core.Path.{_≡_}
+use mathlib.Core.Bool.{true, false, or-true}
 use mathlib.Core.List.{List, []}
 use Prim.Native.Nat.{ℕ, _*_, _/_, _%_, _≤_, _<_}
 use native.Mathlib.Omega.{arith}
@@ -8,11 +8,26 @@ use lib.Dec.{ltb, eqb}
 use lib.ListN.{length}
 use borrow.Author.Tests.{lt-ltb, ltb-false, eqb-false}
 use Rattle.general.proofs.Tests.{neither}
+use Rattle.refusal.specs.declared.Cause.{Cause}
 use Rattle.refusal.specs.declared.Verdict.{Verdict}
 use Rattle.refusal.specs.Checks.{verdict}
 use Rattle.frames.specs.declared.Decoded.{Decoded}
-use Rattle.frames.specs.Hex.{allDigits, bytesOf}
-use Rattle.frames.specs.Line.{sumFails, longestLine, lengthFails, digitsFail, isEmpty, lineFails, lineChecks, padded, decoded}
+use Rattle.frames.specs.Hex.{bytesOf}
+use Rattle.frames.specs.Inputs.{EvenDigits}
+use Rattle.frames.specs.Line.{
+  textFails,
+  longestLine,
+  lengthFails,
+  digitsFail,
+  isEmpty,
+  lineFails,
+  lineChecks,
+  capacity,
+  decodedIf,
+  decoded,
+}
+use Rattle.frames.proofs.HexLaws.{bytes-length}
+use Rattle.frames.proofs.DecodedLaws.{whole, if-refused, if-told, if-passed, if-whole}
 
 pub record SoundLength (digits : ℕ) : Type 0 where
   pub even : digits ≡ 2 * (digits / 2)
@@ -24,72 +39,54 @@ sound-length digits e =
     let odd = eqb-false (digits % 2) 1 (parts .0) in
     record { even = omega arith; short = ltb-false _ _ (parts .1) }
 
+pub even-digits : (digits : ℕ) → lengthFails digits ≡ false → EvenDigits digits
+even-digits digits e =
+    let sound = sound-length digits e in
+    record { even = sound .even; few = omega arith }
+
 -- A line that is longer than the longest fails, whatever stands in it.
 pub long-fails : (line : List ℕ) → longestLine < length line → lineFails line ≡ true
 unfolding lineFails digitsFail
 long-fails line h = rw (lt-ltb _ _ h, or-true, or-true)
 
+-- The bytes of a line that is not refused fit an array.
+pub bytes-short : (line : List ℕ) → lineFails line ≡ false → length (bytesOf line) ≤ capacity
+unfolding lineFails digitsFail
+bytes-short line e =
+    let shape = neither (lengthFails (length line)) (textFails line) (neither (isEmpty line) (digitsFail line) e .1) .0 in
+    let sound = sound-length (length line) shape in
+    omega (arith, bytes-length (length line / 2) line (sound .even), sound .short)
+
 module _ (line : List ℕ) where
-  abbrev pub whole : Decoded
-  whole = record { verdict = Verdict.Passed; bytes = padded (bytesOf line); count = length (bytesOf line) }
-
-  refused : lineFails line ≡ true → decoded [] ≡ decoded line
-  unfolding decoded lineFails
-  refused e = rw e
-
-  digits-fail : digitsFail line ≡ true → decoded [] ≡ decoded line
-  unfolding lineFails
-  digits-fail e = refused (rw (e, or-true))
-
-  sound : lineFails line ≡ false → decoded line ≡ whole
+  refused : lineFails line ≡ true → decodedIf true Cause.Line [] ≡ decoded line
   unfolding decoded
-  sound e = rw e
+  refused e = if-refused (lineFails line) Cause.Line line e
 
-  -- A line that is refused, for whichever reason, decodes to the same as the empty one.
-  pub empty-refused : isEmpty line ≡ true → decoded [] ≡ decoded line
+  -- A line that is empty or of a wrong length is refused, whatever stands in it.
+  pub empty-refused : isEmpty line ≡ true → decodedIf true Cause.Line [] ≡ decoded line
   unfolding lineFails
   empty-refused e = refused (rw e)
 
-  pub length-refused : lengthFails (length line) ≡ true → decoded [] ≡ decoded line
-  unfolding digitsFail
-  length-refused e = digits-fail (rw e)
-
-  pub digits-refused : allDigits line ≡ false → decoded [] ≡ decoded line
-  unfolding digitsFail
-  digits-refused e = digits-fail (rw (e, or-true))
-
-  pub sum-refused : sumFails (bytesOf line) ≡ true → decoded [] ≡ decoded line
-  unfolding digitsFail
-  sum-refused e = digits-fail (rw (e, or-true))
-
-  pub accepted : isEmpty line ≡ false → lengthFails (length line) ≡ false → allDigits line ≡ true → sumFails (bytesOf line) ≡ false
-      → decoded line ≡ whole
+  pub length-refused : lengthFails (length line) ≡ true → decodedIf true Cause.Line [] ≡ decoded line
   unfolding lineFails digitsFail
-  accepted some l d s = sound (rw (some, l, d, s))
+  length-refused e = refused (rw (e, or-true))
 
-  -- The verdict is that of the line's checks, and where it passes, nothing of the line is lost.
-  decoded-verdict : decoded line .verdict ≡ verdict (lineChecks line)
-  unfolding decoded lineChecks
-  decoded-verdict = go (lineFails line) refl
-    where
-      go : (t : Bool) → lineFails line ≡ t → decoded line .verdict ≡ verdict (lineChecks line)
-      go true e = rw e
-      go false e = rw e
-
-  decoded-passed : decoded line .verdict ≡ Verdict.Passed → decoded line ≡ whole
-  unfolding decoded lineFails
-  decoded-passed passed = go (lineFails line) refl
-    where
-      go : (t : Bool) → lineFails line ≡ t → decoded line ≡ whole
-      go true e =
-          let clash : _≡_ {A = ℕ} 0 1 = cc (ap (λ (d : Decoded). d .verdict) (refused e)) in
-          absurd (omega arith)
-      go false e = sound e
+  -- Any other is what its digits are.
+  pub text-decides : isEmpty line ≡ false → lengthFails (length line) ≡ false → decodedIf (textFails line) Cause.Line line ≡ decoded line
+  unfolding decoded lineFails digitsFail
+  text-decides some l = rw (some, l)
 
 -- What `decode` gives for a line: the verdict of the line's checks, and a line that passes them whole
 module _ (line : List ℕ) (held : Decoded) (held-is : held ≡ decoded line) where
+  by-tests : held ≡ decodedIf (lineFails line) Cause.Line line
+  unfolding decoded
+  by-tests = held-is
+
   pub line-told : (v : Verdict) → held .verdict ≡ v → verdict (lineChecks line) ≡ v
-  line-told v e = sym (decoded-verdict line) ∙ ap (λ (h : Decoded). h .verdict) (sym held-is) ∙ e
+  unfolding lineChecks
+  line-told v e = if-told (lineFails line) Cause.Line line held by-tests v e
 
   pub held-whole : held .verdict ≡ Verdict.Passed → held ≡ whole line
-  held-whole passed = held-is ∙ decoded-passed line (ap (λ (h : Decoded). h .verdict) (sym held-is) ∙ passed)
+  held-whole e =
+      let fails = lineFails line in
+      if-whole fails Cause.Line line held by-tests e (bytes-short line (if-passed fails Cause.Line line held by-tests e))

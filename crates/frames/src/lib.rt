@@ -1,10 +1,13 @@
 // Lines of hexadecimal as frames of bytes, and the frame that holds a design.
 ghost use mathlib.Core.Path.{_≡_};
+ghost use mathlib.Core.Bool.{true};
 ghost use mathlib.Core.List.{[]};
 ghost use Prim.Native.Nat.{_<_};
+ghost use lib.ListN.{length};
 ghost use Rattle.refusal.specs.Checks.{verdict};
 ghost use Rattle.frames.specs.Hex.{digitValue};
-ghost use Rattle.frames.specs.Line.{lengthFails, decoded};
+ghost use Rattle.frames.specs.Line.{textFails, lengthFails, decodedIf, decoded};
+ghost use Rattle.frames.specs.Inputs.{EvenDigits};
 ghost use Rattle.frames.specs.DesignFrame.{frameChecks, framePair, frameDesign, firstChecks};
 use design::Design;
 use design::NO_PAIR;
@@ -16,10 +19,10 @@ use refusal::Verdict;
 // The longest line, in digits.
 pub const LONGEST_LINE: usize = 32;
 
-// How many bytes an array holds that frames are read into or put together in. The longest line's are no more.
-pub const CAPACITY: usize = 16;
+// How many bytes an array holds that frames and records are read into or put together in. The longest line's are 16, a record's 21.
+pub const CAPACITY: usize = 21;
 
-// What a line holds: its bytes with zeros behind them, and how many there are.
+// What digits hold: their bytes with zeros behind them, and how many there are.
 pub struct Decoded {
     pub verdict: Verdict,
     pub bytes: [u8; CAPACITY],
@@ -46,50 +49,61 @@ fn length_fails(digits: usize) -> bool
     digits % 2 == 1 || LONGEST_LINE < digits
 }
 
-// The one answer to every line that is refused, the empty line among them.
-fn unsound() -> Decoded
-    ensures { λ r. ⌜ r ≡ decoded [] ⌝ }
+// The one answer to all digits that are refused: nothing of them, with the cause that the caller gives.
+fn unsound(cause: Cause) -> Decoded
+    ensures { λ r. ⌜ r ≡ decodedIf true cause [] ⌝ }
 {
     Decoded {
-        verdict: Verdict::Refused(Cause::Line),
+        verdict: Verdict::Refused(cause),
         bytes: [0; CAPACITY],
         count: 0,
     }
 }
 
-// The bytes of a line, or the refusal 15. The sum of so few bytes is far below 2^32, so it is reduced only once, at the end.
-pub fn decode(line: &[u8]) -> Decoded
-    ensures { λ r. ⌜ r ≡ decoded (now (line .entry)) ⌝ }
+// The bytes of digits, two digits a byte, or the caller's refusal where a character is no digit or the sum is wrong. An array keeps no
+// more bytes than it holds. The sum of so few bytes is far below 2^32, so it is reduced only once, at the end.
+pub fn decode_digits(digits: &[u8], cause: Cause) -> Decoded
+    requires { ⌜ EvenDigits (length (now digits)) ⌝ }
+    ensures { λ r. ⌜ r ≡ decodedIf (textFails (now (digits .entry))) cause (now (digits .entry)) ⌝ }
 {
-    if line.len() == 0 {
-        return unsound();
-    }
-    if length_fails(line.len()) {
-        return unsound();
-    }
-    let count = line.len() / 2;
+    let count = digits.len() / 2;
     let mut bytes = [0u8; CAPACITY];
     let mut sum: u32 = 0;
     let mut i = 0;
     while i < count {
-        let high = digit(line[2 * i]);
-        let low = digit(line[2 * i + 1]);
+        let high = digit(digits[2 * i]);
+        let low = digit(digits[2 * i + 1]);
         if 16 <= high || 16 <= low {
-            return unsound();
+            return unsound(cause);
         }
         let byte = 16 * high + low;
-        bytes[i] = byte;
+        if i < CAPACITY {
+            bytes[i] = byte;
+        }
         sum += byte as u32;
         i += 1;
     }
     if sum % 256 != 0 {
-        return unsound();
+        return unsound(cause);
     }
     Decoded {
         verdict: Verdict::Passed,
         bytes,
         count,
     }
+}
+
+// The bytes of a line, or the refusal 15.
+pub fn decode(line: &[u8]) -> Decoded
+    ensures { λ r. ⌜ r ≡ decoded (now (line .entry)) ⌝ }
+{
+    if line.len() == 0 {
+        return unsound(Cause::Line);
+    }
+    if length_fails(line.len()) {
+        return unsound(Cause::Line);
+    }
+    decode_digits(line, Cause::Line)
 }
 
 // The refusal 16 of a line that has to hold a design. A frame too short for its m fails too: fewer than 8 bytes are never due.

@@ -2,12 +2,10 @@
 use mathlib.Core.Path.{_≡_, refl, ap, _∙_}
 use mathlib.Core.Bool.{true, false}
 use mathlib.Core.List.{List}
-use Prim.Native.Nat.{ℕ, _/_, _-_, _≤_}
-use native.Mathlib.Omega.{arith}
+use Prim.Native.Nat.{ℕ, _-_}
 use lib.IntN.{ℤ}
 use lib.ListN.{length, take, replicate}
 use lib.Seq.{take-append-seam}
-use Rattle.general.proofs.Tests.{neither}
 use Rattle.refusal.specs.declared.Cause.{Cause}
 use Rattle.refusal.specs.declared.Verdict.{Verdict}
 use Rattle.refusal.specs.Checks.{verdict, ifPassed}
@@ -16,9 +14,8 @@ use Rattle.refusal.proofs.Checks.{verdict-append, none-fails}
 use Rattle.refusal.proofs.Answers.{if-passed-part}
 use Rattle.frames.specs.declared.Decoded.{Decoded}
 use Rattle.frames.specs.Hex.{bytesOf}
-use Rattle.frames.specs.Line.{lengthFails, digitsFail, isEmpty, lineFails, lineChecks, capacity, padded, decoded}
-use Rattle.frames.proofs.LineLaws.{sound-length, line-told, held-whole}
-use Rattle.encoding.proofs.HexBack.{bytes-length}
+use Rattle.frames.specs.Line.{lineChecks, capacity, padded, decoded}
+use Rattle.frames.proofs.LineLaws.{bytes-short, line-told, held-whole}
 use Rattle.lines.specs.declared.Slot.{Slot}
 use Rattle.lines.specs.Slots.{slotOf}
 use Rattle.lines.proofs.SlotLaws.{slot-first}
@@ -46,14 +43,6 @@ use Rattle.reading.specs.ReadLine.{
   after,
 }
 use Rattle.reading.proofs.LineSteps.{refusedAnswer, Outcome}
-
--- The bytes of a line that is not refused fit an array.
-bytes-short : (line : List ℕ) → lineFails line ≡ false → length (bytesOf line) ≤ capacity
-unfolding lineFails digitsFail
-bytes-short line e =
-    let shape = neither _ _ (neither (isEmpty line) (digitsFail line) e .1) .0 in
-    let sound = sound-length (length line) (neither (lengthFails (length line)) _ shape .0) in
-    omega (arith, bytes-length (length line / 2) line (sound .even), sound .short)
 
 -- What `decode` gives for a line that it accepts
 module _ (line : List ℕ) (held : Decoded) (held-is : held ≡ decoded line) (passed : held .verdict ≡ Verdict.Passed) where

@@ -176,7 +176,8 @@ pub record Worked : Type 0 where
 
 pub worked : Worked
 unfolding
-    calls-opened Hex.digitValue Hex.allDigits Hex.bytesOf Lists.total Line.sumFails Line.digitsFail Line.lineFails Line.lineChecks
+    calls-opened Hex.digitValue Hex.allDigits Hex.bytesOf Lists.total Line.sumFails Line.textFails Line.digitsFail Line.lineFails
+    Line.lineChecks
     DesignFrame.frameFails DesignFrame.frameChecks DesignFrame.framePair DesignFrame.frameDesign DesignFrame.firstChecks
     Bytes.bigEndian Bytes.complement Bytes.fits
     Encode.digitOf Encode.hexOf Encode.sumByte Encode.withSum Encode.lineOf DesignBytes.pairBytes DesignBytes.designBytes

@@ -1,11 +1,11 @@
--- `frames::unsound` meets its contract: what the empty line decodes to computes.
+-- `frames::unsound` meets its contract: what is read from digits that fail computes.
 use mathlib.Core.Path.{refl}
-use Rattle.frames.specs.Line.{lineFails, padded, decoded}
+use Rattle.frames.specs.Line.{padded, decodedIf}
 use Rattle.frames.proofs.unsound.Statement.{statement}
 use Rattle.frames.proofs.unsound.Tie as tie
 
 returns : tie.Need-returns
-unfolding lineFails padded decoded
+unfolding padded decodedIf
 returns c = refl
 
 pub unsound-spec : {M : Type 1} → statement M
