@@ -49,8 +49,8 @@ fn length_fails(digits: usize) -> bool
     digits % 2 == 1 || LONGEST_LINE < digits
 }
 
-// The one answer to all digits that are refused: nothing of them, with the cause that the caller gives.
-fn unsound(cause: Cause) -> Decoded
+// inner: the one answer to all digits that are refused: nothing of them, with the cause that the caller gives.
+pub fn unsound(cause: Cause) -> Decoded
     ensures { λ r. ⌜ r ≡ decodedIf true cause [] ⌝ }
 {
     Decoded {
@@ -60,7 +60,7 @@ fn unsound(cause: Cause) -> Decoded
     }
 }
 
-// The bytes of digits, two digits a byte, or the caller's refusal where a character is no digit or the sum is wrong. An array keeps no
+// inner: the bytes of digits, two digits a byte, or the caller's refusal where a character is no digit or the sum is wrong. An array keeps no
 // more bytes than it holds. The sum of so few bytes is far below 2^32, so it is reduced only once, at the end.
 pub fn decode_digits(digits: &[u8], cause: Cause) -> Decoded
     requires { ⌜ EvenDigits (length (now digits)) ⌝ }

@@ -33,6 +33,18 @@ none-below (suc n) test e i h =
     let parts = neither _ _ e in
     below-suc h (λ at. rw at (parts .1)) (λ below. none-below n test (parts .0) i below)
 
+-- and the other way round, both ways
+pub none-of : (n : ℕ) (test : ℕ → Bool) → ((i : ℕ) → i < n → test i ≡ false) → someBelow n test ≡ false
+unfolding someBelow
+none-of zero test fails = refl
+none-of (suc n) test fails = rw (none-of n test (λ i h. fails i (le-step h)), fails n (le-refl _))
+
+pub some-of : (n : ℕ) (test : ℕ → Bool) (i : ℕ) → i < n → test i ≡ true → someBelow n test ≡ true
+unfolding someBelow
+some-of zero test i h e = absurd (not-suc-le-zero h)
+some-of (suc n) test i h e =
+    below-suc h (λ at. rw (← at, e) (or-true (someBelow i test))) (λ below. rw (some-of n test i below e))
+
 -- a sum grows with its bound, and keeps below a bound for each part
 pub sum-mono : (f : ℕ → ℕ) (i n : ℕ) → i ≤ n → sumBelow i f ≤ sumBelow n f
 unfolding sumBelow

@@ -5,6 +5,16 @@ use native.Mathlib.Omega.{arith}
 use borrow.Author.Tests.{lt-ltb, le-ltb}
 use Rattle.records.specs.IntelHex.{dataBytes, dataCount, recordCount, bytesBefore, lengthAt, headOf, recordHead}
 
+-- No records hold no bytes, and all of them hold all bytes.
+module _ (total : ℕ) where
+  pub before-none : bytesBefore total 0 ≡ 0
+  unfolding bytesBefore
+  before-none = omega arith
+
+  pub before-all : bytesBefore total (recordCount total) ≡ total
+  unfolding recordCount dataCount bytesBefore
+  before-all = omega arith
+
 module _ (total n : ℕ) where
   -- A record holds no more than 16 bytes, and the records before it no more than all.
   pub length-small : lengthAt total n ≤ dataBytes

@@ -13,7 +13,7 @@ pub record RecordInput (total n : ℕ) : Type 0 where
   pub few : total ≤ mostBytes
   pub within : n < recordCount total
 
--- Entry e, of which so many are initial entries, lies within tables of these lengths.
+-- Entry e lies within tables of these lengths; so many entries are initial entries.
 pub record EntryIn (initials initial offsets e : ℕ) : Type 0 where
   pub in-initial : e < initials → e < initial
   pub in-offsets : initials ≤ e → e - initials < offsets

@@ -1,5 +1,5 @@
--- Document 02, A2: bytes as Intel HEX records, "data records of 16 bytes from address 0, the last one shorter where fewer are left, then the
--- end record; one a call, by its number". `total` is how many bytes there are.
+-- Document 02, A2: bytes as Intel HEX records, "data records of 16 bytes from address 0, the last one shorter where fewer are left, then
+-- the end record; one a call, by its number". `total` is how many bytes there are.
 use mathlib.Core.Bool.{cond}
 use mathlib.Core.List.{List, [], _∷_, _++_}
 use Prim.Native.Nat.{ℕ, _+_, _-_, _*_, _/_, min}

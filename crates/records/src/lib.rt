@@ -6,11 +6,16 @@ ghost use Rattle.design.specs.Stored.{initialCount};
 ghost use Rattle.encoding.specs.Inputs.{held};
 ghost use Rattle.records.specs.IntelHex.{recordCount, bytesBefore, recordHead};
 ghost use Rattle.records.specs.SetBytes.{entryCount, mostBytes};
+ghost use Rattle.records.specs.Record.{decodedRecord};
 ghost use Rattle.records.specs.Inputs.{CountInput, RecordInput};
 use design::Design;
 use design::measure::offset_total;
 use encoding::Frame;
+use frames::Decoded;
+use frames::decode_digits;
+use frames::unsound;
 use general::pow2;
+use refusal::Cause;
 
 // How many bytes a data record holds, but for the last.
 pub const DATA_BYTES: usize = 16;
@@ -71,4 +76,28 @@ pub fn head_of(total: usize, n: usize) -> Frame
         return Frame::of_kind(0).with(2, 0).with(1, 1);
     }
     Frame::of_kind(size as u8).with(2, start as u32).with(1, 0)
+}
+
+// How many bytes a record has beside its data: those of its head, and the sum.
+const OTHER_BYTES: usize = 5;
+
+// The longest record: a colon and two digits a byte, of which there are at most 255 beside the others.
+pub const LONGEST_RECORD: usize = 521;
+
+// inner: the bytes of a record, or the refusal 21.
+pub fn decode_record(text: &[u8]) -> Decoded
+    ensures { λ r. ⌜ r ≡ decodedRecord (now (text .entry)) ⌝ }
+{
+    if text.len() % 2 == 0 || LONGEST_RECORD < text.len() {
+        return unsound(Cause::Record);
+    }
+    if text[0] != b':' {
+        return unsound(Cause::Record);
+    }
+    let decoded = decode_digits(&text[1..], Cause::Record);
+    let bytes = decoded.bytes;
+    if decoded.count != bytes[0] as usize + OTHER_BYTES {
+        return unsound(Cause::Record);
+    }
+    decoded
 }

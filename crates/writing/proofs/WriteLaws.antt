@@ -11,7 +11,8 @@ use Rattle.general.specs.Lists.{over}
 use Rattle.general.proofs.WritingLaws.{over-start}
 use Rattle.refusal.specs.declared.Cause.{Cause}
 use Rattle.refusal.specs.declared.Verdict.{Verdict}
-use Rattle.refusal.specs.Checks.{verdict}
+use Rattle.refusal.specs.Checks.{verdict, leaves}
+use Rattle.refusal.specs.Told.{told}
 use Rattle.refusal.proofs.Checks.{verdict-append, passed-append, none-fails}
 use Rattle.refusal.proofs.Answers.{only-passed}
 use Rattle.design.specs.declared.Design.{Design}
@@ -31,7 +32,7 @@ use Rattle.lines.specs.Inputs.{SlotIn}
 use Rattle.lines.proofs.SlotLaws.{slot-in}
 use Rattle.lines.proofs.FrameLaws.{frame-length, frame-short, entry-short}
 use Rattle.writing.specs.declared.Written.{Written}
-use Rattle.writing.specs.Write.{numberCheck, askedChecks, writeVerdict, writeAnswer, bufferAfter, toldBy, writeTold}
+use Rattle.writing.specs.Write.{numberCheck, askedChecks, writeVerdict, writtenIf, writeAnswer, bufferAfter, toldBy, writeTold}
 
 -- "writer 1 to 10, 19, 18, 14"
 module _ (d : Design) (initial : List ℕ) (offsets : List ℤ) (n buffer : ℕ) where
@@ -132,7 +133,20 @@ module _ {d : Design} {initial : List ℕ} {offsets : List ℤ} {n : ℕ} {slot 
   unfolding lineAt frameOf
   asked-line frame-is number-is = rw (frame-is, asked .head-is, number-is, asked .width-is, asked .slot-is)
 
--- The answer and the line buffer, by the verdict
+-- The answer, what it tells and what is left in the buffer, by the verdict on what is asked for, which is a line here
+module _ (v : Verdict) (line buffer : List ℕ) where
+  abbrev pub PromisedBy : Written → List ℕ → Type 0
+  PromisedBy r left = (r ≡ writtenIf v line) × ((toldBy r ≡ told v (length line)) × (left ≡ leaves v line buffer))
+
+  -- A refusal leaves the buffer as it was,
+  pub refuses-by : {cause : Cause} → v ≡ Verdict.Refused cause → PromisedBy (Written.Refused cause) buffer
+  refuses-by e = rw e (refl, (refl, refl))
+
+  -- and otherwise the line stands at its start.
+  pub writes-by : {count : ℕ} {left : List ℕ} → v ≡ Verdict.Passed → length line ≡ count → left ≡ over buffer 0 line
+      → PromisedBy (Written.Length count) left
+  writes-by e count-is left-is = rw e (rw count-is refl, (rw count-is refl, left-is ∙ over-start buffer line))
+
 module _ (d : Design) (initial : List ℕ) (offsets : List ℤ) (n : ℕ) (buffer : List ℕ) where
   -- What is promised of an answer and of what the line buffer is left with
   abbrev pub Promised : Written → List ℕ → Type 0
@@ -141,16 +155,13 @@ module _ (d : Design) (initial : List ℕ) (offsets : List ℤ) (n : ℕ) (buffe
       × ((toldBy r ≡ writeTold d initial offsets n (length buffer))
       × (left ≡ bufferAfter d initial offsets n buffer))
 
-  -- A refusal leaves the line buffer as it was,
   pub refuses : {cause : Cause} → writeVerdict d initial offsets n (length buffer) ≡ Verdict.Refused cause
       → Promised (Written.Refused cause) buffer
   unfolding writeAnswer bufferAfter writeTold
-  refuses e = rw e (refl, (refl, refl))
+  refuses e = refuses-by _ (lineAt d initial offsets n) buffer e
 
-  -- and otherwise the line stands at its start.
   pub writes : {count : ℕ} {left : List ℕ} → writeVerdict d initial offsets n (length buffer) ≡ Verdict.Passed
       → length (lineAt d initial offsets n) ≡ count → left ≡ over buffer 0 (lineAt d initial offsets n)
       → Promised (Written.Length count) left
   unfolding writeAnswer bufferAfter writeTold
-  writes e count-is left-is =
-      rw e (rw count-is refl, (rw count-is refl, left-is ∙ over-start buffer (lineAt d initial offsets n)))
+  writes e count-is left-is = writes-by _ (lineAt d initial offsets n) buffer e count-is left-is

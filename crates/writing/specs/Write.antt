@@ -29,10 +29,13 @@ writeVerdict d initial offsets n buffer =
     verdict (setChecks d (length initial) (length offsets) ++ numberCheck d n
     ∷ askedChecks (entryFits (slotOf d n) initial offsets) (length (lineAt d initial offsets n)) buffer)
 
--- The writer "returns its length"; n is the asked number, `buffer` the length of the line buffer.
+-- The writer "returns its length", by the verdict on what is asked for
+abbrev pub writtenIf : Verdict → List ℕ → Written
+writtenIf v line = ifPassed v (Written.Length (length line)) Written.Refused
+
+-- n is the asked number, `buffer` the length of the line buffer.
 unfoldable pub writeAnswer : Design → List ℕ → List ℤ → ℕ → ℕ → Written
-writeAnswer d initial offsets n buffer =
-    ifPassed (writeVerdict d initial offsets n buffer) (Written.Length (length (lineAt d initial offsets n))) Written.Refused
+writeAnswer d initial offsets n buffer = writtenIf (writeVerdict d initial offsets n buffer) (lineAt d initial offsets n)
 
 -- "puts the line with the asked number at the start of the line buffer .. and leaves the rest untouched"; a refusal "leaves every
 -- buffer untouched".

@@ -1,14 +1,14 @@
 -- `records::head_of` meets its contract: the record that holds no bytes is the end record, any other a data record.
 use mathlib.Core.Path.{_≡_}
 use mathlib.Core.List.{[], _∷_}
-use Prim.Native.Nat.{ℕ, _+_, _-_, _≤_, _<_}
+use Prim.Native.Nat.{ℕ, _-_, _<_}
 use native.Mathlib.Omega.{arith}
 use borrow.Author.Needs.{needs}
 use Rattle.encoding.specs.declared.Frame.{Frame}
 use Rattle.encoding.specs.Bytes.{bigEndian}
 use Rattle.encoding.specs.Inputs.{held}
 use Rattle.encoding.proofs.NumberBytes.{Has, Longer, has-more, has-byte}
-use Rattle.records.specs.IntelHex.{dataCount, recordCount, bytesBefore, lengthAt, headOf, recordHead}
+use Rattle.records.specs.IntelHex.{dataCount, recordCount, bytesBefore, lengthAt, headOf}
 use Rattle.records.proofs.CountLaws.{data-start, some-data, none-end, data-head, end-head, length-small, before-small}
 use Rattle.records.proofs.head_of.Statement.{statement}
 use Rattle.records.proofs.head_of.Tie as tie
@@ -42,7 +42,8 @@ returns c =
     let t = w .before .before in
     let a = t .before .before .before .args in
     let none = none-end (a .total) (a .n) (omega (arith, size-is (t .before))) in
-    rw (end-head (a .total) (a .n) none) (head-has _ _ _ 0 0 1 (omega arith) (w .before .of-kind .ensures) (w .with .ensures) (c .with2 .ensures))
+    rw (end-head (a .total) (a .n) none)
+    (head-has _ _ _ 0 0 1 (omega arith) (w .before .of-kind .ensures) (w .with .ensures) (c .with2 .ensures))
 
 cast-of-kind : tie.Need-cast-of-kind
 cast-of-kind c =
