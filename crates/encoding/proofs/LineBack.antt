@@ -53,7 +53,7 @@ module _ (f : List ℕ) where
   unfolding lineOf
   line-back small = hex-back (withSum f) (with-sum-small f small)
 
-  line-digits : Bytes f → allDigits (lineOf f) ≡ true
+  pub line-digits : Bytes f → allDigits (lineOf f) ≡ true
   unfolding lineOf
   line-digits small = hex-digits (withSum f) (with-sum-small f small)
 
@@ -79,7 +79,7 @@ pub record Front (digits : List ℕ) : Type 0 where
   pub line : lineOf frame ≡ digits
 
 -- Some bytes of which the sum is right are a frame with its sum byte.
-before-sum : (n : ℕ) (bs : List ℕ) → length bs ≡ suc n → Bytes bs → sumFails bs ≡ false
+pub before-sum : (n : ℕ) (bs : List ℕ) → length bs ≡ suc n → Bytes bs → sumFails bs ≡ false
     → Bytes (take n bs) × (bs ≡ withSum (take n bs))
 unfolding withSum
 before-sum n bs e small sum =

@@ -41,7 +41,8 @@ unfolding feed
 feed-last [] line s = refl
 feed-last (first ∷ lines) line s = feed-last lines line (after s first)
 
-keeps-last : (v : Verdict) (first : List ℕ) (lines last : List (List ℕ)) → keptIf v first (lines ++ last) ≡ keptIf v first lines ++ last
+pub keeps-last : (v : Verdict) (first : List ℕ) (lines last : List (List ℕ))
+    → keptIf v first (lines ++ last) ≡ keptIf v first lines ++ last
 keeps-last Verdict.Passed first lines last = refl
 keeps-last (Verdict.Refused cause) first lines last = refl
 
