@@ -1,4 +1,4 @@
--- A design as 14 numbers: kind, w, q, g, alpha, m, then a and b of each of the four pairs.
+-- A design as 14 numbers: kind, w, q, g, alpha, m, then a and b of each of the four pairs. And states of readings as they come in.
 use mathlib.Core.List.{List, [], _∷_}
 use Prim.Native.Nat.{ℕ}
 use lib.ListN.{getD}
@@ -8,6 +8,8 @@ use Rattle.design.specs.declared.Design.{Design}
 use Rattle.design.specs.Cut.{noPair}
 use Rattle.reading.specs.declared.Reading.{Reading}
 use Rattle.reading.specs.ReadLine.{Session, session}
+use Rattle.record_reading.specs.declared.HexReading.{HexReading}
+use Rattle.record_reading.specs.ReadRecord.{HexSession, hexSession}
 
 -- The pair whose a and b stand at these places
 abbrev pub pairFrom : List ℕ → ℕ → ℕ → Pair
@@ -44,3 +46,14 @@ stateOf numbers taken = record { design = designOf numbers; taken = taken }
 -- A reading as it comes in: its state, and the tables that are lent
 abbrev pub sessionOf : List ℕ → ℕ → List ℕ → List ℤ → Session
 sessionOf numbers taken initial offsets = session (stateOf numbers taken) initial offsets
+
+-- The state of a reading of records as it comes in: how many are taken, and the two bytes that are held; and the two bytes of a state
+abbrev pub hexStateOf : ℕ → List ℕ → HexReading
+hexStateOf taken held = record { taken = taken; first = getD held 0 0; second = getD held 1 0 }
+
+abbrev pub heldIn : HexReading → List ℕ
+heldIn state = state .first ∷ state .second ∷ []
+
+-- A reading of records as it comes in
+abbrev pub hexSessionOf : ℕ → List ℕ → List ℕ → List ℤ → HexSession
+hexSessionOf taken held initial offsets = hexSession (hexStateOf taken held) initial offsets

@@ -17,6 +17,7 @@ ghost use Rattle.exports.specs.Behind.{behind, placeAfter, firstAfter, c
 
 mod design_numbers;
 mod line_calls;
+mod record_calls;
 
 use checking::Checked;
 use checking::check;
