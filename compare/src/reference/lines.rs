@@ -1,5 +1,9 @@
 //! "Bits, lines": a set stored as lines of hexadecimal, one frame a line.
 
+use super::bytes::{
+    initial_bytes, initial_entry, last_byte, offset_bytes, offset_entry, read_digits, sum,
+    write_digits,
+};
 use super::design::{Design, Legal};
 use super::refusal;
 
@@ -17,11 +21,11 @@ impl Frame {
         }
     }
 
-    /// A frame of the given bytes and the last byte, "such that all bytes sum to 0 mod 256".
+    /// A frame of the given bytes and the last byte.
     fn sealed(body: &[u8]) -> Frame {
         let mut frame = Frame::empty();
         frame.bytes[..body.len()].copy_from_slice(body);
-        frame.bytes[body.len()] = sum(body).wrapping_neg();
+        frame.bytes[body.len()] = last_byte(body);
         frame.length = body.len() + 1;
         frame
     }
@@ -37,14 +41,8 @@ impl Frame {
             return Err(refusal::LINE);
         }
         let mut frame = Frame::empty();
-        let mut all = 0;
-        for (byte, digits) in frame.bytes.iter_mut().zip(line.chunks_exact(2)) {
-            let [high, low] = [digits[0], digits[1]].map(|digit| VALUES[usize::from(digit)]);
-            *byte = high << 4 | low & 15;
-            all |= high | low;
-        }
         frame.length = line.len() / 2;
-        if all == OTHER || sum(frame.bytes()) != 0 {
+        if !read_digits(line, &mut frame.bytes) || sum(frame.bytes()) != 0 {
             return Err(refusal::LINE);
         }
         Ok(frame)
@@ -54,32 +52,9 @@ impl Frame {
     fn to_line(&self, line: &mut [u8]) -> Result<usize, u8> {
         let length = 2 * self.length;
         let line = line.get_mut(..length).ok_or(refusal::OUTPUT)?;
-        for (digits, &byte) in line.chunks_exact_mut(2).zip(self.bytes()) {
-            digits[0] = DIGITS[usize::from(byte >> 4)];
-            digits[1] = DIGITS[usize::from(byte & 15)];
-        }
+        write_digits(self.bytes(), line);
         Ok(length)
     }
-}
-
-const DIGITS: &[u8; 16] = b"0123456789ABCDEF";
-
-/// Stands for a character that is no digit; a digit leaves the high bits 0.
-const OTHER: u8 = 255;
-
-/// The value of each character.
-const VALUES: [u8; 256] = {
-    let mut values = [OTHER; 256];
-    let mut value = 0;
-    while value < DIGITS.len() {
-        values[DIGITS[value] as usize] = value as u8;
-        value += 1;
-    }
-    values
-};
-
-fn sum(bytes: &[u8]) -> u8 {
-    bytes.iter().fold(0, |sum, &byte| sum.wrapping_add(byte))
 }
 
 /// What the line with a certain number holds.
@@ -165,19 +140,14 @@ fn design_frame(d: &Design, m: usize) -> Frame {
 
 /// 02: index (2 bytes), initial entry (3 bytes). Refusal 18: the entry does not fit.
 fn initial_frame(index: usize, entry: u32) -> Result<Frame, u8> {
-    let [0, e2, e1, e0] = entry.to_be_bytes() else {
-        return Err(refusal::ENTRY);
-    };
+    let [e2, e1, e0] = initial_bytes(entry)?;
     let [i1, i0] = (index as u16).to_be_bytes();
     Ok(Frame::sealed(&[2, i1, i0, e2, e1, e0]))
 }
 
 /// 03: table number (1), index (2), offset (3, two's complement). Refusal 18: it does not fit.
 fn offset_frame(table: usize, index: usize, offset: i32) -> Result<Frame, u8> {
-    if !(-(1 << 23)..1 << 23).contains(&offset) {
-        return Err(refusal::ENTRY);
-    }
-    let [_, e2, e1, e0] = offset.to_be_bytes();
+    let [e2, e1, e0] = offset_bytes(offset)?;
     let [i1, i0] = (index as u16).to_be_bytes();
     Ok(Frame::sealed(&[3, table as u8, i1, i0, e2, e1, e0]))
 }
@@ -227,7 +197,7 @@ fn read_entry(due: Option<Due>, bytes: &[u8]) -> Result<Option<Entry>, u8> {
         (Some(Due::Initial { index }), &[2, i1, i0, e2, e1, e0, _])
             if usize::from(u16::from_be_bytes([i1, i0])) == index =>
         {
-            let entry = u32::from_be_bytes([0, e2, e1, e0]);
+            let entry = initial_entry([e2, e1, e0]);
             Ok(Some(Entry::Initial { index, entry }))
         }
         (
@@ -238,8 +208,7 @@ fn read_entry(due: Option<Due>, bytes: &[u8]) -> Result<Option<Entry>, u8> {
             }),
             &[3, number, i1, i0, e2, e1, e0, _],
         ) if usize::from(number) == table && usize::from(u16::from_be_bytes([i1, i0])) == index => {
-            // The shift back down carries the sign of the 3 bytes.
-            let entry = i32::from_be_bytes([e2, e1, e0, 0]) >> 8;
+            let entry = offset_entry([e2, e1, e0]);
             Ok(Some(Entry::Offset { place, entry }))
         }
         (Some(Due::End { before }), &[4, n1, n0, _])

@@ -9,6 +9,7 @@
 
 pub use super::{Int, Signed};
 
+mod bytes;
 mod check;
 mod count;
 mod design;
