@@ -1,4 +1,4 @@
-//! Lines put together by hand, sound ones of any bytes.
+//! Lines and records put together by hand, sound ones of any bytes.
 
 use crate::wide::reference::Design;
 
@@ -16,4 +16,11 @@ pub fn design_line(d: &Design, pairs: usize) -> Vec<u8> {
     let pairs = d.pairs.iter().cycle().take(pairs);
     let numbers = numbers.into_iter().chain(pairs.flat_map(|&(a, b)| [a, b]));
     sealed(&numbers.map(|number| number as u8).collect::<Vec<_>>())
+}
+
+/// A record of at most 255 data bytes.
+pub fn record(address: u16, kind: u8, data: &[u8]) -> Vec<u8> {
+    let [a1, a0] = address.to_be_bytes();
+    let body = [&[data.len() as u8, a1, a0, kind], data].concat();
+    [b":", &sealed(&body)[..]].concat()
 }

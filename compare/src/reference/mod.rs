@@ -1,4 +1,5 @@
-//! Document 01: multipartite tables for reciprocal, root and reciprocal root; and request A1.
+//! Document 01: multipartite tables for reciprocal, root and reciprocal root; and requests A1 and
+//! A2.
 //!
 //! Names are the document's: kind, w, q, g, alpha, m, a, b, P, hi, lo, budget. `Int` is the type
 //! of every intermediate product, `Signed` that of sums; both come from the module that includes this
@@ -17,6 +18,7 @@ mod evaluate;
 mod fill;
 mod function;
 mod lines;
+mod records;
 pub mod refusal;
 mod report;
 mod slopes;
@@ -30,6 +32,7 @@ pub use evaluate::{evaluate, evaluate_batch, sum};
 pub use fill::fill;
 pub use function::value;
 pub use lines::{write_line, Reading};
+pub use records::{write_record, HexReading};
 pub use report::report;
 pub use slopes::budget;
 

@@ -1,4 +1,4 @@
-//! The numbers of the table "What is turned down, by place".
+//! The numbers of the table "What is turned down, by place", and those of request A2.
 
 pub const KIND: u8 = 1;
 pub const W: u8 = 2;
@@ -19,3 +19,6 @@ pub const NOT_DUE: u8 = 16;
 pub const STATE: u8 = 17;
 pub const ENTRY: u8 = 18;
 pub const PAST_SET: u8 = 19;
+pub const ADDRESSES: u8 = 20;
+pub const RECORD: u8 = 21;
+pub const RECORD_NOT_DUE: u8 = 22;

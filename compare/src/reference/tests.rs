@@ -1,7 +1,9 @@
-//! The document's examples, starred or not, and its traps; then those of request A1.
+//! The document's examples, starred or not, and its traps; then those of requests A1 and A2.
 
+use super::design::Legal;
 use super::function::Function;
 use super::*;
+use crate::frames::record;
 use crate::random::{Random, Tables};
 use crate::tables::{lone_class, lone_word};
 
@@ -604,4 +606,300 @@ fn counts_and_verdicts_agree() {
         }
     }
     assert!(verdicts.iter().all(|&times| times > 500), "{verdicts:?}");
+}
+
+/// The first two, the last data record and the end record of G filled, by their numbers.
+const RECORDS: [(usize, &str); 4] = [
+    (0, ":10000000000FD2000F59000EE7000E7B000E160005"),
+    (1, ":100010000DB6000D5B000D04000CB2000C64000C6A"),
+    (17, ":1001100006000002FFFFFDFFFFF9FFFFF5FFFFF103"),
+    (18, ":00000001FF"),
+];
+
+/// G's 96 entries take 288 bytes, which fill 18 records.
+#[test]
+fn written_records() {
+    let d = example();
+    let (initial, offsets) = filled(&d);
+    let mut text = [b'.'; 50];
+    for (number, record) in RECORDS {
+        text.fill(b'.');
+        let length = write_record(&d, &initial, &offsets, number, &mut text).unwrap();
+        assert_eq!(&text[..length], record.as_bytes());
+        assert!(text[length..].iter().all(|&character| character == b'.'));
+    }
+    for number in [19, 20, usize::MAX] {
+        let answer = write_record(&d, &initial, &offsets, number, &mut []);
+        assert_eq!(answer, Err(19));
+    }
+    for (number, length) in [(0, 43), (17, 43), (18, 11)] {
+        let mut write = |room| write_record(&d, &initial, &offsets, number, &mut text[..room]);
+        assert_eq!(write(length - 1), Err(14));
+        assert_eq!(write(length), Ok(length));
+    }
+    assert_eq!(write_record(&d, &initial[..31], &[], 99, &mut []), Err(10));
+}
+
+/// 20 entries take 60 bytes: the fourth record has 12 of them.
+#[test]
+fn shorter_last_record() {
+    let d = Design {
+        kind: 0,
+        w: 6,
+        q: 6,
+        g: 2,
+        alpha: 2,
+        m: 4,
+        pairs: [(1, 1); 4],
+    };
+    let (initial, offsets) = ([1, 2, 3, 0xABCDEF], [-1; 16]);
+    let mut text = [0; 43];
+    for (number, record) in [
+        (0, ":10000000000001000002000003ABCDEFFFFFFFFF87"),
+        (3, ":0C003000FFFFFFFFFFFFFFFFFFFFFFFFD0"),
+        (4, ":00000001FF"),
+    ] {
+        let length = write_record(&d, &initial, &offsets, number, &mut text).unwrap();
+        assert_eq!(&text[..length], record.as_bytes());
+    }
+    assert_eq!(write_record(&d, &initial, &offsets, 5, &mut text), Err(19));
+}
+
+/// Entry 5 has a byte in record 0 and two in record 1, offset 58 two in record 16 and one in
+/// record 17, and offset 59 lies in record 17 alone.
+#[test]
+fn cut_entries_that_do_not_fit() {
+    let d = example();
+    let (initial, offsets) = filled(&d);
+    let refused = |initial: &[u32], offsets: &[i32]| -> Vec<usize> {
+        let write = |number| write_record(&d, initial, offsets, number, &mut [0; 43]);
+        (0..19).filter(|&number| write(number) == Err(18)).collect()
+    };
+    assert_eq!(refused(&initial, &offsets), []);
+    for (entry, records) in [(1 << 24, vec![0, 1]), ((1 << 24) - 1, vec![])] {
+        let mut initial = initial.clone();
+        initial[5] = entry;
+        assert_eq!(refused(&initial, &offsets), records);
+    }
+    for (place, offset, records) in [
+        (58, 1 << 23, vec![16, 17]),
+        (58, -(1 << 23) - 1, vec![16, 17]),
+        (58, -(1 << 23), vec![]),
+        (59, 1 << 23, vec![17]),
+        (59, (1 << 23) - 1, vec![]),
+        (64, 1 << 23, vec![]),
+    ] {
+        let mut offsets = offsets.clone();
+        offsets[place] = offset;
+        assert_eq!(refused(&initial, &offsets), records);
+    }
+}
+
+/// A record stores the entries whose third byte it brings, and holds what is cut. Initial entries
+/// 5 and 10 of G are cut by the ends of its first two records.
+#[test]
+fn cut_entries_are_held() {
+    let d = example();
+    let (filled_initial, filled_offsets) = filled(&d);
+    let (mut initial, mut offsets) = (vec![7; 33], vec![7; 65]);
+    let mut state = HexReading::default();
+    let held = [[0, 0], [0, 12], [0, 0], [0, 0]];
+    for (number, stored) in [5, 10, 16, 21].into_iter().enumerate() {
+        let mut text = [0; 43];
+        let written = write_record(&d, &filled_initial, &filled_offsets, number, &mut text);
+        assert_eq!(written, Ok(43));
+        let (answer, next) = state.read_record(&d, &mut initial, &mut offsets, &text);
+        let (taken, held) = (number + 1, held[number]);
+        assert_eq!((answer, next), (Ok(()), HexReading { taken, held }));
+        assert_eq!(initial[..stored], filled_initial[..stored]);
+        assert!(initial[stored..].iter().all(|&entry| entry == 7));
+        state = next;
+    }
+    assert_eq!(offsets, vec![7; 65]);
+}
+
+/// Whole sets written and read back, with what lies beyond them.
+#[test]
+fn records_read_back() {
+    for d in (0..5).map(three_tables) {
+        let (initial, offsets) = filled(&d);
+        let (mut read_initial, mut read_offsets) = (vec![5; 33], vec![5; 145]);
+        let mut state = HexReading::default();
+        while !state.is_finished(&d) {
+            let mut text = [0; 43];
+            let length = write_record(&d, &initial, &offsets, state.taken, &mut text).unwrap();
+            let text = &text[..length];
+            let (answer, next) = state.read_record(&d, &mut read_initial, &mut read_offsets, text);
+            assert_eq!((answer, next.taken), (Ok(()), state.taken + 1));
+            state = next;
+        }
+        // 176 entries take 528 bytes.
+        let (taken, held) = (33 + 1, [0, 0]);
+        assert_eq!(state, HexReading { taken, held });
+        assert_eq!((&read_initial[..32], read_initial[32]), (&initial[..32], 5));
+        assert_eq!(
+            (&read_offsets[..144], read_offsets[144]),
+            (&offsets[..144], 5)
+        );
+    }
+}
+
+/// The refusal of a record, 0 if it is taken. A refused one changes nothing.
+fn refused_record(d: &Design, taken: usize, held: [u8; 2], record: &[u8]) -> u8 {
+    let state = HexReading { taken, held };
+    let (mut initial, mut offsets) = (vec![5; 32], vec![5; 64]);
+    let (answer, next) = state.read_record(d, &mut initial, &mut offsets, record);
+    if answer.is_err() {
+        assert_eq!((next, initial, offsets), (state, vec![5; 32], vec![5; 64]));
+    }
+    answer.err().unwrap_or(0)
+}
+
+/// The refusal of a record where the first one of G is due.
+fn refused_first(text: &str) -> u8 {
+    refused_record(&example(), 0, [0, 0], text.as_bytes())
+}
+
+#[test]
+fn records_that_are_not_sound() {
+    let first = RECORDS[0].1;
+    assert_eq!(refused_first(first), 0);
+    for text in [
+        "",
+        ":",
+        ":0",
+        ":00",
+        ":00000000",
+        &first[1..],
+        &first[..42],
+        &first[..41],
+        &first.replace(':', ";"),
+        &first.replace("FD2", "fd2"),
+        &first.replace("FD2", "FG2"),
+        &first.replace("FD2", "FD3"),
+        &first.replace("05", "06"),
+        &format!("{first}\r"),
+        &format!("{first}0"),
+        &format!("{first}00"),
+        &format!(" {first}"),
+        // Another length byte, with its sum.
+        &first.replace(":10", ":0F").replace("05", "06"),
+        &first.replace(":10", ":11").replace("05", "04"),
+        &(":FF".to_string() + &"0".repeat(516) + "02"),
+        &(":FF".to_string() + &"0".repeat(516) + "0100"),
+    ] {
+        assert_eq!(refused_first(text), 21, "{text}");
+    }
+}
+
+#[test]
+fn sound_records_that_are_not_due() {
+    let [first, second, last, end] = RECORDS.map(|(_, text)| text);
+    let changed = |head| first.replace(":10000000", head).replace("05", "04");
+    for text in [
+        second,
+        last,
+        end,
+        ":0000000000",
+        &changed(":10000001"),
+        &changed(":10000100"),
+        &changed(":10010000"),
+        &(":FF".to_string() + &"0".repeat(516) + "01"),
+    ] {
+        assert_eq!(refused_first(text), 22, "{text}");
+    }
+}
+
+/// Well-formed records of every length: the one that is due has 16 bytes.
+#[test]
+fn records_of_every_length() {
+    for length in 0..=255 {
+        let record = record(0, 0, &vec![1; length]);
+        let refusal = if length == 16 { 0 } else { 22 };
+        assert_eq!(refused_record(&example(), 0, [0, 0], &record), refusal);
+    }
+}
+
+/// After r records of G (16·r mod 3) bytes are held, none after the last; nothing is due after the
+/// end record.
+#[test]
+fn states_of_records() {
+    let d = example();
+    let refused = |taken, held, text: &str| refused_record(&d, taken, held, text.as_bytes());
+    for (taken, held) in [
+        (0, [1, 0]),
+        (0, [0, 1]),
+        (1, [0, 1]),
+        (1, [255, 1]),
+        (3, [1, 0]),
+        (18, [1, 0]),
+        (18, [0, 1]),
+        (19, [0, 1]),
+        (20, [0, 0]),
+        (usize::MAX, [0, 0]),
+        (1 << 60, [0, 0]),
+    ] {
+        assert_eq!(refused(taken, held, ""), 17, "{taken} {held:?}");
+        assert!(!HexReading { taken, held }.is_finished(&d));
+    }
+    for (taken, held) in [(0, [0, 0]), (1, [255, 0]), (2, [255, 255]), (18, [0, 0])] {
+        assert_eq!(refused(taken, held, ""), 21, "{taken} {held:?}");
+        assert!(!HexReading { taken, held }.is_finished(&d));
+    }
+    let [first, second, last, end] = RECORDS.map(|(_, text)| text);
+    assert_eq!(refused(1, [255, 0], second), 0);
+    assert_eq!(refused(1, [0, 0], first), 22);
+    assert_eq!(refused(17, [0, 255], last), 0);
+    assert_eq!(refused(17, [0, 255], end), 22);
+    assert_eq!(refused(18, [0, 0], last), 22);
+    assert_eq!(refused(18, [0, 0], end), 0);
+    assert_eq!(refused(19, [0, 0], end), 22);
+    assert_eq!(refused(19, [0, 0], ""), 21);
+    let (taken, held) = (19, [0, 0]);
+    assert!(HexReading { taken, held }.is_finished(&d));
+    assert!(!HexReading { taken, held }.is_finished(&with_pair(3, 2)));
+}
+
+/// The design comes first, then the tables, then the state, then the record.
+#[test]
+fn order_of_checks_on_records() {
+    let d = example();
+    let state = HexReading {
+        taken: 20,
+        held: [0, 0],
+    };
+    let read = |d: &Design, initial, offsets| {
+        let (mut initial, mut offsets) = (vec![5; initial], vec![5; offsets]);
+        state.read_record(d, &mut initial, &mut offsets, b"").0
+    };
+    assert_eq!(read(&Design { kind: 5, ..d }, 0, 0), Err(1));
+    assert_eq!(read(&with_pair(3, 2), 0, 0), Err(9));
+    assert_eq!(read(&d, 31, 64), Err(10));
+    assert_eq!(read(&d, 32, 63), Err(10));
+    assert_eq!(read(&d, 32, 64), Err(17));
+}
+
+/// "never so within 01's limits, where a set takes at most 61,440": 20 needs 21,846 entries.
+#[test]
+fn addresses_of_two_bytes() {
+    let d = Design {
+        w: 16,
+        q: 16,
+        alpha: 13,
+        m: 3,
+        pairs: [(11, 1); 4],
+        ..example()
+    };
+    let mut legal = Legal::new(&d).unwrap();
+    for (entries, answer) in [(20480, Ok(())), (21845, Ok(())), (21846, Err(20))] {
+        legal.offsets = entries - legal.initial();
+        assert_eq!(legal.addressable(), answer);
+    }
+    let (initial, offsets) = (vec![0; 8192], vec![0; 12288]);
+    let mut text = [0; 43];
+    let mut write = |number| write_record(&d, &initial, &offsets, number, &mut text);
+    assert_eq!(
+        [write(3839), write(3840), write(3841)],
+        [Ok(43), Ok(11), Err(19)]
+    );
 }
