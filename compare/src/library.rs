@@ -1,6 +1,6 @@
 //! The C boundary: the proved library's functions under the signatures of the reference.
 
-use crate::wide::reference::{Checked, Counts, Design};
+use crate::wide::reference::{Checked, Counts, Design, HexReading};
 
 mod c {
     extern "C" {
@@ -82,6 +82,33 @@ mod c {
             line_len: usize,
         ) -> u8;
         pub fn dorykleth_is_finished(design: *const u32, taken: usize) -> bool;
+        pub fn dorykleth_write_record(
+            design: *const u32,
+            initial: *const u32,
+            initial_len: usize,
+            offsets: *const i32,
+            offsets_len: usize,
+            record_number: usize,
+            record: *mut u8,
+            record_len: usize,
+            length: *mut usize,
+        ) -> u8;
+        pub fn dorykleth_read_record(
+            design: *const u32,
+            taken: *mut usize,
+            held: *mut u8,
+            initial: *mut u32,
+            initial_len: usize,
+            offsets: *mut i32,
+            offsets_len: usize,
+            record: *const u8,
+            record_len: usize,
+        ) -> u8;
+        pub fn dorykleth_records_finished(
+            design: *const u32,
+            taken: usize,
+            held: *const u8,
+        ) -> bool;
         pub fn dorykleth_report(line: *const u8, line_len: usize, text: *mut u8) -> usize;
     }
 }
@@ -344,6 +371,63 @@ impl Reading {
         // SAFETY: 14 numbers to read.
         unsafe { c::dorykleth_is_finished(self.numbers.as_ptr(), self.taken) }
     }
+}
+
+pub fn write_record(
+    d: &Design,
+    initial: &[u32],
+    offsets: &[i32],
+    number: usize,
+    record: &mut [u8],
+) -> Result<usize, u8> {
+    let mut length = UNTOUCHED as usize;
+    // SAFETY: 14 numbers and two slices with their lengths to read; the record, lent alone and
+    // with its length, and a live variable to write.
+    let refusal = unsafe {
+        c::dorykleth_write_record(
+            numbers(d).as_ptr(),
+            initial.as_ptr(),
+            initial.len(),
+            offsets.as_ptr(),
+            offsets.len(),
+            number,
+            record.as_mut_ptr(),
+            record.len(),
+            &mut length,
+        )
+    };
+    settled(refusal, length, UNTOUCHED as usize)
+}
+
+/// Returns the state that the call leaves.
+pub fn read_record(
+    mut state: HexReading,
+    d: &Design,
+    initial: &mut [u32],
+    offsets: &mut [i32],
+    record: &[u8],
+) -> (Result<(), u8>, HexReading) {
+    // SAFETY: 14 numbers and a slice with its length to read; a live variable, two bytes and two
+    // slices, each lent alone and with its length, to change.
+    let refusal = unsafe {
+        c::dorykleth_read_record(
+            numbers(d).as_ptr(),
+            &mut state.taken,
+            state.held.as_mut_ptr(),
+            initial.as_mut_ptr(),
+            initial.len(),
+            offsets.as_mut_ptr(),
+            offsets.len(),
+            record.as_ptr(),
+            record.len(),
+        )
+    };
+    (settled(refusal, (), ()), state)
+}
+
+pub fn records_finished(state: HexReading, d: &Design) -> bool {
+    // SAFETY: 14 numbers and two bytes to read.
+    unsafe { c::dorykleth_records_finished(numbers(d).as_ptr(), state.taken, state.held.as_ptr()) }
 }
 
 pub fn report(line: &[u8]) -> String {
