@@ -6,11 +6,12 @@ use std::process::exit;
 use super::tally::Tally;
 use crate::library;
 use crate::random::Tables;
-use crate::wide::reference::{self, Checked, Counts, Design, Reading};
+use crate::wide::reference::{self, Checked, Counts, Design, HexReading, Reading};
 
 type Fill = fn(&Design, &mut [u32], &mut [i32]) -> Result<(), u8>;
 type Batch = fn(&Design, &[u32], &[i32], &[u32], &mut [u32]) -> Result<usize, (u8, usize)>;
 type Write = fn(&Design, &[u32], &[i32], usize, &mut [u8]) -> Result<usize, u8>;
+type Read = fn(HexReading, &Design, &mut [u32], &mut [i32], &[u8]) -> (Result<(), u8>, HexReading);
 
 /// What a call leaves: its answer and the whole contents of the buffers lent for writing.
 #[derive(PartialEq)]
@@ -18,7 +19,7 @@ struct Outcome<A> {
     answer: A,
     tables: Tables,
     output: Vec<u32>,
-    line: Vec<u8>,
+    text: Vec<u8>,
 }
 
 impl<A: PartialEq + Debug> Outcome<A> {
@@ -27,7 +28,7 @@ impl<A: PartialEq + Debug> Outcome<A> {
             answer,
             tables: Tables::default(),
             output: Vec::new(),
-            line: Vec::new(),
+            text: Vec::new(),
         }
     }
 
@@ -49,7 +50,7 @@ impl<A: PartialEq + Debug> Outcome<A> {
             &library.tables.offsets,
         );
         difference(&mut text, "output", &self.output, &library.output);
-        difference(&mut text, "line", &self.line, &library.line);
+        difference(&mut text, "text", &self.text, &library.text);
         text
     }
 }
@@ -268,24 +269,48 @@ impl Calls {
         number: usize,
         before: &[u8],
     ) -> Result<Vec<u8>, u8> {
-        let run = |write: Write| {
-            let mut line = before.to_vec();
-            let answer = write(d, &tables.initial, &tables.offsets, number, &mut line);
+        let both = [reference::write_line, library::write_line];
+        self.written("write_line", both, (d, tables), number, before)
+    }
+
+    /// Returns the written record.
+    pub fn write_record(
+        &mut self,
+        d: &Design,
+        tables: &Tables,
+        number: usize,
+        before: &[u8],
+    ) -> Result<Vec<u8>, u8> {
+        let both = [reference::write_record, library::write_record];
+        self.written("write_record", both, (d, tables), number, before)
+    }
+
+    /// Returns what both versions of a writer put at the start of the buffer.
+    fn written(
+        &mut self,
+        call: &'static str,
+        both: [Write; 2],
+        (d, tables): (&Design, &Tables),
+        number: usize,
+        before: &[u8],
+    ) -> Result<Vec<u8>, u8> {
+        let [reference, library] = both.map(|write| {
+            let mut text = before.to_vec();
+            let answer = write(d, &tables.initial, &tables.offsets, number, &mut text);
             Outcome {
-                line,
+                text,
                 ..Outcome::of(answer)
             }
-        };
-        let (reference, library) = (run(reference::write_line), run(library::write_line));
+        });
         let refusal = refusal(&reference.answer);
         let shown = || {
-            let rest = format!("line number {number}\n{}", shown("line", before));
+            let rest = format!("number {number}\n{}", shown("buffer", before));
             input(d, tables, rest)
         };
-        self.same("write_line", refusal, (&reference, &library), shown);
+        self.same(call, refusal, (&reference, &library), shown);
         reference
             .answer
-            .map(|length| reference.line[..length].to_vec())
+            .map(|length| reference.text[..length].to_vec())
     }
 
     /// Returns the answer with the state and the tables that are left.
@@ -327,6 +352,46 @@ impl Calls {
         let state = Reading { design, taken };
         self.finished(state);
         (answer, state, reference.tables)
+    }
+
+    /// Returns the answer with the state and the tables that are left.
+    pub fn read_record(
+        &mut self,
+        d: &Design,
+        state: HexReading,
+        before: &Tables,
+        record: &[u8],
+    ) -> (Result<(), u8>, HexReading, Tables) {
+        let both: [Read; 2] = [HexReading::read_record, library::read_record];
+        let [reference, library] = both.map(|read| {
+            let mut tables = before.clone();
+            let answer = read(state, d, &mut tables.initial, &mut tables.offsets, record);
+            Outcome {
+                tables,
+                ..Outcome::of(answer)
+            }
+        });
+        let (answer, next) = reference.answer;
+        let refusal = refusal(&answer);
+        let shown = || {
+            let text = String::from_utf8_lossy(record);
+            input(d, before, format!("{state:?}\nrecord {text:?}"))
+        };
+        self.same("read_record", refusal, (&reference, &library), shown);
+        self.records_finished(d, next);
+        (answer, next, reference.tables)
+    }
+
+    pub fn records_finished(&mut self, d: &Design, state: HexReading) {
+        let reference = state.is_finished(d);
+        let library = library::records_finished(state, d);
+        let shown = || format!("{d:?}\n{state:?}\n");
+        let _ = self.same_answer("records_finished", (Ok(reference), Ok(library)), shown);
+        self.tally.note(if reference {
+            "records_finished: yes"
+        } else {
+            "records_finished: no"
+        });
     }
 
     pub fn finished(&mut self, state: Reading) {

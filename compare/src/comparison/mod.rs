@@ -3,7 +3,9 @@
 mod calls;
 mod counts;
 mod lines;
+mod records;
 mod sets;
+mod spoilt_records;
 mod tally;
 
 use std::time::Instant;
@@ -19,7 +21,7 @@ pub struct Comparison {
 type Part = fn(&mut Comparison);
 
 /// The parts of the comparison, each with a seed of its own.
-const PARTS: [(&str, Part); 16] = [
+const PARTS: [(&str, Part); 23] = [
     ("values", Comparison::values),
     ("designs", Comparison::designs),
     ("fills", Comparison::fills),
@@ -39,6 +41,13 @@ const PARTS: [(&str, Part); 16] = [
     ("single words counted", Comparison::single_words),
     ("exact halves", Comparison::exact_halves),
     ("words next to exact", Comparison::words_next_to_exact),
+    ("sets as records", Comparison::sets_as_records),
+    ("written records", Comparison::written_records),
+    ("entries that do not fit", Comparison::misfits),
+    ("read records", Comparison::read_records),
+    ("spoilt records", Comparison::spoilt_records),
+    ("records out of order", Comparison::records_out_of_order),
+    ("records in every state", Comparison::records_in_every_state),
 ];
 
 /// Ends the program at the first difference. Returns whether all that should come up did.
