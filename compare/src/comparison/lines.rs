@@ -5,8 +5,12 @@ use crate::frames::{design_line, sealed};
 use crate::random::{lengths, Given, Tables};
 use crate::wide::reference::{Design, Reading};
 
+/// One past the greatest initial entry and the greatest offset that fit 3 bytes.
+pub const END: u32 = 1 << 24;
+pub const HALF: i32 = 1 << 23;
+
 /// A frame's body from its line, if the line is sound enough for that.
-fn body(line: &[u8]) -> Option<Vec<u8>> {
+pub fn body(line: &[u8]) -> Option<Vec<u8>> {
     let text = std::str::from_utf8(line).ok()?;
     let byte = |place| u8::from_str_radix(text.get(place..place + 2)?, 16).ok();
     let bytes: Option<Vec<u8>> = (0..text.len() / 2).map(|n| byte(2 * n)).collect();
@@ -136,8 +140,6 @@ impl Comparison {
             1 => self.random.filled(d),
             _ => self.random.plausible(d),
         };
-        const END: u32 = 1 << 24;
-        const HALF: i32 = 1 << 23;
         let share = self.random.pick(&[1, 2, 8]);
         for entry in &mut tables.initial {
             if self.random.once_in(share) {
@@ -247,20 +249,27 @@ impl Comparison {
         if line.is_empty() {
             return line;
         }
-        let place = self.random.place(line.len());
         match self.random.within(0..=12) {
-            0 => line[place] = self.random.pick(b"0123456789ABCDEF"),
-            1 => line.make_ascii_lowercase(),
-            2 => drop(line.pop()),
-            3 => line.clear(),
-            4 => line[place] = self.random.pick(b"G@/: \r\n\0a\xff`fg"),
-            5 => line.push(self.random.pick(b"0\r\n ")),
-            6 => line.extend_from_slice(b"00"),
+            way @ 0..=6 => self.spoil(&mut line, way),
             7 => line.extend(std::iter::repeat_n(b'0', 34 - line.len().min(34))),
             8 => line.extend(std::iter::repeat_n(b'0', 32 - line.len().min(32))),
             _ => return self.damaged_and_mended(&line),
         }
         line
+    }
+
+    /// Changes a line or a record, which is not empty, in one of seven ways.
+    pub fn spoil(&mut self, text: &mut Vec<u8>, way: u32) {
+        let place = self.random.place(text.len());
+        match way {
+            0 => text[place] = self.random.pick(b"0123456789ABCDEF"),
+            1 => text.make_ascii_lowercase(),
+            2 => drop(text.pop()),
+            3 => text.clear(),
+            4 => text[place] = self.random.pick(b"G@/: \r\n\0a\xff`fg"),
+            5 => text.push(self.random.pick(b"0\r\n ")),
+            _ => text.extend_from_slice(b"00"),
+        }
     }
 
     /// A byte of the body changed, added or taken away, and the sum made right again.

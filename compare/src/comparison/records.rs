@@ -1,5 +1,6 @@
 //! Intel HEX records written and read.
 
+use super::lines::{body, END, HALF};
 use super::Comparison;
 use crate::frames::record;
 use crate::random::{largest, lengths, Tables, LARGEST};
@@ -8,11 +9,7 @@ use crate::wide::reference::{Design, HexReading};
 /// A buffer with room for every record of a set.
 const ROOM: [u8; 44] = [b'.'; 44];
 
-/// One past the greatest initial entry and the greatest offset that fit 3 bytes.
-const END: u32 = 1 << 24;
-const HALF: i32 = 1 << 23;
-
-/// Numbers past every set. Those of some of their records' bytes are small modulo 2^16 or 2^64.
+/// Numbers past every set. 16 times some of them is small modulo 2^16 or 2^64.
 pub const HUGE: [usize; 7] = [
     1 << 12,
     1 << 16,
@@ -48,13 +45,14 @@ fn records_with(entry: usize) -> std::ops::RangeInclusive<usize> {
     3 * entry / 16..=(3 * entry + 2) / 16
 }
 
-/// The bytes of a sound record without the last one.
-pub fn body(text: &[u8]) -> Vec<u8> {
-    let digit = |character: u8| (character as char).to_digit(16).unwrap_or_default() as u8;
-    let pairs = text[1..text.len() - 2].chunks_exact(2);
-    pairs
-        .map(|pair| digit(pair[0]) << 4 | digit(pair[1]))
-        .collect()
+/// A sound record by its fields: address, type and data.
+pub fn fields(text: &[u8]) -> (u16, u8, Vec<u8>) {
+    match body(&text[1..]).as_deref() {
+        Some([_, a1, a0, kind, data @ ..]) => {
+            (u16::from_be_bytes([*a1, *a0]), *kind, data.to_vec())
+        }
+        _ => (0, 0, vec![]),
+    }
 }
 
 impl Comparison {
@@ -92,8 +90,9 @@ impl Comparison {
         let mut state = HexReading::default();
         self.calls.records_finished(d, state);
         for number in 0..records_of(d) {
-            let text = self.calls.write_record(d, &tables, number, &ROOM);
-            let text = text.unwrap_or_default();
+            let Ok(text) = self.calls.write_record(d, &tables, number, &ROOM) else {
+                return;
+            };
             if number < 40 && self.random.once_in(4) {
                 // What an accepted one stores is written over by the record that is due.
                 let damaged = self.damaged_record(text.clone());
@@ -346,33 +345,21 @@ impl Comparison {
             .collect()
     }
 
-    /// A record changed in one of many ways.
+    /// A record, which is not empty, changed in one of many ways.
     fn damaged_record(&mut self, mut text: Vec<u8>) -> Vec<u8> {
-        if text.is_empty() {
-            return text;
-        }
-        let place = self.random.place(text.len());
         match self.random.within(0..=13) {
-            0 => text[place] = self.random.pick(b"0123456789ABCDEF"),
-            1 => text.make_ascii_lowercase(),
-            2 => drop(text.pop()),
-            3 => text.clear(),
-            4 => text[place] = self.random.pick(b"G@/: \r\n\0a\xff`fg"),
-            5 => text.push(self.random.pick(b"0\r\n ")),
-            6 => text.extend_from_slice(b"00"),
+            way @ 0..=6 => self.spoil(&mut text, way),
             7 => drop(text.remove(0)),
             8 => text.insert(0, self.random.pick(b": 0")),
-            9 => text.truncate(place),
+            9 => text.truncate(self.random.place(text.len())),
             _ => return self.damaged_and_sealed(&text),
         }
         text
     }
 
-    /// A byte of a sound record changed, data of another length, and the sum made right again.
+    /// A sound record with another type, address or number of bytes.
     fn damaged_and_sealed(&mut self, text: &[u8]) -> Vec<u8> {
-        let body = body(text);
-        let (mut kind, mut data) = (body[3], body[4..].to_vec());
-        let mut address = u16::from_be_bytes([body[1], body[2]]);
+        let (mut address, mut kind, mut data) = fields(text);
         match self.random.within(0..=5) {
             0 => kind = self.random.pick(&[0, 1, 2, 3, 4, 5, 255]),
             1 => address = address.wrapping_add(self.random.pick(&[1, 16, 256, 0xFFF0, 0xFFFF])),

@@ -1,6 +1,7 @@
 //! Intel HEX records spoilt in every place, out of order and in every state.
 
-use super::records::{body, records_of, used_after, HUGE};
+use super::lines::body;
+use super::records::{fields, records_of, used_after, HUGE};
 use super::Comparison;
 use crate::frames::{record, sealed};
 use crate::random::{lengths, Tables};
@@ -104,7 +105,7 @@ impl Comparison {
 
     /// Every other byte in every place, with the sum made right again.
     fn spoilt_bytes(&mut self, given: &Given) {
-        let body = body(&given.text);
+        let body = body(&given.text[1..]).unwrap_or_default();
         for place in 0..body.len() {
             let spoilt = field(place, body.len() + 1);
             for byte in (0..=255).filter(|&byte| byte != body[place]) {
@@ -130,10 +131,9 @@ impl Comparison {
     /// Sound records of every number of bytes there is, where they are due but for that, each also
     /// with a spoilt character, with a spoilt last one and with one behind it; and one byte more.
     fn records_of_every_length(&mut self, given: &Given) {
-        let due = body(&given.text);
-        let address = u16::from_be_bytes([due[1], due[2]]);
-        for length in (0..=255).filter(|length| length + 4 != due.len()) {
-            let text = record(address, due[3], &self.data(length));
+        let (address, kind, data) = fields(&given.text);
+        for length in (0..=255).filter(|&length| length != data.len()) {
+            let text = record(address, kind, &self.data(length));
             self.read_as(given, &text, "sound with another length");
             let place = self.random.place(text.len());
             for place in [place, text.len() - 1] {
@@ -143,7 +143,7 @@ impl Comparison {
             }
             self.read_as(given, &[&text[..], b"\r"].concat(), "longer");
         }
-        let text = record(address, due[3], &[0; 256]);
+        let text = record(address, kind, &[0; 256]);
         self.read_as(given, &text, "of 256 bytes");
     }
 
