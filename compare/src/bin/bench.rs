@@ -7,7 +7,7 @@ use std::time::Instant;
 use compare::library;
 use compare::narrow::reference as rust;
 use compare::random::{is_admitted, lengths, Random, Tables};
-use compare::wide::reference::Design;
+use compare::wide::reference::{Design, HexReading};
 
 /// The sets that are timed: w 16, q 16, g 4, for each of the three forms of function the admitted
 /// design with 2 or 3 tables that has the fewest entries.
@@ -28,6 +28,9 @@ const fn design(kind: u32, alpha: u32, m: u32, pairs: [(u32, u32); 4]) -> Design
         pairs,
     }
 }
+
+/// Room for the longest record, and more than the longest line takes.
+const ROOM: usize = 43;
 
 const BATCH: usize = 1 << 20;
 const ROUNDS: usize = 51;
@@ -71,8 +74,17 @@ fn time_design(d: &Design) {
     print_ratios("count over check", count, check);
     print_row("fill", time_fill(&mut set));
     print_row("budget", time_budget(&set));
-    print_row("write a whole set, line by line", time_write(&set));
-    print_row("read a whole set, line by line", time_read(&mut set));
+    time_storage(&mut set);
+}
+
+/// Whole sets written and read, a call for each line or record.
+fn time_storage(set: &mut Set) {
+    let lines = time_write(set, &set.lines, library::write_line, rust::write_line);
+    print_row("write a whole set, line by line", lines);
+    print_row("read a whole set, line by line", time_read_lines(set));
+    let records = time_write(set, &set.records, library::write_record, rust::write_record);
+    print_row("write a whole set as records", records);
+    print_row("read a whole set from records", time_read_records(set));
 }
 
 /// Everything that is lent to the calls, written to once before it is timed.
@@ -83,7 +95,11 @@ struct Set {
     words: Vec<u32>,
     output: Vec<u32>,
     lines: Vec<Vec<u8>>,
+    records: Vec<Vec<u8>>,
 }
+
+/// A writer of the reference, of lines or of records.
+type Write = fn(&rust::Design, &[u32], &[i32], usize, &mut [u8]) -> Result<usize, u8>;
 
 impl Set {
     fn new(d: &Design) -> Set {
@@ -104,19 +120,23 @@ impl Set {
             words,
             output: vec![1; BATCH],
             lines: vec![],
+            records: vec![],
         };
-        set.lines = (0..initial + offsets + 2)
-            .map(|number| set.line(number))
-            .collect();
+        set.lines = set.written(rust::write_line);
+        set.records = set.written(rust::write_record);
         set
     }
 
-    fn line(&self, number: usize) -> Vec<u8> {
+    /// All lines or records of the set.
+    fn written(&self, write: Write) -> Vec<Vec<u8>> {
         let Tables { initial, offsets } = &self.tables;
-        let mut line = vec![0; 32];
-        let length = rust::write_line(&self.same, initial, offsets, number, &mut line);
-        line.truncate(length.expect("a line of the set"));
-        line
+        let text = |number| {
+            let mut text = vec![0; ROOM];
+            let length = write(&self.same, initial, offsets, number, &mut text).ok()?;
+            text.truncate(length);
+            Some(text)
+        };
+        (0..).map_while(text).collect()
     }
 }
 
@@ -244,32 +264,37 @@ fn time_budget(set: &Set) -> [f64; 2] {
     ])
 }
 
-fn time_write(set: &Set) -> [f64; 2] {
+/// A writer of both versions, of lines or of records, which are all written.
+fn time_write(
+    set: &Set,
+    written: &[Vec<u8>],
+    by_library: impl Fn(&Design, &[u32], &[i32], usize, &mut [u8]) -> Result<usize, u8>,
+    by_rust: impl Fn(&rust::Design, &[u32], &[i32], usize, &mut [u8]) -> Result<usize, u8>,
+) -> [f64; 2] {
     let Set {
         d,
         same,
         tables: Tables { initial, offsets },
-        lines,
         ..
     } = set;
-    let (mut left, mut right) = ([0; 32], [0; 32]);
+    let (mut left, mut right) = ([0; ROOM], [0; ROOM]);
     medians([
         &mut || {
-            for number in 0..lines.len() {
-                let line = black_box(&mut left);
-                let _ = black_box(library::write_line(d, initial, offsets, number, line));
+            for number in 0..written.len() {
+                let text = black_box(&mut left);
+                let _ = black_box(by_library(d, initial, offsets, number, text));
             }
         },
         &mut || {
-            for number in 0..lines.len() {
-                let line = black_box(&mut right);
-                let _ = black_box(rust::write_line(same, initial, offsets, number, line));
+            for number in 0..written.len() {
+                let text = black_box(&mut right);
+                let _ = black_box(by_rust(same, initial, offsets, number, text));
             }
         },
     ])
 }
 
-fn time_read(set: &mut Set) -> [f64; 2] {
+fn time_read_lines(set: &mut Set) -> [f64; 2] {
     let Set {
         d,
         same,
@@ -297,6 +322,35 @@ fn time_read(set: &mut Set) -> [f64; 2] {
                 (_, state) = black_box(state).read_line(initial, offsets, line);
             }
             assert!(state.is_finished());
+        },
+    ])
+}
+
+fn time_read_records(set: &mut Set) -> [f64; 2] {
+    let Set {
+        d,
+        same,
+        tables,
+        records,
+        ..
+    } = set;
+    let tables = RefCell::new(tables);
+    medians([
+        &mut || {
+            let Tables { initial, offsets } = &mut **tables.borrow_mut();
+            let mut state = HexReading::default();
+            for record in records.iter() {
+                (_, state) = library::read_record(black_box(state), d, initial, offsets, record);
+            }
+            assert!(library::records_finished(state, d));
+        },
+        &mut || {
+            let Tables { initial, offsets } = &mut **tables.borrow_mut();
+            let mut state = rust::HexReading::default();
+            for record in records.iter() {
+                (_, state) = black_box(state).read_record(same, initial, offsets, record);
+            }
+            assert!(state.is_finished(same));
         },
     ])
 }
