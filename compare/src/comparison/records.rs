@@ -1,6 +1,7 @@
 //! Intel HEX records written and read.
 
 use super::lines::{body, END, HALF};
+use super::sets::stayed;
 use super::Comparison;
 use crate::frames::record;
 use crate::random::{largest, lengths, Tables, LARGEST};
@@ -85,6 +86,7 @@ impl Comparison {
 
     fn set_as_records(&mut self, d: &Design) {
         let tables = self.fitting(d);
+        let before = tables.clone();
         let lent = (tables.initial.len(), tables.offsets.len());
         let mut read = self.random.tables(lent);
         let mut state = HexReading::default();
@@ -103,6 +105,7 @@ impl Comparison {
         let _ = self.calls.write_record(d, &tables, records_of(d), &ROOM);
         let text = self.any_record(d, state.taken);
         let _ = self.calls.read_record(d, state, &read, &text);
+        stayed(d, &tables, &before);
         self.note_restored(d, &tables, &read);
     }
 
@@ -124,7 +127,7 @@ impl Comparison {
     }
 
     /// A set whose entries fit, some at the limits of 3 bytes, with anything beyond it. An
-    /// admitted one is filled.
+    /// admitted one is filled but for these.
     fn fitting(&mut self, d: &Design) -> Tables {
         let mut tables = self.random.filled(d);
         let (initial, offsets) = lengths(d);

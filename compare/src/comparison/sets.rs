@@ -35,6 +35,14 @@ const fn design(numbers: [u32; 6], pairs: [(u32, u32); 4]) -> Design {
     }
 }
 
+/// Ends the program if tables lent for reading were changed.
+pub fn stayed(d: &Design, tables: &Tables, before: &Tables) {
+    if tables != before {
+        println!("tables lent for reading were changed: {d:?}");
+        std::process::exit(1);
+    }
+}
+
 impl Comparison {
     /// Budgets at the limit, where a design is not admitted, and one below, where it is.
     pub fn budgets_at_limit(&mut self) {
@@ -200,10 +208,7 @@ impl Comparison {
         for _ in 0..4 {
             self.batch(d, tables);
         }
-        if *tables != before {
-            println!("tables lent for reading were changed: {d:?}");
-            std::process::exit(1);
-        }
+        stayed(d, tables, &before);
     }
 
     /// All words now and then for small widths, else some; the next word and huge ones.
