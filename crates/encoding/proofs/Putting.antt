@@ -1,16 +1,15 @@
 -- A line while it is put together: its digits, one byte more, and the sum of the bytes so far.
-use mathlib.Core.Path.{_≡_, refl, ap, _∙_}
+use mathlib.Core.Path.{_≡_, refl, sym, ap, _∙_}
 use mathlib.Core.List.{List, [], _∷_, _++_}
 use Prim.Native.Nat.{ℕ, _+_, _-_, _*_, _/_, _%_, _≤_, _<_}
 use native.Mathlib.Nat.{add-zero}
 use native.Mathlib.Numerals.{add-one}
 use native.Mathlib.Omega.{arith}
 use lib.ListN.{length, getD, take, set}
-use lib.Seq.{length-take-le, take-suc}
+use lib.Seq.{length-take-le, take-suc, take-all}
 use Rattle.general.specs.Lists.{total, over}
 use Rattle.general.proofs.WritingLaws.{over-none, over-length, over-more, over-one}
 use Rattle.general.proofs.ListLaws.{total-append}
-use Rattle.frames.specs.Line.{capacity}
 use Rattle.encoding.specs.Encode.{digitOf, hexOf, sumByte, withSum, lineOf}
 use Rattle.encoding.specs.Inputs.{PutInput}
 use Rattle.encoding.proofs.HexBack.{hex-length}
@@ -27,7 +26,7 @@ one-store line at v room =
     ap (λ (l : List ℕ). set l at v) (over-none line at) ∙ rw add-zero at (over-one line at [] (omega arith) v (omega arith))
 
 -- Two stores, one behind the other, write two entries.
-two-stores : (line : List ℕ) (at first second : ℕ) → at + 2 ≤ length line
+pub two-stores : (line : List ℕ) (at first second : ℕ) → at + 2 ≤ length line
     → set (set line at first) (at + 1) second ≡ over line at (first ∷ second ∷ [])
 two-stores line at first second room =
     ap (λ (l : List ℕ). set l (at + 1) second) (one-store line at first (omega arith))
@@ -44,14 +43,14 @@ byte-put line at byte first second room first-is second-is =
 -- A line while it is put together: the digits of the first i bytes stand at its start, in front of what it held, and they are summed.
 pub record Put (before line bytes : List ℕ) (count sum i : ℕ) : Type 0 where
   pub input : PutInput count (length before)
-  pub full : length bytes ≡ capacity
+  pub full : length bytes ≡ count
   pub within : i ≤ count
   pub so-far : line ≡ over before 0 (hexOf (take i bytes))
   pub summed : sum ≡ total (take i bytes)
   pub small : sum ≤ 255 * i
 
 -- Nothing is put yet.
-pub put-none : {before bytes : List ℕ} {count : ℕ} → PutInput count (length before) → length bytes ≡ capacity
+pub put-none : {before bytes : List ℕ} {count : ℕ} → PutInput count (length before) → length bytes ≡ count
     → Put before before bytes count 0 0
 unfolding hexOf total
 put-none {before} input full =
@@ -93,8 +92,9 @@ module _ {before line bytes : List ℕ} {count sum i : ℕ} (part : Put before l
 
   -- and the sum byte behind them all.
   pub put-all : (now : List ℕ) → count ≤ i → now ≡ over line (2 * count) (hexOf ((256 - sum % 256) % 256 ∷ []))
-      → now ≡ over before 0 (lineOf (take count bytes))
+      → now ≡ over before 0 (lineOf bytes)
   unfolding lineOf withSum sumByte
   put-all now end now-is =
-      let all : count ≡ i = omega arith in
-      rw (all, ← part .summed) (rw all at now-is ∙ next ((256 - sum % 256) % 256))
+      let last : count ≡ i = omega arith in
+      let whole : bytes ≡ take i bytes = sym (take-all i bytes (omega (arith, part .full))) in
+      rw (whole, ← part .summed) (rw last at now-is ∙ next ((256 - sum % 256) % 256))

@@ -101,14 +101,13 @@ fn put_byte(byte: u8, at: usize, line: &mut [u8])
     line[at + 1] = digit_of(byte % 16);
 }
 
-// inner: puts the line of a frame, which is given without its sum byte, at the start of the line buffer. The sum of so few bytes is
-// far below 2^32, so it is reduced only once, at the end.
-pub fn put_line(frame: Frame, line: &mut [u8])
-    requires { ⌜ PutInput (frame .count) (length (now line)) ⌝ }
-    ensures { λ _. ⌜ now (line .exit) ≡ over (now (line .entry)) 0 (lineOf (held frame)) ⌝ }
+// inner: puts the digits of bytes and of the byte that makes their sum 0 at the start of a buffer. The sum of so few bytes is far below
+// 2^32, so it is reduced only once, at the end.
+pub fn put_bytes(bytes: &[u8], line: &mut [u8])
+    requires { ⌜ PutInput (length (now bytes)) (length (now line)) ⌝ }
+    ensures { λ _. ⌜ now (line .exit) ≡ over (now (line .entry)) 0 (lineOf (now (bytes .entry))) ⌝ }
 {
-    let bytes = frame.bytes;
-    let count = frame.count;
+    let count = bytes.len();
     let mut sum: u32 = 0;
     let mut i = 0;
     while i < count {
@@ -118,4 +117,14 @@ pub fn put_line(frame: Frame, line: &mut [u8])
         i += 1;
     }
     put_byte(((256 - sum % 256) % 256) as u8, 2 * count, line);
+}
+
+// inner: puts the line of a frame, which is given without its sum byte, at the start of the line buffer.
+pub fn put_line(frame: Frame, line: &mut [u8])
+    requires { ⌜ PutInput (frame .count) (length (now line)) ⌝ }
+    ensures { λ _. ⌜ now (line .exit) ≡ over (now (line .entry)) 0 (lineOf (held frame)) ⌝ }
+{
+    let bytes = frame.bytes;
+    let count = frame.count;
+    put_bytes(&bytes[..count], line);
 }

@@ -1,5 +1,5 @@
 -- Laws of the writer of records.
 pub mod FitsLaws
-pub mod FrameLaws
+pub mod WindowLaws
 pub mod ColonLaws
 pub mod AskedLaws

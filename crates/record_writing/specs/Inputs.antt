@@ -1,15 +1,16 @@
--- What inner calls may count on. Their callers are proved to see to it.
+-- What inner calls may count on, which their callers are proved to see to, and what they promise one another.
 use mathlib.Core.Path.{_≡_}
-use mathlib.Core.Bool.{true}
 use mathlib.Core.List.{List}
 use Prim.Native.Nat.{ℕ, _+_, _*_, _≤_, _<_}
-use lib.ListN.{length}
-use lib.IntN.{ℤ}
+use lib.ListN.{take, drop}
 use Rattle.encoding.specs.Bytes.{entryBytes}
 use Rattle.records.specs.declared.Extent.{Extent}
-use Rattle.records.specs.IntelHex.{recordCount}
-use Rattle.records.specs.SetBytes.{mostBytes}
-use Rattle.record_writing.specs.WriteRecord.{recordFits}
+use Rattle.records.specs.IntelHex.{recordCount, lengthAt, dataIn}
+use Rattle.records.specs.SetBytes.{bytesBelow, mostBytes}
+
+-- How many bytes a window holds
+abbrev pub windowBytes : ℕ
+windowBytes = 22
 
 -- One of the records of so many entries, whose bytes have addresses, which tables of these lengths hold
 pub record AskedInput (extent : Extent) (initial offsets n : ℕ) : Type 0 where
@@ -18,7 +19,7 @@ pub record AskedInput (extent : Extent) (initial offsets n : ℕ) : Type 0 where
   pub initial-long : extent .initials ≤ initial
   pub offsets-long : extent .entries ≤ extent .initials + offsets
 
--- A record whose entries fit
-pub record FittingInput (extent : Extent) (initial : List ℕ) (offsets : List ℤ) (n : ℕ) : Type 0 where
-  pub asked : AskedInput extent (length initial) (length offsets) n
-  pub fits : recordFits (extent .entries) (extent .initials) initial offsets n ≡ true
+-- A window in which the bytes of record n stand behind the place of its head
+abbrev pub Windowed : ℕ → (ℕ → ℕ) → ℕ → List ℕ → Type 0
+Windowed entries number n window =
+    take (lengthAt (entryBytes * entries) n) (drop 4 window) ≡ dataIn (bytesBelow entries number) n

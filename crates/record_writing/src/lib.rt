@@ -1,28 +1,27 @@
 // The writer of Intel HEX: one record of a set a call, by its number.
 ghost use mathlib.Core.Path.{_≡_};
 ghost use mathlib.Core.Bool.{true};
-ghost use mathlib.Core.List.{_∷_, _++_};
+ghost use mathlib.Core.List.{_∷_};
 ghost use Prim.Native.Nat.{_+_, _*_, _≤_};
 ghost use lib.ListN.{length};
 ghost use Rattle.general.specs.Lists.{over};
 ghost use Rattle.frames.specs.Line.{capacity};
-ghost use Rattle.encoding.specs.Bytes.{entryBytes};
+ghost use Rattle.encoding.specs.Bytes.{bigEndian, entryBytes};
 ghost use Rattle.encoding.specs.Encode.{lineOf};
-ghost use Rattle.encoding.specs.Inputs.{held};
 ghost use Rattle.writing.specs.Write.{toldBy};
-ghost use Rattle.records.specs.IntelHex.{lengthAt, recordHead, dataIn};
-ghost use Rattle.records.specs.SetBytes.{entryAt, entryFits, bytesBelow};
-ghost use Rattle.records.specs.Inputs.{EntryIn};
+ghost use Rattle.records.specs.IntelHex.{recordHead};
+ghost use Rattle.records.specs.SetBytes.{entryAt, entryFits};
+ghost use Rattle.records.specs.Inputs.{RecordInput, EntryIn};
 ghost use Rattle.record_writing.specs.WriteRecord.{recordFits, hexWriteAnswer, recordBufferAfter, hexWriteTold};
-ghost use Rattle.record_writing.specs.Inputs.{AskedInput, FittingInput};
+ghost use Rattle.record_writing.specs.Inputs.{windowBytes, AskedInput, Windowed};
 use design::Design;
-use encoding::Frame;
 use encoding::numbers::ENTRY_BYTES;
 use encoding::numbers::complement;
 use encoding::numbers::fits;
 use encoding::numbers::fits_signed;
-use encoding::put_line;
+use encoding::put_bytes;
 use records::Extent;
+use records::HEAD_BYTES;
 use records::MOST_BYTES;
 use records::bytes_before;
 use records::extent_of;
@@ -57,55 +56,72 @@ fn entry_number(initials: usize, initial: &[u32], offsets: &[i32], e: usize) -> 
     complement(offsets[e - initials])
 }
 
-// Whether every entry with a byte in record n fits: from the one that its first byte is of to the one that its last byte is of.
-fn record_fits(extent: Extent, initial: &[u32], offsets: &[i32], n: usize) -> bool
+// How many bytes a window holds into which a record's entries are put whole: those of its head, 16, and at most two more.
+const WINDOW: usize = 22;
+
+// Puts the 3 bytes of an entry into the window, from a place on.
+fn put_entry(number: u32, at: usize, window: &mut [u8])
+    requires { ⌜ at + entryBytes ≤ length (now window) ⌝ }
+    ensures { λ _. ⌜ now (window .exit) ≡ over (now (window .entry)) at (bigEndian entryBytes number) ⌝ }
+{
+    window[at] = ((number >> 16) % 256) as u8;
+    window[at + 1] = ((number >> 8) % 256) as u8;
+    window[at + 2] = (number % 256) as u8;
+}
+
+// Puts the entries that have a byte in record n into the window, so that the record's own bytes stand right behind the place of its head, and
+// says whether all of them fit: from the one that its first byte is of to the one that its last byte is of.
+fn put_entries(
+    extent: Extent,
+    initial: &[u32],
+    offsets: &[i32],
+    n: usize,
+    window: &mut [u8],
+) -> bool
     requires { ⌜ AskedInput extent (length (now initial)) (length (now offsets)) n ⌝ }
+    requires { ⌜ length (now window) ≡ windowBytes ⌝ }
     ensures { λ r. ⌜ r ≡ recordFits (extent .entries) (extent .initials) (now (initial .entry)) (now (offsets .entry)) n ⌝ }
+    ensures { λ r.
+        ⌜ (r ≡ true → Windowed (extent .entries) (entryAt (extent .initials) (now (initial .entry)) (now (offsets .entry))) n
+        (now (window .exit))) ⌝ }
 {
     let initials = extent.initials;
     let total = ENTRY_BYTES * extent.entries;
-    let first = bytes_before(total, n) / ENTRY_BYTES;
+    let start = bytes_before(total, n);
     let end = (bytes_before(total, n + 1) + 2) / ENTRY_BYTES;
-    for e in first..end {
+    let mut at = HEAD_BYTES - start % ENTRY_BYTES;
+    for e in start / ENTRY_BYTES..end {
         if !entry_fits(initials, initial, offsets, e) {
             return false;
         }
+        put_entry(entry_number(initials, initial, offsets, e), at, window);
+        at += ENTRY_BYTES;
     }
     true
 }
 
-// inner: the frame of record n: behind its head the bytes that it holds, each from the entry that it is of.
-fn record_frame(extent: Extent, initial: &[u32], offsets: &[i32], n: usize) -> Frame
-    requires { ⌜ FittingInput extent (now initial) (now offsets) n ⌝ }
-    ensures { λ r.
-        ⌜ held r ≡ recordHead (entryBytes * extent .entries) n
-        ++ dataIn (bytesBelow (extent .entries) (entryAt (extent .initials) (now (initial .entry)) (now (offsets .entry)))) n ⌝ }
-    ensures { λ r. ⌜ r .count ≡ 4 + lengthAt (entryBytes * extent .entries) n ⌝ }
+// Puts what record n begins with at the start of the window, over the bytes of an entry that belong to the record before.
+fn put_head(total: usize, n: usize, window: &mut [u8])
+    requires { ⌜ RecordInput total n ⌝ }
+    requires { ⌜ 4 ≤ length (now window) ⌝ }
+    ensures { λ _. ⌜ now (window .exit) ≡ over (now (window .entry)) 0 (recordHead total n) ⌝ }
 {
-    let initials = extent.initials;
-    let total = ENTRY_BYTES * extent.entries;
     let head = head_of(total, n);
-    let mut bytes = head.bytes;
-    let mut at = head.count;
-    let mut place = bytes_before(total, n);
-    let end = bytes_before(total, n + 1);
-    while place < end {
-        let number = entry_number(initials, initial, offsets, place / ENTRY_BYTES);
-        bytes[at] = ((number >> (8 * (2 - place % ENTRY_BYTES))) % 256) as u8;
-        at += 1;
-        place += 1;
-    }
-    Frame { bytes, count: at }
+    let bytes = head.bytes;
+    window[0] = bytes[0];
+    window[1] = bytes[1];
+    window[2] = bytes[2];
+    window[3] = bytes[3];
 }
 
-// Puts a record, which is given as its frame, at the start of the record buffer: a colon, and behind it what a line has.
-fn put_record(frame: Frame, record: &mut [u8])
-    requires { ⌜ frame .count ≤ capacity ⌝ }
-    requires { ⌜ 1 + 2 * (frame .count + 1) ≤ length (now «record») ⌝ }
-    ensures { λ _. ⌜ now («record» .exit) ≡ over (now («record» .entry)) 0 (58 ∷ lineOf (held frame)) ⌝ }
+// Puts a record, which is given as its bytes without the sum, at the start of the record buffer: a colon, and behind it what a line has.
+fn put_record(bytes: &[u8], record: &mut [u8])
+    requires { ⌜ length (now bytes) ≤ capacity ⌝ }
+    requires { ⌜ 1 + 2 * (length (now bytes) + 1) ≤ length (now «record») ⌝ }
+    ensures { λ _. ⌜ now («record» .exit) ≡ over (now («record» .entry)) 0 (58 ∷ lineOf (now (bytes .entry))) ⌝ }
 {
     record[0] = b':';
-    put_line(frame, &mut record[1..]);
+    put_bytes(bytes, &mut record[1..]);
 }
 
 // Puts record `number` of the set at the start of the record buffer (document 02, A2). Nothing is written before every check has passed.
@@ -134,12 +150,14 @@ pub fn write_record(
     if record_count(total) <= number {
         return Written::Refused(Cause::LineNumber);
     }
-    let fits = record_fits(extent, initial, offsets, number);
-    let digits = 11 + 2 * (bytes_before(total, number + 1) - bytes_before(total, number));
-    if let Verdict::Refused(cause) = line_verdict(fits, digits, record.len()) {
+    let mut window = [0u8; WINDOW];
+    let fits = put_entries(extent, initial, offsets, number, &mut window);
+    let size = bytes_before(total, number + 1) - bytes_before(total, number);
+    let characters = 11 + 2 * size;
+    if let Verdict::Refused(cause) = line_verdict(fits, characters, record.len()) {
         return Written::Refused(cause);
     }
-    let frame = record_frame(extent, initial, offsets, number);
-    put_record(frame, record);
-    Written::Length(digits)
+    put_head(total, number, &mut window);
+    put_record(&window[..HEAD_BYTES + size], record);
+    Written::Length(characters)
 }

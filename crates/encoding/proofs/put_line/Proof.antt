@@ -1,97 +1,35 @@
--- `encoding::put_line` meets its contract: after i turns the digits of the first i bytes are put, and these bytes are summed.
-use mathlib.Core.Path.{_≡_, _∙_}
-use Prim.Native.Nat.{_-_}
+-- `encoding::put_line` meets its contract: the bytes that the frame has are put.
+use mathlib.Core.Path.{_≡_, sym}
+use Prim.Native.Nat.{_≤_}
 use native.Mathlib.Omega.{arith}
 use borrow.Author.Needs.{needs}
-use lib.ListN.{length, getD}
-use mir.Syntax.{w8}
-use mir.Val.{Fits}
+use lib.ListN.{length}
+use lib.Seq.{length-take-le}
 use Rattle.frames.specs.Line.{capacity}
-use Rattle.encoding.proofs.Putting.{Put, put-none, put-length, put-more, put-all}
 use Rattle.encoding.proofs.put_line.Statement.{statement}
 use Rattle.encoding.proofs.put_line.Tie as tie
 
-abbrev Inv-loop : tie.InvT-loop
-Inv-loop line₀ bytes count sum₀ i₀ line sum i = Put line₀ line bytes count sum i
+-- the frame has no more bytes than its array
+within : (c : tie.After-bytes) → c .before .before .args .frame .count ≤ length (c .before .before .args .frame .bytes)
+within c =
+    let full : length (c .before .before .args .frame .bytes) ≡ capacity = search needs in
+    omega (arith, c .before .before .pre .short)
 
-abbrev μ-loop : tie.MeasureT-loop
-μ-loop line₀ bytes count sum₀ i₀ line sum i = count - i
+array-share-prefix-bytes : tie.Need-array-share-prefix-bytes
+array-share-prefix-bytes c = within c
 
-loop-holds : tie.Need-loop-holds Inv-loop μ-loop
-loop-holds c =
-    let s = c .before .before in
-    let full : length (s .args .frame .bytes) ≡ capacity = search needs in
-    put-none (s .pre) full
+slice-aggregate-put-bytes : tie.Need-slice-aggregate-put-bytes
+slice-aggregate-put-bytes c = sym (length-take-le _ _ (within (c .before)))
 
-array-read-byte : tie.Need-array-read-byte Inv-loop μ-loop
-array-read-byte c = omega (arith, c .before .loop .inv .input)
-
--- the byte that a turn puts
-byte-small : (c : tie.In-loop Inv-loop μ-loop)
-    → Fits w8 (getD (c .before .before .before .before .args .frame .bytes) (c .before .loop .i) 0)
-byte-small c = search needs
-
-mul-put-byte : tie.Need-mul-put-byte Inv-loop μ-loop
-mul-put-byte c = omega (arith, c .before .loop .inv .input)
-
-put-byte-requires : tie.Need-put-byte-requires Inv-loop μ-loop
-put-byte-requires c κs = let inv = c .before .before .loop .inv in omega (arith, put-length inv, inv .input)
-
-cast-sum : tie.Need-cast-sum Inv-loop μ-loop
-cast-sum c = omega (arith, byte-small (c .before .before .before .before))
-
-add-sum : tie.Need-add-sum Inv-loop μ-loop
-add-sum c =
-    let inv = c .before .before .before .before .before .loop .inv in
-    omega (arith, inv .small, inv .within, inv .input, byte-small (c .before .before .before .before))
-
-add-i : tie.Need-add-i Inv-loop μ-loop
-add-i c = let inv = c .before .before .before .before .before .loop .inv in omega (arith, inv .within, inv .input)
-
-loop-less : tie.Need-loop-less Inv-loop μ-loop
-loop-less c = omega arith
-
-loop-again : tie.Need-loop-again Inv-loop μ-loop
-loop-again c =
-    put-more (c .before .before .before .before .before .loop .inv) _ (omega arith) (byte-small (c .before .before .before .before) .fits)
-    (c .before .before .put-byte .ensures)
-
-sub-put-byte : tie.Need-sub-put-byte Inv-loop μ-loop
-sub-put-byte c = omega arith
-
-cast-put-byte : tie.Need-cast-put-byte Inv-loop μ-loop
-cast-put-byte c = omega arith
-
-mul-put-byte-2 : tie.Need-mul-put-byte-2 Inv-loop μ-loop
-mul-put-byte-2 c = omega (arith, c .before .loop .inv .input)
-
-put-byte-requires-2 : tie.Need-put-byte-requires-2 Inv-loop μ-loop
-put-byte-requires-2 c κs = let inv = c .before .before .loop .inv in omega (arith, put-length inv, inv .input)
-
-same-length : tie.Need-same-length Inv-loop μ-loop
-same-length c = c .before .before .put-byte2 .kept .1 .1 .0 ∙ put-length (c .before .before .before .before .before .loop .inv)
-
-returns : tie.Need-returns Inv-loop μ-loop
-returns c = put-all (c .before .before .before .before .before .loop .inv) _ (omega arith) (c .before .before .put-byte2 .ensures)
+put-bytes-requires : tie.Need-put-bytes-requires
+put-bytes-requires c κs = rw (length-take-le _ _ (within (c .before .before))) (c .before .before .before .before .pre)
 
 pub put-line-spec : {M : Type 1} → statement M
 put-line-spec =
     tie.close
     (tie.spec
-    Inv-loop
-    μ-loop
-    loop-holds
-    array-read-byte
-    mul-put-byte
-    put-byte-requires
-    cast-sum
-    add-sum
-    add-i
-    loop-less
-    loop-again
-    sub-put-byte
-    cast-put-byte
-    mul-put-byte-2
-    put-byte-requires-2
-    same-length
-    returns)
+    array-share-prefix-bytes
+    slice-aggregate-put-bytes
+    put-bytes-requires
+    (λ c. search needs)
+    (λ c. search needs))

@@ -1,21 +1,24 @@
 -- `record_writing::write_record` meets its contract: the verdict of the set, then 20, the number, the record's own checks, the record.
 use mathlib.Core.Path.{_≡_, sym, ap, _∙_}
 use mathlib.Core.Bool.{true}
+use mathlib.Core.List.{_++_}
 use Prim.Native.Nat.{_+_, _-_, _*_, _≤_, _<_}
 use native.Mathlib.Omega.{arith}
 use borrow.Author.Needs.{needs}
-use lib.ListN.{length}
+use lib.ListN.{length, take}
+use lib.Seq.{length-take-le}
 use Rattle.general.specs.Lists.{over}
 use Rattle.tables.specs.Inputs.{Usable}
 use Rattle.tables.proofs.SetLaws.{usable}
 use Rattle.encoding.specs.Bytes.{entryBytes}
 use Rattle.writing.proofs.WriteLaws.{line-passed}
-use Rattle.records.specs.IntelHex.{recordCount, lengthAt}
-use Rattle.records.specs.SetBytes.{byteCount, setRecord, mostBytes}
+use Rattle.records.specs.IntelHex.{recordHead, dataIn, recordCount, lengthAt}
+use Rattle.records.specs.SetBytes.{entryAt, bytesBelow, byteCount, setRecord, mostBytes}
 use Rattle.records.proofs.CountLaws.{length-small, before-next}
 use Rattle.records.proofs.ExtentLaws.{extent-bytes, bytes-bounded}
 use Rattle.record_writing.specs.WriteRecord.{hexWriteVerdict}
-use Rattle.record_writing.specs.Inputs.{AskedInput}
+use Rattle.record_writing.specs.Inputs.{windowBytes, AskedInput}
+use Rattle.record_writing.proofs.WindowLaws.{window-record}
 use Rattle.record_writing.proofs.AskedLaws.{
   asked-input,
   asked-fits,
@@ -96,54 +99,54 @@ asked c =
     asked-input (a .d) (a .initial .now) (a .offsets .now) _ _ (x .extent-of .ensures) (set (x .before)) (few (c .before .before))
     (within c)
 
-record-fits-requires : tie.Need-record-fits-requires
-record-fits-requires c κs = asked c
+put-entries-requires : tie.Need-put-entries-requires
+put-entries-requires c κs = (asked (c .before), search needs)
 
 -- how many bytes the record holds
 size-is : (c : tie.After-bytes-before2) →
-    let x = c .before .before .before .before .before .before .before in
+    let x = c .before .before .before .before .before .before .before .before .before in
     let a = x .before .before .before .before .before .before .args in
     c .before .bytes-before .result ≡ c .bytes-before2 .result + lengthAt (byteCount (a .d)) (a .number)
 size-is c =
-    let x = c .before .before .before .before .before .before .before in
+    let x = c .before .before .before .before .before .before .before .before .before in
     let a = x .before .before .before .before .before .before .args in
     rw (c .before .bytes-before .ensures, c .bytes-before2 .ensures, total-is x) (before-next (byteCount (a .d)) (a .number))
 
-sub-digits : tie.Need-sub-digits
-sub-digits c = omega (arith, size-is c)
+sub-size : tie.Need-sub-size
+sub-size c = omega (arith, size-is c)
 
--- so few that its length is small
+-- so few that the record is short
 size-small : (c : tie.After-bytes-before2) → c .before .bytes-before .result ≤ c .bytes-before2 .result + 16
 size-small c =
-    let a = c .before .before .before .before .before .before .before .before .before .before .before .before .before .args in
+    let a = c .before .before .before .before .before .before .before .before .before .before .before .before .before .before .before .args in
     omega (arith, size-is c, length-small (byteCount (a .d)) (a .number))
 
-mul-digits : tie.Need-mul-digits
-mul-digits c = omega (arith, size-small c)
+mul-characters : tie.Need-mul-characters
+mul-characters c = omega (arith, size-small c)
 
-add-digits : tie.Need-add-digits
-add-digits c = omega (arith, size-small c)
+add-characters : tie.Need-add-characters
+add-characters c = omega (arith, size-small c)
 
 -- the record's length
 length-is : (c : tie.After-bytes-before2) →
-    let a = c .before .before .before .before .before .before .before .before .before .before .before .before .before .args in
+    let a = c .before .before .before .before .before .before .before .before .before .before .before .before .before .before .before .args in
     length (setRecord (a .d) (a .initial .now) (a .offsets .now) (a .number))
     ≡ 11 + 2 * (c .before .bytes-before .result - c .bytes-before2 .result)
 length-is c =
-    let a = c .before .before .before .before .before .before .before .before .before .before .before .before .before .args in
+    let a = c .before .before .before .before .before .before .before .before .before .before .before .before .before .before .before .args in
     omega (arith, size-is c, asked-length (a .d) (a .initial .now) (a .offsets .now) (a .number))
 
 -- the writer's verdict is that of the record
 settles : (c : tie.After-line-verdict) →
-    let a = c .before .before .before .before .before .before .before .before .before .before .before .before .before .before .args in
+    let a = c .before .before .before .before .before .before .before .before .before .before .before .before .before .before .before .before .args in
     hexWriteVerdict (a .d) (a .initial .now) (a .offsets .now) (a .number) (length (a .«record» .now)) ≡ c .line-verdict .result
 settles c =
     let b = c .before in
-    let f = b .before .before in
-    let e = f .before in
+    let f = b .before .before .before in
+    let e = f .before .before in
     let x = e .before .before .before .before in
     let a = x .before .before .before .before .before .before .args in
-    let fits = f .record-fits .ensures ∙ asked-fits (a .d) (a .initial .now) (a .offsets .now) (a .number) _ (x .extent-of .ensures) in
+    let fits = f .put-entries .ensures .0 ∙ asked-fits (a .d) (a .initial .now) (a .offsets .now) (a .number) _ (x .extent-of .ensures) in
     rw (within-records _ _ _ _ (length (a .«record» .now)) (set (x .before)) (few (e .before .before)) (within e), ← fits, length-is b)
     (sym (c .line-verdict .ensures))
 
@@ -155,36 +158,49 @@ returns-4 c =
 -- where the record's verdict passed
 good : (c : tie.After-enum-told2) →
     let b = c .before .before .before in
-    let a = b .before .before .before .before .before .before .before .before .before .before .before .before .before .args in
-    (b .before .before .record-fits .result ≡ true)
+    let a = b .before .before .before .before .before .before .before .before .before .before .before .before .before .before .before .args in
+    (b .before .before .before .put-entries .result ≡ true)
     × (11 + 2 * (b .before .bytes-before .result - b .bytes-before2 .result) ≤ length (a .«record» .now))
 good c = line-passed _ _ _ (sym (c .before .before .line-verdict .ensures) ∙ c .enum-told2 .given .1)
 
-record-frame-requires : tie.Need-record-frame-requires
-record-frame-requires c κs =
-    let f = c .before .before .before .before .before in
-    record { asked = asked (f .before); fits = sym (f .record-fits .ensures) ∙ good c .0 }
+add-window : tie.Need-add-window
+add-window c = omega (arith, size-small (c .before .before .before .before .before .before))
+
+array-share-prefix-window : tie.Need-array-share-prefix-window
+array-share-prefix-window c =
+    let full : length (c .before .put-head .last .1 .1 .0) ≡ windowBytes = search needs in
+    omega (arith, size-small (c .before .before .before .before .before .before))
+
+slice-aggregate-put-record : tie.Need-slice-aggregate-put-record
+slice-aggregate-put-record c = sym (length-take-le _ _ (array-share-prefix-window (c .before)))
 
 put-record-requires : tie.Need-put-record-requires
 put-record-requires c κs =
-    let f = c .before in
-    let t = f .before in
+    let w = c .before .before in
+    let t = w .before .before .before in
     let b = t .before .before .before in
-    let x = b .before .before .before .before .before .before .before in
-    let a = x .before .before .before .before .before .before .args in
-    let size : f .record-frame .result .count ≡ 4 + lengthAt (byteCount (a .d)) (a .number) =
-    f .record-frame .ensures .1 ∙ ap (λ total. 4 + lengthAt total (a .number)) (total-is x) in
-    (omega (arith, size, size-is b, size-small b), omega (arith, size, size-is b, good t .1))
+    rw (length-take-le _ _ (array-share-prefix-window w)) (omega (arith, size-small b), omega (arith, size-is b, good t .1))
 
 returns-5 : tie.Need-returns-5
 returns-5 c =
     let p = c .before .before in
-    let f = p .before .before in
-    let t = f .before in
+    let h = p .before .before .before .before in
+    let t = h .before .before in
     let l = t .before .before in
     let b = l .before in
-    let x = b .before .before .before .before .before .before .before in
-    let text = asked-text _ _ _ _ _ (x .extent-of .ensures) (f .record-frame .ensures .0) in
+    let f = b .before .before .before in
+    let x = f .before .before .before .before .before .before in
+    let a = x .before .before .before .before .before .before .args in
+    let extent = x .extent-of .result in
+    let number = entryAt (extent .initials) (a .initial .now) (a .offsets .now) in
+    let put = f .put-entries .ensures .1 (good t .0) in
+    let size : b .before .bytes-before .result - b .bytes-before2 .result ≡ lengthAt (entryBytes * extent .entries) (a .number) =
+    omega (arith, size-is b, ap (λ total. lengthAt total (a .number)) (total-is x)) in
+    let count = 4 + (b .before .bytes-before .result - b .bytes-before2 .result) in
+    let all = bytesBelow (extent .entries) number in
+    let bytes : take count (h .put-head .last .1 .1 .0) ≡ recordHead (entryBytes * extent .entries) (a .number) ++ dataIn all (a .number) =
+    rw (h .put-head .ensures, size) (window-record number (extent .entries) (a .number) _ put) in
+    let text = asked-text (a .d) (a .initial .now) (a .offsets .now) (a .number) extent (x .extent-of .ensures) bytes in
     writes _ _ _ _ _ (settles l ∙ t .enum-told2 .given .1) (length-is b) (p .put-record .ensures ∙ ap (over _ 0) text)
 
 pub write-record-spec : {M : Type 1} → statement M
@@ -200,18 +216,23 @@ write-record-spec =
     returns-2
     (λ c κs. search needs)
     returns-3
-    record-fits-requires
+    (λ c. search needs)
+    put-entries-requires
     (λ c. search needs)
     (λ c κs. search needs)
     (λ c κs. search needs)
-    sub-digits
-    mul-digits
-    add-digits
+    sub-size
+    mul-characters
+    add-characters
     (λ c κs. search needs)
     (λ c. search needs)
     returns-4
     (λ c. search needs)
-    record-frame-requires
+    (λ c. search needs)
+    (λ c κs. search needs)
+    add-window
+    array-share-prefix-window
+    slice-aggregate-put-record
     put-record-requires
     (λ c. search needs)
     returns-5)
