@@ -94,10 +94,10 @@ module _ {bytes : List ℕ} {from width number i : ℕ} (part : Counting bytes f
   counted-small more = omega (arith, pow-mono {i = 8 * i} {j = 24} (omega arith))
 
   -- All of it is read.
-  pub counted-all : width ≤ i → number ≡ numberIn (take width (drop from bytes))
+  pub counted-all : width ≤ i → (number ≡ numberIn (take width (drop from bytes))) × (number < 2 ^ (8 * width))
   counted-all end =
       let all : width ≡ i = omega arith in
-      rw all (part .so-far)
+      rw all (part .so-far, part .small)
 
 -- A frame that has these bytes and no more
 abbrev pub Has : Frame → List ℕ → Type 0

@@ -12,14 +12,17 @@ use frames::CAPACITY;
 pub const ENTRY_BYTES: usize = 3;
 
 // inner: the number in `width` bytes, from a place on.
-pub fn number_in(bytes: [u8; CAPACITY], from: usize, width: usize) -> u32
+pub fn number_in(bytes: &[u8; CAPACITY], from: usize, width: usize) -> u32
     requires { ⌜ WidthInput from width ⌝ }
-    ensures { λ r. ⌜ r ≡ numberIn (take width (drop from bytes)) ⌝ }
+    ensures { λ r. ⌜ r ≡ numberIn (take width (drop from (now (bytes .entry)))) ⌝ }
+    ensures { λ r. ⌜ r < 2 ^ (8 * width) ⌝ }
 {
+    // A slice tells its length, and that its elements are bytes. A reference to an array tells neither.
+    let all: &[u8] = bytes;
     let mut number: u32 = 0;
     let mut i = 0;
     while i < width {
-        number = number * 256 + bytes[from + i] as u32;
+        number = number * 256 + all[from + i] as u32;
         i += 1;
     }
     number

@@ -94,14 +94,14 @@ fn store(slot: Slot, from: usize, bytes: [u8; CAPACITY], initial: &mut [u32], of
     match slot {
         Slot::Design => {}
         Slot::Initial(index) => {
-            initial[index as usize] = number_in(bytes, from, ENTRY_BYTES);
+            initial[index as usize] = number_in(&bytes, from, ENTRY_BYTES);
         }
         Slot::Offset {
             table: _,
             index: _,
             place,
         } => {
-            offsets[place as usize] = from_complement(number_in(bytes, from, ENTRY_BYTES));
+            offsets[place as usize] = from_complement(number_in(&bytes, from, ENTRY_BYTES));
         }
         Slot::End(_) => {}
     }

@@ -1,9 +1,9 @@
 -- The bytes of a record with those held right before its data, and the bytes that a record leaves of an entry.
-use mathlib.Core.Path.{_≡_, refl}
+use mathlib.Core.Path.{_≡_, refl, ap}
 use mathlib.Core.List.{List, [], _∷_, _++_}
 use Prim.Native.Nat.{ℕ, zero, suc, _+_, _-_, _*_, _≤_, _<_}
 use native.Mathlib.Omega.{arith}
-use lib.ListN.{length, take, drop, getD, set, length-take, List·getD-eq-default}
+use lib.ListN.{length, take, drop, getD, set, length-take, length-drop, length-append, List·getD-eq-default}
 use lib.Seq.{length-take-le, take-append-add, getD-take, getD-drop}
 use Rattle.records.specs.IntelHex.{lengthAt}
 use Rattle.record_reading.specs.declared.HexReading.{HexReading}
@@ -35,6 +35,20 @@ module _ (first second k : ℕ) (bytes : List ℕ) (long : 4 ≤ length bytes) w
   two-before e =
       rw e
       (at-least-four (λ (l : List ℕ). drop 2 (set (set l 2 first) 3 second) ≡ first ∷ second ∷ drop 4 l) (λ a b c d rest. refl) bytes long)
+
+-- They are as many bytes as before.
+pub window-length : (state : HexReading) (k : ℕ) (bytes window : List ℕ) → k ≤ 2 → 4 < length bytes
+    → drop (4 - k) window ≡ take k (state .first ∷ state .second ∷ []) ++ drop 4 bytes → length window ≡ length bytes
+window-length state k bytes window few long e =
+    let held = take k (state .first ∷ state .second ∷ []) in
+    omega (
+      arith,
+      ap length e,
+      length-drop (4 - k) window,
+      length-append held (drop 4 bytes),
+      length-take-le k (state .first ∷ state .second ∷ []) few,
+      length-drop 4 bytes,
+    )
 
 -- So many bytes of them are the stream that the record brings.
 pub window-stream : (total : ℕ) (state : HexReading) (bytes window : List ℕ) (k n : ℕ) → k ≡ heldCount total (state .taken) → k ≤ 2

@@ -79,19 +79,19 @@ fn is_possible(total: usize, state: HexReading) -> bool
     !unused_fail(held_count(total, state.taken), state)
 }
 
-// The bytes of a record with the k bytes that are held right before its data, in the place of the end of its head.
-fn with_held(state: HexReading, k: usize, bytes: [u8; CAPACITY]) -> [u8; CAPACITY]
+// Puts the k bytes that are held right before a record's data, in the place of the end of its head.
+fn with_held(state: HexReading, k: usize, window: &mut [u8; CAPACITY])
+    requires { ⌜ length (now window) ≡ capacity ⌝ }
     requires { ⌜ k < entryBytes ⌝ }
-    ensures { λ r. ⌜ drop (4 - k) r ≡ take k (state .first ∷ state .second ∷ []) ++ drop 4 bytes ⌝ }
+    ensures { λ _.
+        ⌜ drop (4 - k) (now (window .exit)) ≡ take k (state .first ∷ state .second ∷ []) ++ drop 4 (now (window .entry)) ⌝ }
 {
-    let mut window = bytes;
     if k == 1 {
         window[3] = state.first;
     } else if k == 2 {
         window[2] = state.first;
         window[3] = state.second;
     }
-    window
 }
 
 // Stores entry e, which is an initial entry if it is one of the first `initials`.
@@ -112,17 +112,20 @@ fn store_entry(initials: usize, e: usize, number: u32, initial: &mut [u32], offs
 fn store_entries(
     extent: Extent,
     e: usize,
-    window: [u8; CAPACITY],
+    window: &[u8; CAPACITY],
     from: usize,
     size: usize,
     initial: &mut [u32],
     offsets: &mut [i32],
 )
+    requires { ⌜ length (now window) ≡ capacity ⌝ }
     requires { ⌜ StoreInput extent (length (now initial)) (length (now offsets)) e from size ⌝ }
     ensures { λ _.
-        ⌜ now (initial .exit) ≡ storedFrom (initialHome (extent .initials)) e (take size (drop from window)) (now (initial .entry)) ⌝ }
+        ⌜ now (initial .exit)
+        ≡ storedFrom (initialHome (extent .initials)) e (take size (drop from (now (window .entry)))) (now (initial .entry)) ⌝ }
     ensures { λ _.
-        ⌜ now (offsets .exit) ≡ storedFrom (offsetHome (extent .initials)) e (take size (drop from window)) (now (offsets .entry)) ⌝ }
+        ⌜ now (offsets .exit)
+        ≡ storedFrom (offsetHome (extent .initials)) e (take size (drop from (now (window .entry)))) (now (offsets .entry)) ⌝ }
 {
     let initials = extent.initials;
     let count = size / ENTRY_BYTES;
@@ -135,10 +138,10 @@ fn store_entries(
 }
 
 // The state after a record that leaves so many bytes of an entry, which begin at a place of the window.
-fn holding_from(taken: usize, window: [u8; CAPACITY], at: usize, left: usize) -> HexReading
+fn holding_from(taken: usize, window: &[u8; CAPACITY], at: usize, left: usize) -> HexReading
     requires { ⌜ at + left ≤ capacity ⌝ }
     requires { ⌜ left < entryBytes ⌝ }
-    ensures { λ r. ⌜ r ≡ holding taken (take left (drop at window)) ⌝ }
+    ensures { λ r. ⌜ r ≡ holding taken (take left (drop at (now (window .entry)))) ⌝ }
 {
     let mut first = 0;
     let mut second = 0;
@@ -194,13 +197,14 @@ fn take_record(
         return refused(state, Cause::RecordDue);
     }
     let held = before % ENTRY_BYTES;
-    let window = with_held(state, held, bytes);
+    let mut window = bytes;
+    with_held(state, held, &mut window);
     let from = HEAD_BYTES - held;
     let size = held + length;
     store_entries(
         extent,
         before / ENTRY_BYTES,
-        window,
+        &window,
         from,
         size,
         initial,
@@ -209,7 +213,7 @@ fn take_record(
     let left = size % ENTRY_BYTES;
     HexRead {
         verdict: Verdict::Passed,
-        state: holding_from(n + 1, window, from + size - left, left),
+        state: holding_from(n + 1, &window, from + size - left, left),
     }
 }
 

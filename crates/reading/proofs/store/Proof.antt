@@ -1,39 +1,28 @@
 -- `reading::store` meets its contract: the entry goes where its slot says, and nothing else is written.
 use mathlib.Core.Path.{refl, ap, _∙_}
-use Prim.Native.Nat.{ℕ, _<_}
 use borrow.Author.Needs.{needs}
-use lib.ListN.{getD, set}
-use mir.Syntax.{w8, w32}
-use mir.Val.{Fits}
+use lib.ListN.{set}
+use mir.Syntax.{w32}
 use mir.ValLaws.{toZ-ofZ}
-use Rattle.encoding.specs.Bytes.{entryBytes}
 use Rattle.reading.specs.ReadLine.{initialStored, offsetsStored}
-use Rattle.reading.proofs.StoreLaws.{bytes-number}
 use Rattle.reading.proofs.store.Statement.{statement}
 use Rattle.reading.proofs.store.Tie as tie
-
-bytes-small : (s : tie.Start) (i : ℕ) → getD (s .args .bytes) i 0 < 256
-bytes-small s i =
-    let byte : Fits w8 (getD (s .args .bytes) i 0) = search needs in
-    byte .fits
 
 enum-told : tie.Need-enum-told
 enum-told c = search needs
 
 slice-write-initial : tie.Need-slice-write-initial
 slice-write-initial c =
-    let s = c .before .before .before .before .before in
-    rw (c .before .before .slot .given .1) at (s .pre .0)
+    let s = c .before .before .before .before .before .before in
+    rw (c .before .before .before .slot .given .1) at (s .pre .0)
 
 from-complement-requires : tie.Need-from-complement-requires
-from-complement-requires c κs =
-    let s = c .before .before .before .before .before in
-    rw (c .number-in2 .ensures) (bytes-number entryBytes _ (s .args .from) (bytes-small s))
+from-complement-requires c κs = c .number-in2 .ensures .1
 
 slice-set-from-offsets : tie.Need-slice-set-from-offsets
 slice-set-from-offsets c =
-    let s = c .before .before .before .before .before .before in
-    rw (c .before .before .before .slot2 .given .1) at (s .pre .0)
+    let s = c .before .before .before .before .before .before .before in
+    rw (c .before .before .before .before .slot2 .given .1) at (s .pre .0)
 
 returns : tie.Need-returns
 unfolding initialStored offsetsStored
@@ -41,14 +30,14 @@ returns c = rw (c .enum-told .given .1) (refl, refl)
 
 returns-2 : tie.Need-returns-2
 unfolding initialStored offsetsStored
-returns-2 c = rw (c .before .before .slot .given .1, ← c .number-in .ensures) (refl, refl)
+returns-2 c = rw (c .before .before .before .slot .given .1, ← c .number-in .ensures .0) (refl, refl)
 
 returns-3 : tie.Need-returns-3
 unfolding initialStored offsetsStored
 returns-3 c =
-    let number = rw (c .before .number-in2 .ensures) at (c .from-complement .ensures) in
+    let number = rw (c .before .number-in2 .ensures .0) at (c .from-complement .ensures) in
     let entry = toZ-ofZ w32 _ (record { sfits = c .from-complement .ok }) ∙ number in
-    let slot = c .before .before .before in
+    let slot = c .before .before .before .before in
     rw (slot .slot2 .given .1) (refl, ap (set (slot .before .before .before .args .offsets .now) (slot .slot2 .given .0 .1 .1 .0)) entry)
 
 returns-4 : tie.Need-returns-4

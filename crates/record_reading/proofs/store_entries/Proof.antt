@@ -1,14 +1,7 @@
 -- `record_reading::store_entries` meets its contract: after i turns the first i entries are stored.
-use mathlib.Core.Path.{_≡_}
-use Prim.Native.Nat.{ℕ, _+_, _-_, _*_, _≤_, _<_}
+use Prim.Native.Nat.{_+_, _-_, _≤_}
 use native.Mathlib.Omega.{arith}
-use borrow.Author.Needs.{needs}
-use lib.ListN.{length, getD}
-use mir.Syntax.{w8}
-use mir.Val.{Fits}
-use Rattle.encoding.specs.Bytes.{entryBytes}
-use Rattle.frames.specs.Line.{capacity}
-use Rattle.reading.proofs.StoreLaws.{bytes-number}
+use lib.ListN.{length}
 use Rattle.record_reading.specs.Storing.{initialHome, offsetHome}
 use Rattle.record_reading.proofs.StoreSteps.{Storing, storing-start, storing-next, storing-end, entry-in}
 use Rattle.record_reading.proofs.store_entries.Statement.{statement}
@@ -22,14 +15,6 @@ Inv-loop e window from size initial₀ offsets₀ initials count i₀ initial of
 
 abbrev μ-loop : tie.MeasureT-loop
 μ-loop e window from size initial₀ offsets₀ initials count i₀ initial offsets i = count - i
-
-full : (s : tie.Start Inv-loop μ-loop) → length (s .args .window) ≡ capacity
-full s = search needs
-
-bytes-small : (s : tie.Start Inv-loop μ-loop) (i : ℕ) → getD (s .args .window) i 0 < 256
-bytes-small s i =
-    let byte : Fits w8 (getD (s .args .window) i 0) = search needs in
-    byte .fits
 
 loop-holds : tie.Need-loop-holds Inv-loop μ-loop
 loop-holds c = (omega arith, storing-start _ _ _ _ _ _, storing-start _ _ _ _ _ _)
@@ -51,10 +36,9 @@ store-entry-requires c κs =
     let n = c .before .before in
     let l = n .before .before in
     let s = l .before .before in (
-      entry-in _ _ _ _ (s .args .from) (s .args .size) _ _ _ (s .pre) (l .loop .inv .1 .kept) (l .loop .inv .2 .kept)
+      entry-in _ _ _ _ (s .args .from) (s .args .size) _ _ _ (s .pre .1) (l .loop .inv .1 .kept) (l .loop .inv .2 .kept)
           (n .before .loop-test .taken),
-      rw (n .number-in .ensures)
-          (bytes-number entryBytes (s .args .window) (s .args .from + entryBytes * l .loop .i) (bytes-small s)),
+      n .number-in .ensures .1,
     )
 
 add-i : tie.Need-add-i Inv-loop μ-loop
@@ -69,11 +53,11 @@ loop-again c =
     let n = se .before .before .before in
     let l = n .before .before in
     let s = l .before .before in
-    let room : s .args .from + s .args .size ≤ length (s .args .window) = omega (arith, full s, s .pre .room) in
+    let room : s .args .from + s .args .size ≤ length (s .args .window .now) = omega (arith, s .pre .0, s .pre .1 .room) in
     let more = n .before .loop-test .taken in (
       omega arith,
-      storing-next _ _ _ _ _ _ _ _ (l .loop .inv .1) _ _ room more (n .number-in .ensures) (se .store-entry .ensures .0),
-      storing-next _ _ _ _ _ _ _ _ (l .loop .inv .2) _ _ room more (n .number-in .ensures) (se .store-entry .ensures .1),
+      storing-next _ _ _ _ _ _ _ _ (l .loop .inv .1) _ _ room more (n .number-in .ensures .0) (se .store-entry .ensures .0),
+      storing-next _ _ _ _ _ _ _ _ (l .loop .inv .2) _ _ room more (n .number-in .ensures .0) (se .store-entry .ensures .1),
     )
 
 same-length : tie.Need-same-length Inv-loop μ-loop

@@ -1,7 +1,8 @@
 -- `record_reading::take_record` meets its contract: a record that is not due is refused, and of one that is the stream is stored.
 use mathlib.Core.Path.{_≡_, refl, ap, _∙_}
 use mathlib.Core.Bool.{Bool}
-use Prim.Native.Nat.{_+_, _-_, _*_, _%_, _≤_, _<_}
+use mathlib.Core.List.{List}
+use Prim.Native.Nat.{ℕ, _+_, _-_, _*_, _%_, _≤_, _<_}
 use native.Mathlib.Omega.{arith}
 use borrow.Author.Needs.{needs}
 use lib.ListN.{length, take, drop}
@@ -10,7 +11,7 @@ use Rattle.frames.specs.Line.{capacity}
 use Rattle.records.specs.IntelHex.{recordCount}
 use Rattle.record_reading.specs.Storing.{cutBytes}
 use Rattle.record_reading.specs.ReadRecord.{stream, holding}
-use Rattle.record_reading.proofs.WindowLaws.{window-stream}
+use Rattle.record_reading.proofs.WindowLaws.{window-length, window-stream}
 use Rattle.record_reading.proofs.TakeLaws.{
   all-taken,
   notDue,
@@ -48,32 +49,44 @@ head-told c answer branch =
     (length-told _ _ _ _ (b .before .bytes-before .ensures) (b .bytes-before2 .ensures))
     (c .head-fails .ensures) branch
 
+-- the record's bytes, and the window that they become
+bytes-full : (s : tie.Start) → length (s .args .bytes) ≡ capacity
+bytes-full s = search needs
+
+abbrev window : tie.After-with-held → List ℕ
+window c = c .with-held .last .1 .1 .0
+
 -- the stream that the record brings
 came : (c : tie.After-with-held) →
-    let b = c .before .before .before .before in
+    let b = c .before .before .before .before .before in
     let a = b .before .before .before .before .before .before .args in
     let before = b .before .bytes-before .result in
     let held = before % 3 in
-    take (held + (b .bytes-before2 .result - before)) (drop (4 - held) (c .with-held .result))
+    take (held + (b .bytes-before2 .result - before)) (drop (4 - held) (window c))
     ≡ stream (entryBytes * a .extent .entries) (a .state) (a .bytes)
 came c =
-    let b = c .before .before .before .before in
+    let b = c .before .before .before .before .before in
     let a = b .before .before .before .before .before .before .args in
     let before-is = b .before .bytes-before .ensures in
     let next-is = b .bytes-before2 .ensures in
     window-stream _ (a .state) (a .bytes) _ _ _ (held-told _ _ _ _ before-is next-is) (omega arith) (length-told _ _ _ _ before-is next-is)
     (c .with-held .ensures)
 
-full : (c : tie.After-with-held) → length (c .with-held .result) ≡ capacity
-full c = search needs
+full : (c : tie.After-with-held) → length (window c) ≡ capacity
+full c =
+    let b = c .before .before .before .before .before in
+    let s = b .before .before .before .before .before .before in
+    let held = b .before .bytes-before .result % 3 in
+    window-length (s .args .state) held (s .args .bytes) (window c) (omega arith) (omega (arith, bytes-full s)) (c .with-held .ensures)
+    ∙ bytes-full s
 
 -- its bytes lie within the window
 room : (c : tie.After-with-held) →
-    let b = c .before .before .before .before in
+    let b = c .before .before .before .before .before in
     let held = b .before .bytes-before .result % 3 in
-    4 - held + (held + (b .bytes-before2 .result - b .before .bytes-before .result)) ≤ length (c .with-held .result)
+    4 - held + (held + (b .bytes-before2 .result - b .before .bytes-before .result)) ≤ length (window c)
 room c =
-    let b = c .before .before .before .before in
+    let b = c .before .before .before .before .before in
     rw (full c) (stream-room _ _ _ _ (b .before .bytes-before .ensures) (b .bytes-before2 .ensures))
 
 returns : tie.Need-returns
@@ -98,32 +111,40 @@ returns-2 c =
     refused-outcome _ _ (s .args .initial .now) (s .args .offsets .now) _ _ _ _ (c .refused2 .ensures)
     (other-due _ _ _ _ (head-told a _ (c .before .if2 .taken)))
 
+with-held-requires : tie.Need-with-held-requires
+with-held-requires c κs =
+    let s = c .before .before .before .before .before .before .before .before .before .before in
+    (bytes-full s, omega arith)
+
 store-entries-requires : tie.Need-store-entries-requires
 store-entries-requires c κs =
-    let b = c .before .before .before .before .before .before in
-    let s = b .before .before .before .before .before .before in
-    store-input _ _ _ _ (b .before .bytes-before .ensures) (b .bytes-before2 .ensures) (s .args .extent) _ _ refl (s .pre .lent)
+    let w = c .before .before .before in
+    let b = w .before .before .before .before .before in
+    let s = b .before .before .before .before .before .before in (
+      full w,
+      store-input _ _ _ _ (b .before .bytes-before .ensures) (b .bytes-before2 .ensures) (s .args .extent) _ _ refl (s .pre .lent),
+    )
 
 add-holding-from-2 : tie.Need-add-holding-from-2
 add-holding-from-2 c =
-    let w = c .before .before .before .before .before .before in
+    let w = c .before .before .before .before .before .before .before .before in
     omega (arith, full w, room w)
 
 holding-from-requires : tie.Need-holding-from-requires
 holding-from-requires c κs =
-    let w = c .before .before .before .before .before .before in
+    let w = c .before .before .before .before .before .before .before .before in
     (omega (arith, full w, room w), omega arith)
 
 returns-3 : tie.Need-returns-3
 returns-3 c =
-    let se = c .before .before .before .before in
-    let w = se .before .before .before in
-    let h = w .before .before in
+    let se = c .before .before .before .before .before in
+    let w = se .before .before .before .before in
+    let h = w .before .before .before in
     let b = h .before .before in
     let e = b .before .before in
     let s = e .before .before .before .before in
     taken-outcome (s .args .extent) (s .args .state) (s .args .initial .now) (s .args .offsets .now) (s .args .bytes) (s .args .count) _ _ _
-    (record-due _ _ _ _ (within e) (head-told h _ (w .before .if2 .left)))
+    (record-due _ _ _ _ (within e) (head-told h _ (w .before .before .if2 .left)))
     (c .holding-from .ensures ∙ ap (holding (s .args .state .taken + 1)) (cut-at _ _ _ (room w) ∙ ap cutBytes (came w)))
     (rw (came w, b .before .bytes-before .ensures) at (se .store-entries .ensures .0))
     (rw (came w, b .before .bytes-before .ensures) at (se .store-entries .ensures .1))
@@ -144,7 +165,7 @@ take-record-spec =
     head-fails-requires
     (λ c κs. search needs)
     returns-2
-    (λ c κs. search needs)
+    with-held-requires
     (λ c. search needs)
     (λ c. search needs)
     store-entries-requires

@@ -1,26 +1,24 @@
 -- `encoding::numbers::number_in` meets its contract: after i turns it is the number in the first i of the bytes.
 use mathlib.Core.Path.{_≡_}
-use Prim.Native.Nat.{_+_, _-_}
+use Prim.Native.Nat.{_+_, _-_, _<_}
 use native.Mathlib.Omega.{arith}
 use borrow.Author.Needs.{needs}
 use lib.ListN.{length, getD}
-use mir.Syntax.{w8}
-use mir.Val.{Fits}
 use Rattle.frames.specs.Line.{capacity}
 use Rattle.encoding.proofs.NumberBytes.{Counting, counted-none, counted-more, counted-all, counted-small}
 use Rattle.encoding.proofs.numbers.number_in.Statement.{statement}
 use Rattle.encoding.proofs.numbers.number_in.Tie as tie
 
 abbrev Inv-loop : tie.InvT-loop
-Inv-loop from width bytes number₀ i₀ number i = Counting bytes from width number i
+Inv-loop bytes from width all number₀ i₀ number i = Counting bytes from width number i
 
 abbrev μ-loop : tie.MeasureT-loop
-μ-loop from width bytes number₀ i₀ number i = width - i
+μ-loop bytes from width all number₀ i₀ number i = width - i
 
 loop-holds : tie.Need-loop-holds Inv-loop μ-loop
 loop-holds c =
-    let full : length (c .args .t1) ≡ capacity = search needs in
-    counted-none full (c .pre .room) (c .pre .narrow)
+    let full : length (c .before .args .bytes .now) ≡ capacity = search needs in
+    counted-none full (c .before .pre .room) (c .before .pre .narrow)
 
 mul-number : tie.Need-mul-number Inv-loop μ-loop
 mul-number c = record { fits = omega (arith, counted-small (c .before .loop .inv) (omega arith)) }
@@ -28,15 +26,23 @@ mul-number c = record { fits = omega (arith, counted-small (c .before .loop .inv
 add-number : tie.Need-add-number Inv-loop μ-loop
 add-number c = omega arith
 
-array-read-number : tie.Need-array-read-number Inv-loop μ-loop
-array-read-number c = omega arith
+shared-slice-read-number : tie.Need-shared-slice-read-number Inv-loop μ-loop
+shared-slice-read-number c = omega arith
 
 -- the byte that a turn reads
-byte-small : (c : tie.In-loop Inv-loop μ-loop) → let a = c .before .before .args in Fits w8 (getD (a .t1) (a .from + c .before .loop .i) 0)
-byte-small c = search needs
+byte-small : (c : tie.After-shared-slice-known Inv-loop μ-loop) →
+    let l = c .before .before in
+    let a = l .before .before .args in
+    getD (a .bytes .now) (a .from + l .loop .i) 0 < 256
+byte-small c =
+    let l = c .before .before in
+    c .shared-slice-known .given (l .before .before .args .from + l .loop .i) .fits
+
+cast-number : tie.Need-cast-number Inv-loop μ-loop
+cast-number c = record { fits = omega (arith, byte-small c) }
 
 add-number-2 : tie.Need-add-number-2 Inv-loop μ-loop
-add-number-2 c = record { fits = omega (arith, counted-small (c .before .loop .inv) (omega arith), byte-small c) }
+add-number-2 c = record { fits = omega (arith, counted-small (c .before .before .loop .inv) (omega arith), byte-small c) }
 
 add-i : tie.Need-add-i Inv-loop μ-loop
 add-i c = omega arith
@@ -45,7 +51,7 @@ loop-less : tie.Need-loop-less Inv-loop μ-loop
 loop-less c = omega arith
 
 loop-again : tie.Need-loop-again Inv-loop μ-loop
-loop-again c = counted-more (c .before .loop .inv) (omega arith) (byte-small c .fits)
+loop-again c = counted-more (c .before .before .loop .inv) (omega arith) (byte-small c)
 
 returns : tie.Need-returns Inv-loop μ-loop
 returns c = counted-all (c .before .loop .inv) (omega arith)
@@ -59,8 +65,8 @@ number-in-spec =
     loop-holds
     mul-number
     add-number
-    array-read-number
-    (λ c. search needs)
+    shared-slice-read-number
+    cast-number
     add-number-2
     add-i
     loop-less
