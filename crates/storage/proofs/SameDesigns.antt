@@ -45,6 +45,9 @@ use Rattle.lines.specs.declared.Slot.{Slot}
 use Rattle.lines.specs.Slots.{lineCount, tableOf, offsetSlot, slotOf}
 use Rattle.lines.specs.Lines.{frameHead, frameOf, lineAt, setLines}
 use Rattle.writing.specs.Write.{numberCheck, writeVerdict, writeAnswer, bufferAfter, writeTold}
+use Rattle.records.specs.SetBytes.{entryCount, byteCount, setBytes, setRecord, setRecords, bytesCheck, recordSetChecks}
+use Rattle.record_writing.specs.WriteRecord.{hexNumberCheck, hexWriteVerdict, hexWriteAnswer, recordBufferAfter, hexWriteTold}
+use Rattle.record_reading.specs.ReadRecord.{hexFinished, hexVerdictOn, hexAfter, hexAnswer}
 use Rattle.storage.specs.Unread.{SameAnswers}
 
 -- What lies between the answers and what they read of a design
@@ -59,6 +62,8 @@ unfolding
     lineCount tableOf offsetSlot slotOf setLines numberCheck writeVerdict writeAnswer bufferAfter
     budgetTold sizeTold evaluateTold batchVerdict batchTold checkTold writeTold
     classOf classAt countOf countsBelow countVerdict countAnswer countTold
+    entryCount byteCount setBytes setRecord setRecords bytesCheck recordSetChecks
+    hexNumberCheck hexWriteVerdict hexWriteAnswer recordBufferAfter hexWriteTold hexFinished hexVerdictOn hexAfter hexAnswer
 opened = tt
 
 -- Those of them that a rewrite has to be told to look into
@@ -149,6 +154,12 @@ answers-same d e s =
       count = λ initial offsets. rw (t, insides);
       write = λ initial offsets n buffer. rw (line initial offsets n, t, insides);
       line-buffer = λ initial offsets n buffer. rw (line initial offsets n, t, insides);
+      write-record = λ initial offsets n buffer. rw (t, insides);
+      record-buffer = λ initial offsets n buffer. rw (t, insides);
+      record-verdict = λ s text. rw (t, insides);
+      record-after = λ s text. rw (t, insides);
+      read-record = λ s text. rw (t, insides);
+      records-finished = λ state. rw (t, insides);
       budget-told = rw (t, insides);
       size-told = rw (t, insides);
       evaluate-told = λ initial offsets x. rw (t, insides);
@@ -156,6 +167,9 @@ answers-same d e s =
       check-told = λ initial offsets. rw (t, insides);
       count-told = λ initial offsets. rw (t, insides);
       write-told = λ initial offsets n buffer. rw (line initial offsets n, t, insides);
+      record-told = λ initial offsets n buffer. rw (t, insides);
       line = line;
       lines = λ initial offsets. rw (fun-ext (line initial offsets), t, insides);
+      record-at = λ initial offsets n. rw (t, insides);
+      records = λ initial offsets. rw (t, insides);
     })

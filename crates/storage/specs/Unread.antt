@@ -22,9 +22,13 @@ use Rattle.counting.specs.Count.{countAnswer, countTold}
 use Rattle.lines.specs.Lines.{lineAt, setLines}
 use Rattle.writing.specs.Write.{writeAnswer, bufferAfter, writeTold}
 use Rattle.reading.specs.ReadLine.{finished, Session, verdictOn, after}
+use Rattle.records.specs.SetBytes.{setRecord, setRecords}
+use Rattle.record_writing.specs.WriteRecord.{hexWriteAnswer, recordBufferAfter, hexWriteTold}
+use Rattle.record_reading.specs.declared.HexReading.{HexReading}
+use Rattle.record_reading.specs.ReadRecord.{hexFinished, HexSession, hexVerdictOn, hexAfter, hexAnswer}
 
 -- Two designs get the same answers, and leave the same behind: over the same tables, which for a set's verdict and the fill's are given
--- as their lengths.
+-- as their lengths; a reading of records has its tables and its state in it, but not the design.
 pub record SameAnswers (d e : Design) : Type 0 where
   -- refusals 1 to 9; budget and size
   pub design : designVerdict d ≡ designVerdict e
@@ -49,6 +53,16 @@ pub record SameAnswers (d e : Design) : Type 0 where
       → writeAnswer d initial offsets n buffer ≡ writeAnswer e initial offsets n buffer
   pub line-buffer : (initial : List ℕ) (offsets : List ℤ) (n : ℕ) (buffer : List ℕ)
       → bufferAfter d initial offsets n buffer ≡ bufferAfter e initial offsets n buffer
+  -- the writer of records, and what it leaves in the record buffer
+  pub write-record : (initial : List ℕ) (offsets : List ℤ) (n buffer : ℕ)
+      → hexWriteAnswer d initial offsets n buffer ≡ hexWriteAnswer e initial offsets n buffer
+  pub record-buffer : (initial : List ℕ) (offsets : List ℤ) (n : ℕ) (buffer : List ℕ)
+      → recordBufferAfter d initial offsets n buffer ≡ recordBufferAfter e initial offsets n buffer
+  -- the reader of records: its verdict, what it leaves in the state and in either table, its answer, and whether it is finished
+  pub record-verdict : (s : HexSession) (text : List ℕ) → hexVerdictOn d s text ≡ hexVerdictOn e s text
+  pub record-after : (s : HexSession) (text : List ℕ) → hexAfter d s text ≡ hexAfter e s text
+  pub read-record : (s : HexSession) (text : List ℕ) → hexAnswer d s text ≡ hexAnswer e s text
+  pub records-finished : (state : HexReading) → hexFinished d state ≡ hexFinished e state
   -- what these answers are to tell
   pub budget-told : budgetTold d ≡ budgetTold e
   pub size-told : sizeTold d ≡ sizeTold e
@@ -59,9 +73,14 @@ pub record SameAnswers (d e : Design) : Type 0 where
   pub count-told : (initial : List ℕ) (offsets : List ℤ) → countTold d initial offsets ≡ countTold e initial offsets
   pub write-told : (initial : List ℕ) (offsets : List ℤ) (n buffer : ℕ)
       → writeTold d initial offsets n buffer ≡ writeTold e initial offsets n buffer
+  pub record-told : (initial : List ℕ) (offsets : List ℤ) (n buffer : ℕ)
+      → hexWriteTold d initial offsets n buffer ≡ hexWriteTold e initial offsets n buffer
   -- each line, and all lines of a set
   pub line : (initial : List ℕ) (offsets : List ℤ) (n : ℕ) → lineAt d initial offsets n ≡ lineAt e initial offsets n
   pub lines : (initial : List ℕ) (offsets : List ℤ) → setLines d initial offsets ≡ setLines e initial offsets
+  -- each record, and all records of a set
+  pub record-at : (initial : List ℕ) (offsets : List ℤ) (n : ℕ) → setRecord d initial offsets n ≡ setRecord e initial offsets n
+  pub records : (initial : List ℕ) (offsets : List ℤ) → setRecords d initial offsets ≡ setRecords e initial offsets
 
 -- Two readings of which the same is read: "with 0 taken the design is not read".
 pub record SameReading (s t : Session) : Type 0 where
@@ -80,7 +99,7 @@ pub record SameRead (s t : Session) (line : List ℕ) : Type 0 where
 pub record Unread : Type 0 where
   -- "Pairs beyond m are not read": by no call that takes a design,
   pub not-read : (d e : Design) → Same d e → SameAnswers d e
-  -- and not by the reader
+  -- and not by the reader of lines, whose state has the design in it
   pub reader : (s t : Session) → SameReading s t → (line : List ℕ) → SameRead s t line
   -- "a reader leaves zeros there on an 01 line"
   pub zeros : (s : Session) (line : List ℕ) → s .state .taken ≡ 0 → verdictOn s line ≡ Verdict.Passed
