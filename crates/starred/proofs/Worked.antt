@@ -1,17 +1,17 @@
 -- Worked examples beside the starred list, of the definitions that the calls promise to equal. The numbers, lines and texts are document
--- 01's or were worked out from it apart from the definitions. The wrong definitions that docs/PROMISES.md lists fail here, even where their
--- code is wrong alike.
+-- 01's or document 02's, or were worked out from them apart from the definitions. The wrong definitions that docs/PROMISES.md lists fail
+-- here, even where their code is wrong alike.
 use mathlib.Core.Path.{_≡_, refl}
 use mathlib.Core.Bool.{true, false}
 use mathlib.Core.List.{List, [], _∷_, map}
 use Prim.Native.Nat.{ℕ, _+_, _^_}
 use Prim.Native.String.{String}
 use lib.IntN.{pos, negsuc}
-use lib.ListN.{replicate, set}
+use lib.ListN.{take, replicate, set}
 use Rattle.general.specs.Lists as Lists
 use Rattle.refusal.specs.declared.Cause.{Cause}
 use Rattle.refusal.specs.declared.Verdict.{Verdict}
-use Rattle.refusal.specs.Numbers.{numberOf}
+use Rattle.refusal.specs.Numbers.{numberOf, verdictNumber}
 use Rattle.values.specs.declared.Valued.{Valued}
 use Rattle.values.specs.Rows.{rowOf}
 use Rattle.values.specs.Faithful.{isFaithful, isNearest, isTooLow}
@@ -42,6 +42,17 @@ use Rattle.writing.specs.Write as Write
 use Rattle.writing.specs.Write.{writeAnswer}
 use Rattle.reading.specs.ReadLine as ReadLine
 use Rattle.reading.specs.ReadLine.{session, readAnswer}
+use Rattle.records.specs.IntelHex as IntelHex
+use Rattle.records.specs.IntelHex.{recordCount}
+use Rattle.records.specs.SetBytes as SetBytes
+use Rattle.records.specs.SetBytes.{byteCount, setRecord}
+use Rattle.records.specs.Record as Record
+use Rattle.record_writing.specs.WriteRecord as WriteRecord
+use Rattle.record_writing.specs.WriteRecord.{hexWriteAnswer}
+use Rattle.record_reading.specs.declared.HexReading.{HexReading}
+use Rattle.record_reading.specs.Storing as Storing
+use Rattle.record_reading.specs.ReadRecord as ReadRecord
+use Rattle.record_reading.specs.ReadRecord.{HexSession, hexSession, hexVerdictOn, hexAfter}
 use Rattle.report_text.specs.Words as Words
 use Rattle.report_text.specs.Words.{ascii, textOf}
 use Rattle.report_text.specs.Report as Report
@@ -65,12 +76,18 @@ abbrev widest : Design
 widest =
     record { kind = 0; w = 16; q = 16; g = 4; alpha = 13; m = 1; pairs = pair 9 3 ∷ pair 0 0 ∷ pair 0 0 ∷ pair 0 0 ∷ [] }
 
+-- Twenty entries: kind 0, w 6, q 6, g 2, alpha 2, m 4, (1,1) four times
+abbrev twenty : Design
+twenty =
+    record { kind = 0; w = 6; q = 6; g = 2; alpha = 2; m = 4; pairs = pair 1 1 ∷ pair 1 1 ∷ pair 1 1 ∷ pair 1 1 ∷ [] }
+
 -- All causes, in the order of their numbers
 abbrev causes : List Cause
 causes =
     Cause.Kind ∷ Cause.InputWidth ∷ Cause.OutputWidth ∷ Cause.GuardBits ∷ Cause.InitialBits ∷ Cause.TableCount ∷ Cause.SegmentBits
     ∷ Cause.OffsetBits ∷ Cause.CutSum ∷ Cause.TablesShort ∷ Cause.NotAdmitted ∷ Cause.WordRange ∷ Cause.SumRange ∷ Cause.OutputShort
-    ∷ Cause.Line ∷ Cause.Frame ∷ Cause.State ∷ Cause.EntryWidth ∷ Cause.LineNumber ∷ []
+    ∷ Cause.Line ∷ Cause.Frame ∷ Cause.State ∷ Cause.EntryWidth ∷ Cause.LineNumber ∷ Cause.AddressRange ∷ Cause.Record ∷ Cause.RecordDue
+    ∷ []
 
 -- G's first line
 abbrev G-line : String
@@ -96,10 +113,51 @@ abbrev five : ℕ → ℕ → ℕ → ℕ → ℕ → Counted
 five outside nearest faithful low high =
     Counted.Counts (record { outside = outside; nearest = nearest; faithful = faithful; low = low; high = high })
 
+-- Record n of G's set as it is filled
+abbrev Record-of-G : ℕ → String → Type 0
+Record-of-G n text = setRecord G (initialEntries G) (offsetEntries G) n ≡ ascii text
+
+-- Its records 0 and 1, and the end record
+abbrev G-record-0 : String
+G-record-0 = ":10000000000FD2000F59000EE7000E7B000E160005"
+
+abbrev G-record-1 : String
+G-record-1 = ":100010000DB6000D5B000D04000CB2000C64000C6A"
+
+abbrev end-record : String
+end-record = ":00000001FF"
+
+-- A state of a reading of records
+abbrev held : ℕ → ℕ → ℕ → HexReading
+held taken first second = record { taken = taken; first = first; second = second }
+
+-- A reading of G's records into tables of zeros, and what it answers to a record
+abbrev into-zeros : HexReading → HexSession
+into-zeros state = hexSession state (replicate 32 0) (replicate 64 (pos 0))
+
+abbrev number-on : HexReading → String → ℕ
+number-on state text = verdictNumber (hexVerdictOn G (into-zeros state) (ascii text))
+
+-- The reading after G's first record and after the first two, of which none was taken before
+abbrev after-one : HexSession
+after-one = hexAfter G (into-zeros (held 0 0 0)) (ascii G-record-0)
+
+abbrev after-two : HexSession
+after-two = hexAfter G after-one (ascii G-record-1)
+
+-- and after record 6, with six taken before it
+abbrev after-seven : HexSession
+after-seven = hexAfter G (into-zeros (held 6 0 0)) (ascii ":10006000000032000023000015000007FFFFF8FF2A")
+
+-- Record n of G's set with initial entry 5 changed to 2^24, for a record buffer of length 43. Its bytes, 15 to 17 of the set, lie in the
+-- records 0 and 1.
+abbrev entry-5-changed : ℕ → Written
+entry-5-changed n = hexWriteAnswer G (set (initialEntries G) 5 (2 ^ 24)) (offsetEntries G) n 43
+
 pub record Worked : Type 0 where
   -- Every cause's number
   pub numbers : map numberOf causes
-      ≡ 1 ∷ 2 ∷ 3 ∷ 4 ∷ 5 ∷ 6 ∷ 7 ∷ 8 ∷ 9 ∷ 10 ∷ 11 ∷ 12 ∷ 13 ∷ 14 ∷ 15 ∷ 16 ∷ 17 ∷ 18 ∷ 19 ∷ []
+      ≡ 1 ∷ 2 ∷ 3 ∷ 4 ∷ 5 ∷ 6 ∷ 7 ∷ 8 ∷ 9 ∷ 10 ∷ 11 ∷ 12 ∷ 13 ∷ 14 ∷ 15 ∷ 16 ∷ 17 ∷ 18 ∷ 19 ∷ 20 ∷ 21 ∷ 22 ∷ []
   -- L for g 4, q 8, w 8: kind 2, x 0, and kind 3, x 255
   pub other-kinds : (valueOf 2 8 8 4 0 ≡ Valued.Value (record { 0 = pos 5792 }))
       × (valueOf 3 8 8 4 255 ≡ Valued.Value (record { 0 = pos 2899 }))
@@ -169,6 +227,55 @@ pub record Worked : Type 0 where
   pub half : (map (isNearest (rowOf 1) 14 6 (2 ^ 14 + 257)) (63 ∷ 64 ∷ 65 ∷ 66 ∷ []) ≡ false ∷ true ∷ true ∷ false ∷ [])
       × (map (isFaithful (rowOf 1) 14 6 (2 ^ 14 + 257)) (63 ∷ 64 ∷ 65 ∷ 66 ∷ []) ≡ false ∷ true ∷ true ∷ false ∷ [])
       × (map (isTooLow (rowOf 1) 14 6 (2 ^ 14 + 257)) (63 ∷ 64 ∷ 65 ∷ 66 ∷ []) ≡ true ∷ false ∷ false ∷ false ∷ [])
+  -- Document 02, A2. The 96 entries of G take 288 bytes, which are 18 data records; with the end record there are 19.
+  pub record-count : recordCount (byteCount G) ≡ 19
+  -- The first, five initial entries and the first byte of the next
+  pub record-0 : Record-of-G 0 G-record-0
+  -- the second, the other two bytes of that entry, four entries and two bytes of the next
+  pub record-1 : Record-of-G 1 G-record-1
+  -- the last data record, with offsets in two's complement
+  pub record-17 : Record-of-G 17 ":1001100006000002FFFFFDFFFFF9FFFFF5FFFFF103"
+  -- the end record
+  pub record-18 : Record-of-G 18 end-record
+  -- "the last one shorter where fewer are left": twenty entries take 60 bytes, record 3 has the last 12, here of offsets that are -1.
+  pub shorter-last : setRecord twenty (replicate 4 0) (replicate 16 (negsuc 0)) 3 ≡ ascii ":0C003000FFFFFFFFFFFFFFFFFFFFFFFFD0"
+  -- "The reading state is the number of records taken and two bytes, which .. hold the start of an entry cut by a record's end; unused ones
+  -- are 0": after one record, and after two
+  pub states : (after-one .state ≡ held 1 0 0) × (after-two .state ≡ held 2 0 12)
+  -- "such an entry is stored when its third byte comes": entry 5 with the second record, entry 10 not yet
+  pub stored : (take 6 (after-one .initial) ≡ 4050 ∷ 3929 ∷ 3815 ∷ 3707 ∷ 3606 ∷ 0 ∷ [])
+      × (take 11 (after-two .initial)
+      ≡ 4050 ∷ 3929 ∷ 3815 ∷ 3707 ∷ 3606 ∷ 3510 ∷ 3419 ∷ 3332 ∷ 3250 ∷ 3172 ∷ 0 ∷ [])
+  -- An offset cut by a record's end: record 6 has the offsets 50, 35, 21, 7, -8 and a first byte of 255.
+  pub stored-offsets : (after-seven .state ≡ held 7 255 0)
+      × (take 6 (after-seven .offsets) ≡ pos 50 ∷ pos 35 ∷ pos 21 ∷ pos 7 ∷ negsuc 7 ∷ pos 0 ∷ [])
+  -- 21: record 0 without its colon, with a semicolon in its place, with a lower case digit, with another sum, with a digit behind it, with
+  -- a byte 0 more and one less than its length byte says, and an empty text
+  pub unsound-records : map (number-on (held 0 0 0))
+      ("10000000000FD2000F59000EE7000E7B000E160005" ∷ ";10000000000FD2000F59000EE7000E7B000E160005"
+      ∷ ":10000000000fD2000F59000EE7000E7B000E160005" ∷ ":10000000000FD2000F59000EE7000E7B000E160006"
+      ∷ ":10000000000FD2000F59000EE7000E7B000E1600050" ∷ ":10000000000FD2000F59000EE7000E7B000E16000005"
+      ∷ ":10000000000FD2000F59000EE7000E7B000E1605" ∷ "" ∷ [])
+      ≡ replicate 8 21
+  -- 22: record 0 at address 16, of 15 bytes, and of type 01, each with the right sum; and the end record with data due
+  pub not-due : map (number-on (held 0 0 0))
+      (":10001000000FD2000F59000EE7000E7B000E1600F5" ∷ ":0F000000000FD2000F59000EE7000E7B000E1606"
+      ∷ ":10000001000FD2000F59000EE7000E7B000E160004" ∷ end-record ∷ [])
+      ≡ replicate 4 22
+  -- "A state with more records than the set has, or an unused byte not 0, is not possible": 17 for an empty text. It is 21 where the bytes
+  -- that are not 0 are used, and with all 19 records taken.
+  pub impossible : map (λ state. number-on state "")
+      (held 0 7 0 ∷ held 0 0 7 ∷ held 1 0 7 ∷ held 3 7 0 ∷ held 19 0 7 ∷ held 20 0 0 ∷ held 1 7 0 ∷ held 2 7 7 ∷ held 19 0 0 ∷ [])
+      ≡ 17 ∷ 17 ∷ 17 ∷ 17 ∷ 17 ∷ 17 ∷ 21 ∷ 21 ∷ 21 ∷ []
+  -- The end record is taken once: with all records taken, none is due.
+  pub end-once : (number-on (held 18 0 0) end-record ≡ 0) × (number-on (held 19 0 0) end-record ≡ 22)
+  -- "18 for any entry with a byte in the record": both records that hold entry 5, and no other
+  pub both-halves : map entry-5-changed (0 ∷ 1 ∷ 2 ∷ [])
+      ≡ Written.Refused Cause.EntryWidth ∷ Written.Refused Cause.EntryWidth ∷ Written.Length 43 ∷ []
+  -- 19 before 14: record 19 for a record buffer of length 0; and 14 for record 18, which has 11 characters, and a buffer of 10
+  pub number-before-room : (hexWriteAnswer G (initialEntries G) (offsetEntries G) 19 0 ≡ Written.Refused Cause.LineNumber)
+      × (hexWriteAnswer G (initialEntries G) (offsetEntries G) 18 10 ≡ Written.Refused Cause.OutputShort)
+      × (hexWriteAnswer G (initialEntries G) (offsetEntries G) 18 11 ≡ Written.Length 11)
   -- Input words in decimal: leading zeros, and the greatest
   pub decimal-words : map (λ line. wordIn (ascii line)) ("007" ∷ "4294967295" ∷ []) ≡ ReadWord.Word 7 ∷ ReadWord.Word 4294967295 ∷ []
   -- No input words: an empty line, the character before 0, the one after 9, 2^32
@@ -185,6 +292,15 @@ unfolding
     Lines.frameOf Lines.lineAt Write.numberCheck Write.askedChecks Write.writeVerdict Write.writeAnswer ReadLine.possible
     ReadLine.stateCheck ReadLine.designAfter ReadLine.laterFails ReadLine.dueChecks ReadLine.readVerdict ReadLine.verdictOn
     ReadLine.after ReadLine.readAnswer
+    ReadLine.begins ReadLine.headFails Bytes.numberIn Bytes.fromComplement Bytes.fitsSigned
+    IntelHex.dataCount IntelHex.recordCount IntelHex.bytesBefore IntelHex.lengthAt IntelHex.headOf IntelHex.recordHead IntelHex.recordText
+    IntelHex.dataIn IntelHex.recordOf SetBytes.entryCount SetBytes.byteCount SetBytes.entryAt SetBytes.entryFits SetBytes.bytesBelow
+    SetBytes.setBytes SetBytes.setRecord SetBytes.bytesCheck SetBytes.recordSetChecks
+    Record.sizeFails Record.recordFails Record.recordCheck
+    WriteRecord.hexNumberCheck WriteRecord.hasByteIn WriteRecord.recordFits WriteRecord.hexWriteVerdict WriteRecord.hexWriteAnswer
+    ReadRecord.heldCount ReadRecord.unusedFail ReadRecord.hexPossible ReadRecord.hexStateCheck ReadRecord.recordDueCheck
+    ReadRecord.hexChecks ReadRecord.hexVerdictOn ReadRecord.dataOf ReadRecord.stream ReadRecord.holding ReadRecord.hexAfter
+    Storing.storedAt Storing.storedFrom Storing.cutBytes
     Words.decimalWithin Words.decimal Words.textOf Report.lineText Report.designText Report.refusedText Report.reportVerdict Report.reportOf
     Decimal.allDecimal Decimal.isDecimal Decimal.decimalNumber Decimal.wordIn
 worked =
@@ -219,6 +335,21 @@ worked =
       classes = refl;
       only-just = refl;
       half = (refl, refl, refl);
+      record-count = refl;
+      record-0 = refl;
+      record-1 = refl;
+      record-17 = refl;
+      record-18 = refl;
+      shorter-last = refl;
+      states = (refl, refl);
+      stored = (refl, refl);
+      stored-offsets = (refl, refl);
+      unsound-records = refl;
+      not-due = refl;
+      impossible = refl;
+      end-once = (refl, refl);
+      both-halves = refl;
+      number-before-room = (refl, refl, refl);
       decimal-words = refl;
       no-words = refl;
     }
