@@ -1,5 +1,5 @@
 -- A sound record in a possible state: whether it is the one due, and what it brings.
-use mathlib.Core.Path.{_≡_, refl, sym}
+use mathlib.Core.Path.{_≡_, refl, sym, ap, _∙_}
 use mathlib.Core.Bool.{Bool, true, false, or-true}
 use mathlib.Core.List.{List}
 use Prim.Native.Nat.{ℕ, _+_, _-_, _*_, _/_, _%_, _≤_, _<_}
@@ -19,7 +19,7 @@ use Rattle.records.specs.IntelHex.{dataBytes, recordCount, bytesBefore, lengthA
 use Rattle.records.proofs.CountLaws.{length-small, before-small}
 use Rattle.record_reading.specs.declared.HexReading.{HexReading}
 use Rattle.record_reading.specs.declared.HexRead.{HexRead}
-use Rattle.record_reading.specs.Storing.{initialHome, offsetHome, storedFrom, cutBytes}
+use Rattle.record_reading.specs.Storing.{Home, initialHome, offsetHome, storedFrom, cutBytes}
 use Rattle.record_reading.specs.ReadRecord.{heldCount, recordDueCheck, HexSession, hexSession, stream, holding}
 use Rattle.record_reading.specs.Inputs.{Lent, StoreInput, dueVerdict, afterRecord}
 use Rattle.record_reading.proofs.WindowLaws.{cut-last}
@@ -72,19 +72,35 @@ module _ (total n before next : ℕ) (before-is : before ≡ bytesBefore total n
   pub stream-room : 4 - before % 3 + (before % 3 + (next - before)) ≤ capacity
   stream-room = omega (arith, length-few)
 
-  pub store-input : (extent : Extent) (initial offsets : ℕ) → total ≡ entryBytes * extent .entries → Lent extent initial offsets
-      → StoreInput extent initial offsets (before / 3) (4 - before % 3) (before % 3 + (next - before))
-  store-input extent initial offsets total-is lent =
-      record { lent = lent; room = stream-room; within = omega (arith, before-small total (n + 1), before-fewer) }
+  -- They make no entries whole but those of the set, and would not with the sum byte behind them, for which there is room, too.
+  pub store-input : (extent : Extent) (initial offsets size : ℕ) → total ≡ entryBytes * extent .entries → Lent extent initial offsets
+      → size ≤ before % 3 + (next - before) + 1 → StoreInput extent initial offsets (before / 3) (4 - before % 3) size
+  store-input extent initial offsets size total-is lent few =
+      record {
+        lent = lent;
+        room = omega (arith, length-few);
+        within = omega (arith, before-small total (n + 1), before-fewer);
+      }
 
 -- The bytes that whole entries leave, as a part of the window
-pub cut-at : (window : List ℕ) (from size : ℕ) → from + size ≤ length window
+cut-at : (window : List ℕ) (from size : ℕ) → from + size ≤ length window
     → take (size % 3) (drop (from + size - size % 3) window) ≡ cutBytes (take size (drop from window))
 cut-at window from size room =
     let whole : 3 * (size / 3) + size % 3 ≡ size = omega arith in
     let place : from + size - size % 3 ≡ from + 3 * (size / 3) = omega arith in
     rw (place, ← drop-drop (3 * (size / 3)) from window)
     (sym (rw whole at (cut-last (size / 3) (size % 3) (drop from window) (omega arith) (omega (arith, length-drop from window)))))
+
+-- The state and a table after a part of the window that is the stream
+pub state-told : (taken : ℕ) (window : List ℕ) (from size : ℕ) (came : List ℕ) (next : HexReading) → from + size ≤ length window
+    → take size (drop from window) ≡ came → next ≡ holding taken (take (size % 3) (drop (from + size - size % 3) window))
+    → next ≡ holding taken (cutBytes came)
+state-told taken window from size came next room came-is next-is =
+    next-is ∙ ap (holding taken) (cut-at window from size room ∙ ap cutBytes came-is)
+
+pub table-told : {A : Type 0} (home : Home A) (before₀ before : ℕ) (part came : List ℕ) (table after : List A) → before ≡ before₀
+    → part ≡ came → after ≡ storedFrom home (before / entryBytes) part table → after ≡ storedFrom home (before₀ / entryBytes) came table
+table-told home before₀ before part came table after before-is came-is after-is = rw (← before-is, ← came-is) after-is
 
 -- What a sound record has to come to: this verdict, this state and these tables
 abbrev pub Outcome : Extent → HexSession → List ℕ → ℕ → Verdict → HexReading → List ℕ → List ℤ → Type 0

@@ -64,8 +64,10 @@ fn put_entry(number: u32, at: usize, window: &mut [u8])
     requires { ⌜ at + entryBytes ≤ length (now window) ⌝ }
     ensures { λ _. ⌜ now (window .exit) ≡ over (now (window .entry)) at (bigEndian entryBytes number) ⌝ }
 {
-    window[at] = ((number >> 16) % 256) as u8;
-    window[at + 1] = ((number >> 8) % 256) as u8;
+    let high = number >> 16;
+    let middle = number >> 8;
+    window[at] = (high % 256) as u8;
+    window[at + 1] = (middle % 256) as u8;
     window[at + 2] = (number % 256) as u8;
 }
 

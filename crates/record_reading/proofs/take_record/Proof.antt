@@ -9,8 +9,7 @@ use lib.ListN.{length, take, drop}
 use Rattle.encoding.specs.Bytes.{entryBytes}
 use Rattle.frames.specs.Line.{capacity}
 use Rattle.records.specs.IntelHex.{recordCount}
-use Rattle.record_reading.specs.Storing.{cutBytes}
-use Rattle.record_reading.specs.ReadRecord.{stream, holding}
+use Rattle.record_reading.specs.ReadRecord.{stream}
 use Rattle.record_reading.proofs.WindowLaws.{window-length, window-stream}
 use Rattle.record_reading.proofs.TakeLaws.{
   all-taken,
@@ -24,7 +23,8 @@ use Rattle.record_reading.proofs.TakeLaws.{
   head-room,
   stream-room,
   store-input,
-  cut-at,
+  state-told,
+  table-told,
   refused-outcome,
   taken-outcome,
 }
@@ -122,7 +122,8 @@ store-entries-requires c κs =
     let b = w .before .before .before .before .before in
     let s = b .before .before .before .before .before .before in (
       full w,
-      store-input _ _ _ _ (b .before .bytes-before .ensures) (b .bytes-before2 .ensures) (s .args .extent) _ _ refl (s .pre .lent),
+      store-input _ _ _ _ (b .before .bytes-before .ensures) (b .bytes-before2 .ensures) (s .args .extent) _ _ _ refl (s .pre .lent)
+      (omega arith),
     )
 
 add-holding-from-2 : tie.Need-add-holding-from-2
@@ -145,9 +146,9 @@ returns-3 c =
     let s = e .before .before .before .before in
     taken-outcome (s .args .extent) (s .args .state) (s .args .initial .now) (s .args .offsets .now) (s .args .bytes) (s .args .count) _ _ _
     (record-due _ _ _ _ (within e) (head-told h _ (w .before .before .if2 .left)))
-    (c .holding-from .ensures ∙ ap (holding (s .args .state .taken + 1)) (cut-at _ _ _ (room w) ∙ ap cutBytes (came w)))
-    (rw (came w, b .before .bytes-before .ensures) at (se .store-entries .ensures .0))
-    (rw (came w, b .before .bytes-before .ensures) at (se .store-entries .ensures .1))
+    (state-told _ _ _ _ _ _ (room w) (came w) (c .holding-from .ensures))
+    (table-told _ _ _ _ _ _ _ (b .before .bytes-before .ensures) (came w) (se .store-entries .ensures .0))
+    (table-told _ _ _ _ _ _ _ (b .before .bytes-before .ensures) (came w) (se .store-entries .ensures .1))
 
 pub take-record-spec : {M : Type 1} → statement M
 take-record-spec =

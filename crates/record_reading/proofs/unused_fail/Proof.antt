@@ -2,6 +2,8 @@
 use mathlib.Core.Path.{_≡_, _∙_}
 use mathlib.Core.Bool.{not, _&&_}
 use mathlib.Core.Logic.{⊎-elim}
+use Prim.Native.Nat.{_≤_}
+use native.Mathlib.Omega.{arith}
 use lib.Dec.{eqb}
 use borrow.Author.Tests.{eq-eqb, ne-eqb}
 use Rattle.record_reading.proofs.StateLaws.{first-unused, second-unused, none-unused}
@@ -22,10 +24,12 @@ returns c = first-unused _ _ _ (first-told (c .before)) (c .if2 .taken)
 returns-2 : tie.Need-returns-2
 returns-2 c =
     let e = c .before .before in
-    second-unused _ _ _ (first-told (e .before)) (e .if2 .left) (c .before .if3 .taken)
+    second-unused _ _ _ (first-told (e .before)) (e .if2 .left) (omega (arith, c .before .if3 .taken))
 
 returns-3 : tie.Need-returns-3
-returns-3 c = none-unused _ _ _ (first-told (c .before .before)) (c .before .if2 .left) (c .if3 .left)
+returns-3 c =
+    let all-used : 2 ≤ c .before .before .before .args .k = omega (arith, c .if3 .left) in
+    none-unused _ _ _ (first-told (c .before .before)) (c .before .if2 .left) all-used
 
 pub unused-fail-spec : {M : Type 1} → statement M
 unused-fail-spec = tie.close (tie.spec returns returns-2 returns-3)
