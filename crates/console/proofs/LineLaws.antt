@@ -11,12 +11,9 @@ use Rattle.general.proofs.Sums.{below-suc}
 use Rattle.frames.specs.Line.{longestLine, lineFails}
 use Rattle.frames.proofs.LineLaws.{long-fails}
 use Rattle.console.specs.declared.LineEnd.{LineEnd}
-use Rattle.console.specs.Reading.{LineRead}
+use Rattle.console.specs.declared.LineStart.{LineStart}
+use Rattle.console.specs.Reading.{NoNewline, StartRead, LineRead}
 use Rattle.io.proofs.Counting.{counts}
-
--- No newline is among the first n bytes.
-abbrev pub NoNewline : List ℕ → ℕ → Type 0
-NoNewline bytes n = (i : ℕ) → i < n → getD bytes i 0 ≡ 10 → ⊥
 
 pub one-more : (bytes : List ℕ) (n byte : ℕ) → n < length bytes → NoNewline bytes n → (byte ≡ 10 → ⊥)
     → NoNewline (set bytes n byte) (n + 1)
@@ -32,8 +29,18 @@ cut-fails bytes rest n fits long =
 
 -- What is read of a line, by how it ended
 module _ (bytes : List ℕ) (n : ℕ) (fits : n ≤ length bytes) (none : NoNewline bytes n) where
-  pub ended : (end : LineEnd) → (end ≡ LineEnd.Cut → ⊥) → LineRead (record { bytes = bytes; count = n; end = end })
-  ended end uncut = record { counts = counts _ _ fits; no-newline = none; cut = λ e. absurd (uncut e) }
+  pub ended : (end : LineEnd) → (end ≡ LineEnd.Cut → ⊥) → StartRead bytes (record { count = n; end = end })
+  ended end uncut = record { counts = counts _ _ fits; no-newline = none; full = λ e. absurd (uncut e) }
 
-  pub cut-off : longestLine < n → LineRead (record { bytes = bytes; count = n; end = LineEnd.Cut })
-  cut-off long = record { counts = counts _ _ fits; no-newline = none; cut = λ e rest. cut-fails bytes rest n fits long }
+  pub cut-off : n ≡ length bytes → StartRead bytes (record { count = n; end = LineEnd.Cut })
+  cut-off all = record { counts = counts _ _ fits; no-newline = none; full = λ e. all }
+
+-- A line of which so many bytes are read is refused where it is cut off, whatever follows.
+pub whole-line : (bytes : List ℕ) (start : LineStart) → longestLine < length bytes → StartRead bytes start
+    → LineRead (record { bytes = bytes; count = start .count; end = start .end })
+whole-line bytes start long read =
+    record {
+      counts = read .counts;
+      no-newline = read .no-newline;
+      cut = λ e rest. cut-fails bytes rest (start .count) (read .counts .0) (omega (arith, read .full e));
+    }

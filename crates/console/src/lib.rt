@@ -1,6 +1,6 @@
 // What the programs share: reading a line from standard input, and writing reports and refusals to standard output. No contract can
-// say which bytes come in or go out; what can be said of a line, whatever the input is, `read_line` promises.
-ghost use Rattle.console.specs.Reading.{LineRead};
+// say which bytes come in or go out; what can be said of a line, whatever the input is, `read_start` and `read_line` promise.
+ghost use Rattle.console.specs.Reading.{StartRead, LineRead};
 ghost use Rattle.io.specs.Counts.{Counts};
 use frames::LONGEST_LINE;
 use libc::STDIN_FILENO;
@@ -23,18 +23,51 @@ pub fn read_byte() -> Input {
     Input::Byte(byte[0])
 }
 
-// Why no more of a line is read: its newline came, the input ended, or it is cut off, being longer than any line may be.
+// Why no more of a line is read: its newline came, the input ended, or it is cut off, as there is no room for more of it.
 pub enum LineEnd {
     Newline,
     Input,
     Cut,
 }
 
+// How many bytes of a line were read, and why no more.
+pub struct LineStart {
+    pub count: usize,
+    pub end: LineEnd,
+}
+
+// inner: the start of a line, up to the newline, the end of the input, or so many bytes as the lent ones are; they stand at the start of
+// these. Nothing behind them is read, so endless input does no harm. A last line without a newline counts as a line, if it has a byte.
+pub fn read_start(bytes: &mut [u8]) -> LineStart
+    ensures { λ r. ⌜ StartRead (now (bytes .exit)) r ⌝ }
+{
+    let mut count: usize = 0;
+    while count < bytes.len() {
+        let Input::Byte(b) = read_byte() else {
+            return LineStart {
+                count,
+                end: LineEnd::Input,
+            };
+        };
+        if b == b'\n' {
+            return LineStart {
+                count,
+                end: LineEnd::Newline,
+            };
+        }
+        bytes[count] = b;
+        count += 1;
+    }
+    LineStart {
+        count,
+        end: LineEnd::Cut,
+    }
+}
+
 // One byte more than the longest line has.
 pub const KEPT: usize = LONGEST_LINE + 1;
 
-// The start of a line, up to the newline, the end of the input, or so many bytes: a line that has them is refused whatever follows, so
-// no more of it is needed and endless input does no harm. A last line without a newline counts as a line, if it has a byte.
+// The start of a line, so many bytes at most: a line that has them is refused whatever follows, so no more of it is needed.
 pub struct Line {
     pub bytes: [u8; KEPT],
     pub count: usize,
@@ -45,29 +78,12 @@ pub fn read_line() -> Line
     ensures { λ r. ⌜ LineRead r ⌝ }
 {
     let mut bytes = [0u8; KEPT];
-    let mut count: usize = 0;
-    while count < KEPT {
-        let Input::Byte(b) = read_byte() else {
-            return Line {
-                bytes,
-                count,
-                end: LineEnd::Input,
-            };
-        };
-        if b == b'\n' {
-            return Line {
-                bytes,
-                count,
-                end: LineEnd::Newline,
-            };
-        }
-        bytes[count] = b;
-        count += 1;
-    }
+    let start = read_start(&mut bytes);
+    let end = start.end;
     Line {
         bytes,
-        count,
-        end: LineEnd::Cut,
+        count: start.count,
+        end,
     }
 }
 

@@ -1,60 +1,21 @@
--- `console::read_line` meets its contract: the count stays within the array, no newline is stored, and a line is cut off only where it is
--- refused whatever follows.
-use Prim.Native.Nat.{ℕ, _+_, _-_, _≤_}
-use mathlib.Core.Path.{_≡_}
-use native.Mathlib.Nat.{not-suc-le-zero}
-use native.Mathlib.Omega.{arith}
-use borrow.Author.Needs.{needs}
+-- `console::read_line` meets its contract: a line is cut off only where more of it was read than the longest line has.
+use Prim.Native.Nat.{_<_}
 use lib.ListN.{length}
+use borrow.Author.Needs.{needs}
 use Rattle.frames.specs.Line.{longestLine}
-use Rattle.console.specs.declared.LineEnd.{LineEnd}
-use Rattle.console.proofs.LineLaws.{NoNewline, one-more, ended, cut-off}
+use Rattle.console.proofs.LineLaws.{whole-line}
 use Rattle.console.proofs.read_line.Statement.{statement}
 use Rattle.console.proofs.read_line.Tie as tie
 
-abbrev Inv-loop : tie.InvT-loop
-Inv-loop bytes₀ count₀ bytes count = (count ≤ longestLine + 1) × (length bytes ≡ longestLine + 1) × NoNewline bytes count
-
-abbrev μ-loop : tie.MeasureT-loop
-μ-loop bytes₀ count₀ bytes count = longestLine + 1 - count
-
-loop-holds : tie.Need-loop-holds Inv-loop μ-loop
-loop-holds c = (search needs, search needs, λ i h. absurd (not-suc-le-zero h))
-
-returns : tie.Need-returns Inv-loop μ-loop
+returns : tie.Need-returns
 returns c =
-    let inv = c .before .before .before .before .loop .inv in
-    ended _ _ (omega (arith, inv)) (inv .2) LineEnd.Input (λ e. let z : _≡_ {A = ℕ} 0 1 = cc in absurd (omega arith))
-
-returns-2 : tie.Need-returns-2 Inv-loop μ-loop
-returns-2 c =
-    let inv = c .before .before .before .before .before .before .loop .inv in
-    ended _ _ (omega (arith, inv)) (inv .2) LineEnd.Newline (λ e. let z : _≡_ {A = ℕ} 0 1 = cc in absurd (omega arith))
-
-loop-again : tie.Need-loop-again Inv-loop μ-loop
-loop-again c =
-    let l = c .before .before .before .before .before .before .loop in
-    (search needs, search needs, one-more (l .bytes) (l .count) _ (omega arith) (l .inv .2) (c .if1 .left))
-
-returns-3 : tie.Need-returns-3 Inv-loop μ-loop
-returns-3 c =
-    let inv = c .before .loop .inv in
-    cut-off _ _ (omega (arith, inv)) (inv .2) (omega (arith, inv))
+    let long : longestLine < length (c .before .read-start .last .0) = search needs in
+    whole-line _ _ long (c .before .read-start .ensures)
 
 pub read-line-spec : {M : Type 1} → statement M
 read-line-spec =
     tie.close
     (tie.spec
-    Inv-loop
-    μ-loop
-    loop-holds
+    (λ c. search needs)
     (λ c κs. search needs)
-    (λ c. search needs)
-    (λ c. search needs)
-    returns
-    returns-2
-    (λ c. search needs)
-    (λ c. search needs)
-    (λ c. search needs)
-    loop-again
-    returns-3)
+    returns)
