@@ -1,21 +1,12 @@
 // Reads one design's line from standard input and writes the lines of its filled set, or the refusal.
 ghost use lib.ListN.{length};
 ghost use Rattle.set_console.specs.Reading.{HoldsEverySet};
-use design::Design;
 use design::limits::MOST_INITIAL;
 use design::limits::MOST_OFFSETS;
 use filling::fill;
 use refusal::Verdict;
 use set_console::begin;
-use set_console::print_line;
-
-// One line after another, until the writer gives no more.
-fn print_set(d: Design, initial: &[u32], offsets: &[i32]) {
-    let mut number = 0;
-    while print_line(d, initial, offsets, number) {
-        number += 1;
-    }
-}
+use set_console::print_set;
 
 // The reader's refusals are the report's in the same order, for the tables are long enough for every set; then the fill's.
 fn make(line: &[u8], initial: &mut [u32], offsets: &mut [i32])

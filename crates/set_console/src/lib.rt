@@ -1,5 +1,5 @@
-// What the programs over whole sets share: reading a set from standard input, and writing a line of a set, the answer of a check or the
-// counts to standard output. No contract can say which bytes come in or go out; what can be said of a set that is read is promised.
+// What the programs over whole sets share: reading a set from standard input, and writing the lines of a set, the answer of a check or
+// the counts to standard output. No contract can say which bytes come in or go out; what can be said of a set that is read is promised.
 ghost use mathlib.Core.Path.{_≡_};
 ghost use mathlib.Core.Bool.{true};
 ghost use Prim.Native.Nat.{_+_};
@@ -52,13 +52,15 @@ pub fn begin() -> Reading
     }
 }
 
-fn print_number(label: &[u8], n: u64) {
+// Writes a number behind its label, and a newline.
+pub fn print_number(label: &[u8], n: u64) {
     io::write_all(STDOUT_FILENO, label);
     io::print_decimal(STDOUT_FILENO, n);
     io::write_all(STDOUT_FILENO, b"\n");
 }
 
-fn print_refused_line(number: usize, cause: Cause) {
+// Writes the refusal of a line, by its number.
+pub fn print_refused_line(number: usize, cause: Cause) {
     io::write_all(STDOUT_FILENO, b"LINE ");
     io::print_decimal(STDOUT_FILENO, number as u64);
     io::write_all(STDOUT_FILENO, b" ");
@@ -66,7 +68,7 @@ fn print_refused_line(number: usize, cause: Cause) {
 }
 
 // Whether there is no line: the input ended before a byte of it came.
-fn is_absent(end: LineEnd, count: usize) -> bool {
+pub fn is_absent(end: LineEnd, count: usize) -> bool {
     match end {
         LineEnd::Input => count == 0,
         LineEnd::Newline => false,
@@ -122,13 +124,13 @@ pub fn read_set(initial: &mut [u32], offsets: &mut [i32]) -> SetRead
     }
 }
 
-// Writes the digits at the start of a line buffer with a newline behind them.
-fn print_digits(buffer: &mut [u8], digits: usize) -> bool {
-    if buffer.len() <= digits {
+// Writes the text at the start of a buffer with a newline behind it; false where it has no room for that or it could not be written whole.
+pub fn print_text(buffer: &mut [u8], length: usize) -> bool {
+    if buffer.len() <= length {
         return false;
     }
-    buffer[digits] = b'\n';
-    io::write_all(STDOUT_FILENO, &buffer[..digits + 1])
+    buffer[length] = b'\n';
+    io::write_all(STDOUT_FILENO, &buffer[..length + 1])
 }
 
 // Writes a line of a set; false where the writer gives no such line or it could not be written whole.
@@ -138,8 +140,16 @@ pub fn print_line(d: Design, initial: &[u32], offsets: &[i32], number: usize) ->
 {
     let mut buffer = [0u8; KEPT];
     match write_line(d, initial, offsets, number, &mut buffer) {
-        Written::Length(digits) => print_digits(&mut buffer, digits),
+        Written::Length(length) => print_text(&mut buffer, length),
         Written::Refused(_) => false,
+    }
+}
+
+// Writes the lines of a set, one after another, until the writer gives no more.
+pub fn print_set(d: Design, initial: &[u32], offsets: &[i32]) {
+    let mut number = 0;
+    while print_line(d, initial, offsets, number) {
+        number += 1;
     }
 }
 

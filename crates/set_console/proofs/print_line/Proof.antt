@@ -9,7 +9,7 @@ use Rattle.set_console.proofs.print_line.Tie as tie
 returns : tie.Need-returns
 returns c told =
     let m = c .before .before .before .before in
-    line-given _ _ _ _ _ (sym (m .before .before .before .write-line .ensures .0) ∙ m .digits .given .1)
+    line-given _ _ _ _ _ (sym (m .before .before .before .write-line .ensures .0) ∙ m .length .given .1)
 
 returns-2 : tie.Need-returns-2
 returns-2 c told = absurd (true≢false (sym told))

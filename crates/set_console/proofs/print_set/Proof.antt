@@ -1,10 +1,10 @@
--- `make_set::print_set` is safe and ends: a line that was printed is one of the set's.
+-- `set_console::print_set` is safe and ends: a line that was printed is one of the set's.
 use Prim.Native.Nat.{_-_}
 use native.Mathlib.Omega.{arith}
 use Rattle.lines.specs.Slots.{lineCount}
 use Rattle.set_console.proofs.LineLaws.{Within, given-within}
-use Rattle.make_set.proofs.print_set.Statement.{statement}
-use Rattle.make_set.proofs.print_set.Tie as tie
+use Rattle.set_console.proofs.print_set.Statement.{statement}
+use Rattle.set_console.proofs.print_set.Tie as tie
 
 abbrev Inv-loop : tie.InvT-loop
 Inv-loop d initial offsets number₀ number = Unit {0}
