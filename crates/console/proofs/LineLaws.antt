@@ -5,7 +5,7 @@ use mathlib.Core.List.{List, _++_}
 use Prim.Native.Nat.{ℕ, _+_, _≤_, _<_}
 use native.Mathlib.Numerals.{add-one}
 use native.Mathlib.Omega.{arith}
-use lib.ListN.{length, getD, take, set, length-append}
+use lib.ListN.{length, take, set, length-append}
 use lib.Seq.{getD-set-same, getD-set-other, length-take-le}
 use Rattle.general.proofs.Sums.{below-suc}
 use Rattle.frames.specs.Line.{longestLine, lineFails}

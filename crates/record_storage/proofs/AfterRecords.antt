@@ -53,6 +53,14 @@ held-unused n (a ∷ []) h = refl
 held-unused n (a ∷ b ∷ []) h = refl
 held-unused n (a ∷ b ∷ c ∷ rest) h = absurd (omega arith)
 
+-- So a state is possible that holds as many bytes as are cut after n records.
+pub cut-possible : (total n : ℕ) (bytes : List ℕ) → length (cutBytes bytes) ≡ heldCount total n → n ≤ recordCount total
+    → hexPossible total (holding n (cutBytes bytes)) ≡ true
+unfolding hexPossible holding
+cut-possible total n bytes held within =
+    let short : length (cutBytes bytes) ≤ 2 = omega (arith, cut-length bytes) in
+    rw (le-leb n (recordCount total) within) (ap not (rw held at (held-unused n (cutBytes bytes) short)))
+
 -- n records hold these bytes of so many.
 module _ (total n : ℕ) (bytes : List ℕ) (size : length bytes ≡ bytesBefore total n) where
   cut-held : length (cutBytes bytes) ≡ heldCount total n
@@ -63,9 +71,7 @@ module _ (total n : ℕ) (bytes : List ℕ) (size : length bytes ≡ bytesBefore
   cut-short = omega (arith, cut-length bytes)
 
   pub so-possible : n ≤ recordCount total → hexPossible total (holding n (cutBytes bytes)) ≡ true
-  unfolding hexPossible holding
-  so-possible within =
-      rw (le-leb n (recordCount total) within) (ap not (rw cut-held at (held-unused n (cutBytes bytes) cut-short)))
+  so-possible within = cut-possible total n bytes cut-held within
 
   stream-is : (came piece : List ℕ) → dataOf total n came ≡ piece
       → stream total (holding n (cutBytes bytes)) came ≡ cutBytes bytes ++ piece

@@ -1,26 +1,22 @@
 -- The writer gives every record of a set that records can hold, and only of such a set all of them.
 use mathlib.Core.Path.{_≡_, ap}
 use mathlib.Core.Bool.{Bool, true, not, _&&_, and-false}
-use mathlib.Core.List.{List, [], _∷_, _++_}
+use mathlib.Core.List.{List}
 use Prim.Native.Nat.{ℕ, _+_, _*_, _/_, _≤_, _<_}
 use native.Mathlib.Omega.{arith}
 use lib.ListN.{length}
 use lib.IntN.{ℤ}
-use borrow.Author.Tests.{ltb-false, lt-leb, le-ltb, lt-ltb, not-true, not-false}
+use borrow.Author.Tests.{lt-leb, le-ltb, lt-ltb, not-true, not-false}
 use Rattle.general.specs.Below.{someBelow}
 use Rattle.general.proofs.Sums.{none-below, none-of}
 use Rattle.refusal.specs.declared.Verdict.{Verdict}
-use Rattle.refusal.proofs.Checks.{verdict-append, passed-append, none-fails}
-use Rattle.refusal.proofs.Answers.{only-passed}
+use Rattle.refusal.proofs.Checks.{verdict-append}
 use Rattle.design.specs.Stored.{initialCount}
-use Rattle.tables.specs.Inputs.{Usable}
-use Rattle.tables.specs.Set.{setChecks}
-use Rattle.tables.proofs.SetLaws.{usable, set-passed}
+use Rattle.tables.proofs.SetLaws.{set-passed}
 use Rattle.encoding.specs.Bytes.{entryBytes}
-use Rattle.writing.specs.declared.Written.{Written}
 use Rattle.writing.specs.Write.{askedChecks}
 use Rattle.records.specs.IntelHex.{dataBytes, dataCount, recordCount}
-use Rattle.records.specs.SetBytes.{entryCount, byteCount, mostBytes, entryFits, bytesCheck, recordSetChecks}
+use Rattle.records.specs.SetBytes.{entryCount, byteCount, entryFits, bytesCheck, recordSetChecks}
 use Rattle.record_writing.specs.WriteRecord.{
   hexNumberCheck,
   hasByteIn,
@@ -29,6 +25,7 @@ use Rattle.record_writing.specs.WriteRecord.{
   hexWriteAnswer,
   recordBufferAfter,
 }
+use Rattle.record_writing.proofs.GivenLaws.{Given, given, record-given}
 use Rattle.storage.specs.Sets.{TableSet}
 use Rattle.record_storage.specs.RecordStorage.{recordIn, Recordable, HexGives}
 
@@ -83,35 +80,17 @@ module _ (t : TableSet) (n : ℕ) (buffer : List ℕ) where
     gives = record { answer = rw passes; text = rw passes }
 
   -- What a record that it gives tells
-  record Given : Type 0 where
-    tables : Usable (t .design) (length (t .initial)) (length (t .offsets))
-    addressed : byteCount (t .design) ≤ mostBytes
-    fit : recordFits (entryCount (t .design)) (initialCount (t .design)) (t .initial) (t .offsets) n ≡ true
+  abbrev GivenOf : Type 0
+  GivenOf = Given (t .design) (t .initial) (t .offsets) n (length buffer)
 
-  given : hexWriteVerdict (t .design) (t .initial) (t .offsets) n (length buffer) ≡ Verdict.Passed → Given
-  unfolding hexWriteVerdict recordSetChecks bytesCheck hexNumberCheck askedChecks
-  given e =
-      let d = t .design in
-      let before = setChecks d (length (t .initial)) (length (t .offsets)) in
-      let fit = recordFits (entryCount d) (initialCount d) (t .initial) (t .offsets) n in
-      let later = hexNumberCheck d n ∷ askedChecks fit (length (recordIn t n)) (length buffer) in
-      let lists = passed-append (before ++ bytesCheck d ∷ []) later e in
-      let set = passed-append before (bytesCheck d ∷ []) (lists .0) in
-      record {
-        tables = usable _ _ _ (set .0);
-        addressed = ltb-false _ _ (none-fails (bytesCheck d ∷ []) (set .1) .0);
-        fit = not-false fit (none-fails later (lists .1) .1 .0);
-      }
-
-  told : HexGives t n buffer → Given
-  unfolding hexWriteAnswer
+  told : HexGives t n buffer → GivenOf
   told g =
-      given (only-passed (λ (answer : Written). answer ≡ Written.Length (length (recordIn t n))) _ _ Written.Refused
-      (λ cause f. let z : _≡_ {A = ℕ} 0 1 = cc in omega arith) (g .answer))
+      given (t .design) (t .initial) (t .offsets) n (length buffer)
+      (record-given (t .design) (t .initial) (t .offsets) n (length buffer) (g .answer))
 
 -- A set of which it gives every record
 module _ (t : TableSet) (buffer : List ℕ) (gives : (n : ℕ) → n < recordCount (byteCount (t .design)) → HexGives t n buffer) where
-  first-given : Given t 0 buffer
+  first-given : GivenOf t 0 buffer
   unfolding recordCount
   first-given = told t 0 buffer (gives 0 (omega arith))
 

@@ -3,3 +3,4 @@ pub mod FitsLaws
 pub mod WindowLaws
 pub mod ColonLaws
 pub mod AskedLaws
+pub mod GivenLaws

@@ -16,7 +16,7 @@ use Rattle.frames.specs.Inputs.{EvenDigits}
 use Rattle.frames.proofs.HexLaws.{bytes-length}
 use Rattle.frames.proofs.DecodedLaws.{kept, if-refused, if-accepted, other-character}
 use Rattle.encoding.proofs.HexBack.{Bytes, bytes-small}
-use Rattle.records.specs.Record.{digitsIn, otherBytes, sizeFails, recordFails, decodedRecord}
+use Rattle.records.specs.Record.{digitsIn, otherBytes, longestRecord, sizeFails, recordFails, decodedRecord}
 
 -- The first byte of digits is below 256, if they are digits;
 first-small : (bytes : List ℕ) → Bytes bytes → getD bytes 0 0 < 256
@@ -63,18 +63,21 @@ module _ (text : List ℕ) where
   odd-refused even = refused (size-fails (other-size (λ size. omega (arith, length-drop 1 text))))
 
   -- or more than the largest length byte says,
-  pub long-refused : 521 < length text → decodedIf true Cause.Record [] ≡ decodedRecord text
-  long-refused long = go (allDigits (digitsIn text)) refl
+  pub long-fails : longestRecord < length text → recordFails text ≡ true
+  long-fails long = go (allDigits (digitsIn text)) refl
     where
-      go : (digits : Bool) → allDigits (digitsIn text) ≡ digits → decodedIf true Cause.Record [] ≡ decodedRecord text
+      go : (digits : Bool) → allDigits (digitsIn text) ≡ digits → recordFails text ≡ true
       go true e =
           let small = first-small (bytesOf (digitsIn text)) (bytes-small (digitsIn text) e) in
-          refused (size-fails (other-size (λ size. omega (arith, length-drop 1 text, small))))
-      go false e = refused (text-fails (other-character _ e))
+          size-fails (other-size (λ size. omega (arith, length-drop 1 text, small)))
+      go false e = text-fails (other-character _ e)
+
+  pub long-refused : longestRecord < length text → decodedIf true Cause.Record [] ≡ decodedRecord text
+  long-refused long = refused (long-fails long)
 
   -- What is left of a record that has its colon and an even number of digits, not too many
   module _ (odd : length text % 2 ≡ 1) where
-    pub digits-even : length text ≤ 521 → EvenDigits (length (digitsIn text))
+    pub digits-even : length text ≤ longestRecord → EvenDigits (length (digitsIn text))
     digits-even short = record { even = omega (arith, length-drop 1 text); few = omega (arith, length-drop 1 text) }
 
     count-is : length (bytesOf (digitsIn text)) * 2 ≡ length (digitsIn text)

@@ -22,6 +22,10 @@ bytesIn text = bytesOf (digitsIn text)
 abbrev pub otherBytes : ℕ
 otherBytes = 5
 
+-- How many characters a record has at most: a colon and two digits a byte, of which there are up to 255 beside the others
+abbrev pub longestRecord : ℕ
+longestRecord = 1 + 2 * (255 + otherBytes)
+
 -- "does not have the length its own length byte says", which is its first; two digits a byte
 unfoldable pub sizeFails : List ℕ → Bool
 sizeFails digits = not (eqb (length digits) (2 * (getD (bytesOf digits) 0 0 + otherBytes)))

@@ -8,7 +8,7 @@ use borrow.Author.Needs.{needs}
 use borrow.Author.Tests.{ltb-true, ltb-false}
 use Rattle.refusal.specs.declared.Cause.{Cause}
 use Rattle.frames.specs.Line.{textFails, decodedIf}
-use Rattle.records.specs.Record.{digitsIn}
+use Rattle.records.specs.Record.{digitsIn, longestRecord}
 use Rattle.records.proofs.RecordLaws.{
   lent-digits,
   colon-refused,
@@ -34,7 +34,7 @@ returns-2 c = c .unsound2 .ensures ∙ colon-refused _ (c .before .if3 .taken)
 odd : (c : tie.Else3) → length (c .before .before .before .before .before .args .text .now) % 2 ≡ 1
 odd c = omega (arith, c .before .before .before .if1 .left)
 
-short : (c : tie.Else3) → length (c .before .before .before .before .before .args .text .now) ≤ 521
+short : (c : tie.Else3) → length (c .before .before .before .before .before .args .text .now) ≤ longestRecord
 short c = ltb-false _ _ (c .before .before .if2 .left)
 
 decode-digits-requires : tie.Need-decode-digits-requires
