@@ -85,11 +85,11 @@ module _ (state : Reading) (initial initial' : List ℕ) (offsets offsets' : Lis
 
   module _ (answer : read ≡ readAnswer s line) (initial-is : initial' ≡ after s line .initial)
       (offsets-is : offsets' ≡ after s line .offsets) where
-    verdict-told : {v : Verdict} → read .verdict ≡ v → verdictOn s line ≡ v
+    pub verdict-told : {v : Verdict} → read .verdict ≡ v → verdictOn s line ≡ v
     unfolding readAnswer
     verdict-told e = sym (ap (λ (r : Read). r .verdict) answer) ∙ e
 
-    state-told : read .state ≡ after s line .state
+    pub state-told : read .state ≡ after s line .state
     unfolding readAnswer
     state-told = ap (λ (r : Read). r .state) answer
 
@@ -148,10 +148,10 @@ few-taken state p =
       | no none ↦ omega arith
     ]
 
-abbrev pub left : Bool → ℕ → ℕ
-left more taken = cond more (mostLines + 1 - taken) 0
+abbrev pub left : ℕ → Bool → ℕ → ℕ
+left most more taken = cond more (most + 1 - taken) 0
 
-pub left-less : (taken next : ℕ) (before more : Bool) → taken ≤ mostLines → before ≡ true → (more ≡ true → next ≡ taken + 1)
-    → left more next < left before taken
-left-less taken next before true few e moves = rw e (omega (arith, moves refl))
-left-less taken next before false few e moves = rw e (omega arith)
+pub left-less : (most taken next : ℕ) (before more : Bool) → taken ≤ most → before ≡ true → (more ≡ true → next ≡ taken + 1)
+    → left most more next < left most before taken
+left-less most taken next before true few e moves = rw e (omega (arith, moves refl))
+left-less most taken next before false few e moves = rw e (omega arith)

@@ -1,5 +1,6 @@
 -- `set_console::read_set` meets its contract: each step feeds what it took, and the loop ends since no set has more lines than are left.
 use borrow.Author.Needs.{needs}
+use Rattle.lines.specs.Slots.{mostLines}
 use Rattle.reading.specs.ReadLine.{session}
 use Rattle.reading.proofs.ReadLaws.{first-possible}
 use Rattle.set_console.specs.Reading.{Came}
@@ -11,7 +12,7 @@ abbrev Inv-loop : tie.InvT-loop
 Inv-loop initial₀ offsets₀ state₀ more₀ initial offsets state more = Came initial₀ offsets₀ (session state initial offsets)
 
 abbrev μ-loop : tie.MeasureT-loop
-μ-loop initial₀ offsets₀ state₀ more₀ initial offsets state more = left more (state .taken)
+μ-loop initial₀ offsets₀ state₀ more₀ initial offsets state more = left mostLines more (state .taken)
 
 loop-holds : tie.Need-loop-holds Inv-loop μ-loop
 loop-holds c = came-none _ _ _ (c .begin .ensures) (first-possible _ (c .begin .ensures))
@@ -21,7 +22,7 @@ loop-less c =
     let t = c .before .before .before .before in
     let i = t .before .before .before in
     let l = i .before .loop in
-    left-less (l .state .taken) _ _ _ (few-taken _ (l .inv .is-possible)) (i .loop-test .taken) (t .take-line .ensures .moves)
+    left-less mostLines (l .state .taken) _ _ _ (few-taken _ (l .inv .is-possible)) (i .loop-test .taken) (t .take-line .ensures .moves)
 
 loop-again : tie.Need-loop-again Inv-loop μ-loop
 loop-again c =

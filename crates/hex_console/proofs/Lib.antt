@@ -1,0 +1,4 @@
+-- Laws of sets that programs read from records and write as records.
+pub mod TextLaws
+pub mod LoadLaws
+pub mod StepLaws
