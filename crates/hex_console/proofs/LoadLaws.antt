@@ -1,4 +1,4 @@
--- Records that are fed to a reading keep its state possible and its tables' lengths; so a set that is read comes from where its records led.
+-- Records that are fed to a reading keep its state possible and its tables' lengths; so a set that is read is where its records led.
 use mathlib.Core.Path.{_≡_, refl, ap, _∙_}
 use mathlib.Core.Bool.{Bool, true}
 use mathlib.Core.List.{List, [], _∷_, _++_}

@@ -54,8 +54,8 @@ still-long LineEnd.Cut text long = omega arith
 long-text-fails : (text : List ℕ) → longestRecord < length text → TextFails text
 long-text-fails text long = record { as-record = RecordLaws.long-fails text long; as-line = long-fails text (omega arith) }
 
--- A line is read into so many bytes, and `count` of them stand on it.
-pub text-read : (bytes : List ℕ) (start : LineStart) (count : ℕ) → length bytes ≡ longestRecord + 2 → StartRead bytes start
+-- A line is read into so many bytes or more, and `count` of them stand on it.
+pub text-read : (bytes : List ℕ) (start : LineStart) (count : ℕ) → longestRecord + 2 ≤ length bytes → StartRead bytes start
     → count ≤ start .count → take count bytes ≡ lineText (start .end) (take (start .count) bytes)
     → TextRead bytes (record { count = count; end = start .end })
 text-read bytes start count room read few text =
@@ -67,6 +67,6 @@ text-read bytes start count room read few text =
       text = text;
       cut = λ e rest end.
           let front = take (start .count) bytes in
-          let all : length front ≡ longestRecord + 2 = omega (arith, read .full e, length-take-le (start .count) bytes (read .counts .0)) in
+          let all : longestRecord + 2 ≤ length front = omega (arith, read .full e, length-take-le (start .count) bytes (read .counts .0)) in
           long-text-fails _ (still-long end (front ++ rest) (omega (arith, length-append front rest)));
     }

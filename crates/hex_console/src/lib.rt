@@ -61,7 +61,7 @@ fn text_length(bytes: &[u8], count: usize, end: LineEnd) -> usize
 
 // Reads a line of the input; its text stands at the start of the lent bytes.
 fn read_text(bytes: &mut [u8]) -> LineStart
-    requires { ⌜ length (now bytes) ≡ longestRecord + 2 ⌝ }
+    requires { ⌜ longestRecord + 2 ≤ length (now bytes) ⌝ }
     ensures { λ r. ⌜ TextRead (now (bytes .exit)) r ⌝ }
 {
     let start = read_start(bytes);

@@ -1,6 +1,5 @@
 -- `hex_console::read_text` meets its contract: what was read of a line, and what of that stands on it.
-use mathlib.Core.Path.{_≡_}
-use Prim.Native.Nat.{_+_}
+use Prim.Native.Nat.{_+_, _≤_}
 use lib.ListN.{length}
 use borrow.Author.Needs.{needs}
 use Rattle.records.specs.Record.{longestRecord}
@@ -11,7 +10,7 @@ use Rattle.hex_console.proofs.read_text.Tie as tie
 returns : tie.Need-returns
 returns c =
     let read = c .before .before .before .before .read-start in
-    let room : length (read .last .0) ≡ longestRecord + 2 = search needs in
+    let room : longestRecord + 2 ≤ length (read .last .0) = search needs in
     text-read _ _ _ room (read .ensures) (c .text-length .ensures .0) (c .text-length .ensures .1)
 
 pub read-text-spec : {M : Type 1} → statement M

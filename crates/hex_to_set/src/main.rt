@@ -1,0 +1,28 @@
+// Reads a design's line and the Intel HEX records of its set from standard input, and writes the set's lines.
+ghost use lib.ListN.{length};
+ghost use Rattle.set_console.specs.Reading.{HoldsEverySet};
+use design::limits::MOST_INITIAL;
+use design::limits::MOST_OFFSETS;
+use hex_console::read_design;
+use hex_console::read_records;
+use set_console::print_set;
+
+fn read_and_write(initial: &mut [u32], offsets: &mut [i32])
+    requires { ⌜ HoldsEverySet (length (now initial)) (length (now offsets)) ⌝ }
+{
+    let first = read_design(initial, offsets);
+    let design = first.design;
+    if !first.accepted {
+        return;
+    }
+    let set = read_records(design, initial, offsets);
+    if set.finished {
+        print_set(design, initial, offsets);
+    }
+}
+
+fn main() {
+    let mut initial = [0u32; MOST_INITIAL];
+    let mut offsets = [0i32; MOST_OFFSETS];
+    read_and_write(&mut initial, &mut offsets);
+}

@@ -1,0 +1,17 @@
+-- `set_to_hex::main` meets its contract: its tables hold every legal set.
+use borrow.Author.Needs.{needs}
+use Rattle.set_console.proofs.LineLaws.{every-set}
+use Rattle.set_to_hex.proofs.main.Statement.{statement}
+use Rattle.set_to_hex.proofs.main.Tie as tie
+
+read-and-write-requires : tie.Need-read-and-write-requires
+read-and-write-requires c κs = every-set
+
+pub main-spec : {M : Type 1} → statement M
+main-spec =
+    tie.close
+    (tie.spec
+    (λ c. search needs)
+    (λ c. search needs)
+    read-and-write-requires
+    (λ c. search needs))
