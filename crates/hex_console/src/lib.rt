@@ -207,12 +207,15 @@ pub fn read_records(d: Design, initial: &mut [u32], offsets: &mut [i32]) -> Reco
     }
 }
 
+// The longest record and its newline.
+const PRINTED: usize = LONGEST_RECORD + 1;
+
 // Writes a record of a set; false where the writer gives no such record or it could not be written whole.
 fn print_record(d: Design, initial: &[u32], offsets: &[i32], number: usize) -> bool
     ensures { λ r.
-        ⌜ (r ≡ true → hexWriteVerdict d (now (initial .entry)) (now (offsets .entry)) number (longestRecord + 2) ≡ Verdict.Passed) ⌝ }
+        ⌜ (r ≡ true → hexWriteVerdict d (now (initial .entry)) (now (offsets .entry)) number (longestRecord + 1) ≡ Verdict.Passed) ⌝ }
 {
-    let mut buffer = [0u8; KEPT];
+    let mut buffer = [0u8; PRINTED];
     match write_record(d, initial, offsets, number, &mut buffer) {
         Written::Length(length) => print_text(&mut buffer, length),
         Written::Refused(_) => false,

@@ -5,6 +5,9 @@ use borrow.Author.Needs.{needs}
 use Rattle.hex_console.proofs.read_design.Statement.{statement}
 use Rattle.hex_console.proofs.read_design.Tie as tie
 
+read-text-requires : tie.Need-read-text-requires
+read-text-requires c κs = search needs
+
 returns : tie.Need-returns
 returns c = (λ e. absurd (true≢false (sym e)), (refl, refl))
 
@@ -13,7 +16,7 @@ read-design-spec =
     tie.close
     (tie.spec
     (λ c. search needs)
-    (λ c κs. search needs)
+    read-text-requires
     (λ c κs. search needs)
     (λ c. search needs)
     (λ c κs. search needs)

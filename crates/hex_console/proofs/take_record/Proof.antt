@@ -6,6 +6,9 @@ use Rattle.hex_console.proofs.StepLaws.{none-taken}
 use Rattle.hex_console.proofs.take_record.Statement.{statement}
 use Rattle.hex_console.proofs.take_record.Tie as tie
 
+read-text-requires : tie.Need-read-text-requires
+read-text-requires c κs = search needs
+
 add-print-number : tie.Need-add-print-number
 add-print-number c =
     let start = c .before .before .before .before .before .before .before .before in
@@ -19,7 +22,7 @@ take-record-spec =
     tie.close
     (tie.spec
     (λ c. search needs)
-    (λ c κs. search needs)
+    read-text-requires
     (λ c κs. search needs)
     (λ c. search needs)
     add-print-number
