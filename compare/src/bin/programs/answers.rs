@@ -11,7 +11,7 @@ struct Wanted {
 }
 
 /// Refusal 10 is none of them: the programs' tables are long enough for every set.
-const WANTED: [Wanted; 5] = [
+const WANTED: [Wanted; 7] = [
     Wanted {
         name: "report",
         answers: &["ADMITTED", "NOT ADMITTED"],
@@ -50,6 +50,16 @@ const WANTED: [Wanted; 5] = [
         ],
         refused: "LINE REFUSED",
     },
+    Wanted {
+        name: "set_to_hex",
+        answers: &["record", "UNFINISHED"],
+        refused: "LINE REFUSED",
+    },
+    Wanted {
+        name: "hex_to_set",
+        answers: &["digits", "UNFINISHED", "LINE REFUSED 21", "LINE REFUSED 22"],
+        refused: "LINE REFUSED",
+    },
 ];
 
 /// The refusals of a design's line.
@@ -73,6 +83,7 @@ fn answers_in(line: &str) -> Vec<String> {
         ["BUDGET", _, "LIMIT", _, "BITS", _, ref verdict @ ..] => verdict.join(" "),
         ["UNFAITHFUL" | "UNFINISHED", _] => words[0].into(),
         _ if line.starts_with(|c: char| c.is_ascii_digit()) => "digits".into(),
+        _ if line.starts_with(':') => "record".into(),
         _ => line.into(),
     };
     vec![answer]

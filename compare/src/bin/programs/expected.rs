@@ -1,7 +1,10 @@
 //! What each program should print for an input.
 
 use compare::random::Tables;
-use compare::wide::reference::{self, Checked, Design, Reading};
+use compare::wide::reference::{self, Checked, Design, HexReading, Reading};
+
+/// A writer, of lines or of records.
+type Write = fn(&Design, &[u32], &[i32], usize, &mut [u8]) -> Result<usize, u8>;
 
 /// Tables that hold every legal set.
 fn largest_tables() -> Tables {
@@ -24,13 +27,22 @@ fn begin() -> Reading {
 
 /// The lines of a set, each with a newline; none from an entry on that does not fit its 3 bytes.
 pub fn lines_of(d: &Design, tables: &Tables) -> Vec<String> {
-    let mut buffer = [0; 32];
+    written(reference::write_line, d, tables)
+}
+
+/// The records of a set, likewise.
+pub fn records_of(d: &Design, tables: &Tables) -> Vec<String> {
+    written(reference::write_record, d, tables)
+}
+
+fn written(write: Write, d: &Design, tables: &Tables) -> Vec<String> {
+    let mut buffer = [0; 43];
     (0..)
         .map_while(|n| {
             let Tables { initial, offsets } = tables;
-            let length = reference::write_line(d, initial, offsets, n, &mut buffer).ok()?;
-            let digits = std::str::from_utf8(&buffer[..length]).expect("digits");
-            Some(format!("{digits}\n"))
+            let length = write(d, initial, offsets, n, &mut buffer).ok()?;
+            let text = std::str::from_utf8(&buffer[..length]).expect("digits");
+            Some(format!("{text}\n"))
         })
         .collect()
 }
@@ -65,6 +77,16 @@ pub fn make_set(input: &[u8]) -> String {
     }
 }
 
+/// What is printed where the input ends too early, and for a line that is refused, by the number
+/// of lines taken.
+fn unfinished(taken: usize) -> String {
+    format!("UNFINISHED {taken}\n")
+}
+
+fn refused(taken: usize, refusal: u8) -> String {
+    format!("LINE {taken} REFUSED {refusal}\n")
+}
+
 /// A set that is read to its end with the lines behind it, or what is printed instead.
 fn read_set(input: &[u8]) -> Result<(Design, Tables, Vec<&[u8]>), String> {
     let Tables {
@@ -74,13 +96,9 @@ fn read_set(input: &[u8]) -> Result<(Design, Tables, Vec<&[u8]>), String> {
     let mut state = begin();
     let mut lines = input_lines(input).into_iter();
     while !state.is_finished() {
-        let Some(line) = lines.next() else {
-            return Err(format!("UNFINISHED {}\n", state.taken));
-        };
-        let (taken, next) = state.read_line(&mut initial, &mut offsets, line);
-        if let Err(refusal) = taken {
-            return Err(format!("LINE {} REFUSED {refusal}\n", state.taken));
-        }
+        let line = lines.next().ok_or_else(|| unfinished(state.taken))?;
+        let (answer, next) = state.read_line(&mut initial, &mut offsets, line);
+        answer.map_err(|refusal| refused(state.taken, refusal))?;
         state = next;
     }
     let tables = Tables { initial, offsets };
@@ -134,4 +152,51 @@ pub fn evaluate_set(input: &[u8]) -> String {
         },
     };
     words.iter().map(answer).collect()
+}
+
+pub fn set_to_hex(input: &[u8]) -> String {
+    match read_set(input) {
+        Ok((d, tables, _)) => records_of(&d, &tables).concat(),
+        Err(text) => text,
+    }
+}
+
+/// The lines of an input from a device programmer: a carriage return before the newline is no part
+/// of a line.
+fn programmer_lines(input: &[u8]) -> impl Iterator<Item = &[u8]> {
+    let lines = input.split_inclusive(|&byte| byte == b'\n');
+    lines.map(|line| match line {
+        [line @ .., b'\r', b'\n'] => line,
+        [line @ .., b'\n'] => line,
+        _ => line,
+    })
+}
+
+/// A set that is read from a design's line and records to its end, or what is printed instead.
+fn read_hex(input: &[u8]) -> Result<(Design, Tables), String> {
+    let Tables {
+        mut initial,
+        mut offsets,
+    } = largest_tables();
+    let mut lines = programmer_lines(input);
+    let line = lines.next().ok_or_else(|| unfinished(0))?;
+    let (answer, begun) = begin().read_line(&mut initial, &mut offsets, line);
+    answer.map_err(|refusal| refused(0, refusal))?;
+    let d = begun.design;
+    let mut state = HexReading::default();
+    while !state.is_finished(&d) {
+        let taken = 1 + state.taken;
+        let line = lines.next().ok_or_else(|| unfinished(taken))?;
+        let (answer, next) = state.read_record(&d, &mut initial, &mut offsets, line);
+        answer.map_err(|refusal| refused(taken, refusal))?;
+        state = next;
+    }
+    Ok((d, Tables { initial, offsets }))
+}
+
+pub fn hex_to_set(input: &[u8]) -> String {
+    match read_hex(input) {
+        Ok((d, tables)) => lines_of(&d, &tables).concat(),
+        Err(text) => text,
+    }
 }

@@ -3,6 +3,7 @@
 use std::ops::RangeInclusive;
 
 use super::expected::lines_of;
+use super::hex_inputs::{file_of, with_ends};
 use super::Runs;
 use compare::frames::{design_line, sealed};
 use compare::random::{is_admitted, largest, lengths, Given, Tables, LARGEST};
@@ -46,7 +47,7 @@ const FEW_ENTRIES: Design = Design {
 
 /// What may stand behind a line that is sound without it: a character, two, and so many that no
 /// program should wait for the last.
-fn behind() -> Vec<String> {
+pub fn behind() -> Vec<String> {
     let mut texts = ["0", "00", "\r", " ", "\0", " \t", "é"]
         .map(String::from)
         .to_vec();
@@ -114,6 +115,7 @@ impl Runs {
         self.filled_set(&d);
         self.longer_lines(&d);
         self.nothing_behind(&d);
+        self.spoilt_files(kind);
     }
 
     /// Lines of designs of any sort, legal or not.
@@ -166,8 +168,12 @@ impl Runs {
         for name in ["report", "make_set"] {
             self.reads_only(name, &lines[0], &lines[1]);
         }
-        for name in ["check_set", "count_set"] {
+        for name in ["check_set", "count_set", "set_to_hex"] {
             self.reads_only(name, &lines.concat(), "7\n");
+        }
+        let file = file_of(d, &tables);
+        for end in ["\n", "\r\n"] {
+            self.reads_only("hex_to_set", &with_ends(&file, end), "7\n");
         }
     }
 
@@ -182,6 +188,7 @@ impl Runs {
         let mut lines = lines_of(d, tables);
         self.all(lines[0].as_bytes());
         self.all(lines.concat().trim_end().as_bytes());
+        self.file(d, tables);
         lines.extend(self.any_words(d.w));
         self.all(lines.concat().as_bytes());
         let place = self.random.place(lines.len());
@@ -229,6 +236,7 @@ impl Runs {
         self.set(lines.concat().as_bytes());
         self.set((lines.concat() + &lines[0]).as_bytes());
         lines.push(last);
+        self.file(d, &tables);
         lines.extend(words(0..=1 << d.w));
         lines.extend(long_words(70_000));
         self.set(lines.concat().as_bytes());
@@ -245,6 +253,7 @@ impl Runs {
         let mut lines = lines_of(d, &tables);
         lines.extend(words(end - 100..=end));
         self.set(lines.concat().as_bytes());
+        self.file(d, &tables);
     }
 
     /// Words of all sorts.
@@ -263,7 +272,7 @@ impl Runs {
         words
     }
 
-    fn damaged(&mut self, line: &str) -> String {
+    pub fn damaged(&mut self, line: &str) -> String {
         let mut text = line.to_string();
         match self.random.within(0..=5) {
             0 => String::new(),

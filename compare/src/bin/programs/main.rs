@@ -3,6 +3,7 @@
 
 mod answers;
 mod expected;
+mod hex_inputs;
 mod inputs;
 
 use std::fs::File;
@@ -16,16 +17,18 @@ use compare::random::Random;
 /// A program by its name, and what it should print for an input.
 type Program = (&'static str, fn(&[u8]) -> String);
 
-/// The programs that read a line, and those that read a set.
+/// The programs that read a line, those that read a set, and the one that reads records.
 const LINE_PROGRAMS: [Program; 2] = [
     ("report", expected::report),
     ("make_set", expected::make_set),
 ];
-const SET_PROGRAMS: [Program; 3] = [
+const SET_PROGRAMS: [Program; 4] = [
     ("check_set", expected::check_set),
     ("count_set", expected::count_set),
     ("evaluate_set", expected::evaluate_set),
+    ("set_to_hex", expected::set_to_hex),
 ];
+const HEX_PROGRAM: Program = ("hex_to_set", expected::hex_to_set);
 
 struct Runs {
     directory: PathBuf,
@@ -46,7 +49,8 @@ impl Runs {
 
     /// The programs that are not there.
     fn missing(&self) -> Vec<&'static str> {
-        let names = LINE_PROGRAMS.iter().chain(&SET_PROGRAMS).map(|p| p.0);
+        let programs = LINE_PROGRAMS.iter().chain(&SET_PROGRAMS);
+        let names = programs.chain([&HEX_PROGRAM]).map(|program| program.0);
         names
             .filter(|name| !self.directory.join(name).is_file())
             .collect()
@@ -56,6 +60,7 @@ impl Runs {
     fn all(&mut self, input: &[u8]) {
         self.line(input);
         self.set(input);
+        self.hex(input);
     }
 
     /// The programs that read a line.
@@ -70,6 +75,11 @@ impl Runs {
         for program in SET_PROGRAMS {
             self.compare(program, input);
         }
+    }
+
+    /// The program that reads records.
+    fn hex(&mut self, input: &[u8]) {
+        self.compare(HEX_PROGRAM, input);
     }
 
     /// Ends everything at a difference. A program ends with status 0 whatever it prints.
