@@ -7,7 +7,7 @@ ghost use lib.ListN.{length};
 ghost use Rattle.refusal.specs.Checks.{verdict};
 ghost use Rattle.frames.specs.Hex.{digitValue};
 ghost use Rattle.frames.specs.Line.{textFails, lengthFails, decodedIf, decoded};
-ghost use Rattle.frames.specs.Inputs.{EvenDigits};
+ghost use Rattle.frames.specs.Inputs.{digitNumbers, EvenDigits};
 ghost use Rattle.frames.specs.DesignFrame.{frameChecks, framePair, frameDesign, firstChecks};
 use design::Design;
 use design::NO_PAIR;
@@ -29,17 +29,44 @@ pub struct Decoded {
     pub count: usize,
 }
 
-// The number that a digit stands for. 16, which no digit does, for any other character, so that callers need one test.
-fn digit(c: u8) -> u8
+// The numbers that the characters from '0' to 'F' stand for, 16 for those among them that are no digits.
+const DIGITS: [u8; 23] = [
+    0,
+    1,
+    2,
+    3,
+    4,
+    5,
+    6,
+    7,
+    8,
+    9,
+    16,
+    16,
+    16,
+    16,
+    16,
+    16,
+    16,
+    10,
+    11,
+    12,
+    13,
+    14,
+    15,
+];
+
+// The number that a digit stands for. 16, which no digit does, for any other character, so that callers need one test. It is looked up: a
+// branch on whether a digit is a letter, which comes at random, would often be guessed wrong. The caller lends the numbers, so that they are
+// put into memory once for all digits.
+fn digit(numbers: &[u8; 23], c: u8) -> u8
+    requires { ⌜ now numbers ≡ digitNumbers ⌝ }
     ensures { λ r. ⌜ r ≡ digitValue c ⌝ }
 {
-    if refusal::outside(48, 57, c as u32) {
-        if refusal::outside(65, 70, c as u32) {
-            return 16;
-        }
-        return c - 55;
+    if refusal::outside(48, 70, c as u32) {
+        return 16;
     }
-    c - 48
+    numbers[(c - 48) as usize]
 }
 
 // Whether a line that is not empty is refused for its number of digits alone.
@@ -67,12 +94,13 @@ pub fn decode_digits(digits: &[u8], cause: Cause) -> Decoded
     ensures { λ r. ⌜ r ≡ decodedIf (textFails (now (digits .entry))) cause (now (digits .entry)) ⌝ }
 {
     let count = digits.len() / 2;
+    let numbers = DIGITS;
     let mut bytes = [0u8; CAPACITY];
     let mut sum: u32 = 0;
     let mut i = 0;
     while i < count {
-        let high = digit(digits[2 * i]);
-        let low = digit(digits[2 * i + 1]);
+        let high = digit(&numbers, digits[2 * i]);
+        let low = digit(&numbers, digits[2 * i + 1]);
         if 16 <= high || 16 <= low {
             return unsound(cause);
         }

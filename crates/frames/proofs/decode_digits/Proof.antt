@@ -1,5 +1,5 @@
 -- `frames::decode_digits` meets its contract: the loop keeps `BytesRead`, and each way out cites a law that refuses or accepts the digits.
-use mathlib.Core.Path.{_∙_}
+use mathlib.Core.Path.{refl, _∙_}
 use mathlib.Core.Logic.{⊎-elim, inl, inr}
 use Prim.Native.Nat.{_-_}
 use native.Mathlib.Omega.{arith}
@@ -11,10 +11,10 @@ use Rattle.frames.proofs.decode_digits.Statement.{statement}
 use Rattle.frames.proofs.decode_digits.Tie as tie
 
 abbrev Inv-loop : tie.InvT-loop
-Inv-loop digits cause count bytes₀ sum₀ i₀ bytes sum i = BytesRead digits bytes sum i
+Inv-loop digits cause count numbers bytes₀ sum₀ i₀ bytes sum i = BytesRead digits bytes sum i
 
 abbrev μ-loop : tie.MeasureT-loop
-μ-loop digits cause count bytes₀ sum₀ i₀ bytes sum i = count - i
+μ-loop digits cause count numbers bytes₀ sum₀ i₀ bytes sum i = count - i
 
 loop-holds : tie.Need-loop-holds Inv-loop μ-loop
 loop-holds c = start _ (search needs)
@@ -25,6 +25,10 @@ mul-digit c = omega arith
 shared-slice-read-digit : tie.Need-shared-slice-read-digit Inv-loop μ-loop
 shared-slice-read-digit c = omega arith
 
+-- the numbers of the digits are lent
+digit-requires : tie.Need-digit-requires Inv-loop μ-loop
+digit-requires c κs = refl
+
 mul-digit-2 : tie.Need-mul-digit-2 Inv-loop μ-loop
 mul-digit-2 c = omega arith
 
@@ -34,15 +38,18 @@ add-digit c = omega arith
 shared-slice-read-digit-2 : tie.Need-shared-slice-read-digit-2 Inv-loop μ-loop
 shared-slice-read-digit-2 c = omega arith
 
+digit-requires-2 : tie.Need-digit-requires-2 Inv-loop μ-loop
+digit-requires-2 c κs = refl
+
 two-digits : (c : tie.After-digit2 Inv-loop μ-loop)
-    → Digits (c .before .before .before .before .before .before .before .args .digits .now)
-    (c .before .before .before .before .before .loop .i) (c .before .before .digit .result) (c .digit2 .result)
-two-digits c = record { more = omega arith; first = c .before .before .digit .ensures; second = c .digit2 .ensures }
+    → Digits (c .before .before .before .before .before .before .before .before .before .args .digits .now)
+    (c .before .before .before .before .before .before .before .loop .i) (c .before .before .before .digit .result) (c .digit2 .result)
+two-digits c = record { more = omega arith; first = c .before .before .before .digit .ensures; second = c .digit2 .ensures }
 
 returns : tie.Need-returns Inv-loop μ-loop
 returns c =
     let read = c .before .before in
-    let so-far = read .before .before .before .before .before .loop .inv in
+    let so-far = read .before .before .before .before .before .before .before .loop .inv in
     let bad = ⊎-elim (λ w. inl (w .taken)) (λ w. inr (leb-true _ _ (w .1 .taken))) (c .before .if1 .came) in
     c .unsound .ensures ∙ broken so-far (two-digits read) bad _
 
@@ -71,7 +78,7 @@ loop-less c = omega arith
 loop-again : tie.Need-loop-again Inv-loop μ-loop
 loop-again c =
     let read = c .before .before .before in
-    let so-far = read .before .before .before .before .before .loop .inv in
+    let so-far = read .before .before .before .before .before .before .before .loop .inv in
     let two = two-digits read in
     let high = c .before .before .if1 .left in
     let low = leb-false _ _ (c .before .if2 .left) in
@@ -97,11 +104,11 @@ decode-digits-spec =
     loop-holds
     mul-digit
     shared-slice-read-digit
-    (λ c κs. search needs)
+    digit-requires
     mul-digit-2
     add-digit
     shared-slice-read-digit-2
-    (λ c κs. search needs)
+    digit-requires-2
     (λ c κs. search needs)
     returns
     mul-byte

@@ -123,7 +123,7 @@ store-entries-requires c κs =
     let s = b .before .before .before .before .before .before in (
       full w,
       store-input _ _ _ _ (b .before .bytes-before .ensures) (b .bytes-before2 .ensures) (s .args .extent) _ _ _ refl (s .pre .lent)
-      (omega arith),
+          (omega arith),
     )
 
 add-holding-from-2 : tie.Need-add-holding-from-2
