@@ -56,9 +56,9 @@ const DIGITS: [u8; 23] = [
     15,
 ];
 
-// The number that a digit stands for. 16, which no digit does, for any other character, so that callers need one test. It is looked up: a
-// branch on whether a digit is a letter, which comes at random, would often be guessed wrong. The caller lends the numbers, so that they are
-// put into memory once for all digits.
+// The number that a digit stands for. 16, which no digit does, for any other character, so that callers need one test. It is looked up:
+// a branch on whether a digit is a letter, which comes at random, would often be guessed wrong. The caller lends the numbers, so that they
+// are put into memory once for all digits.
 fn digit(numbers: &[u8; 23], c: u8) -> u8
     requires { ⌜ now numbers ≡ digitNumbers ⌝ }
     ensures { λ r. ⌜ r ≡ digitValue c ⌝ }
@@ -87,8 +87,8 @@ pub fn unsound(cause: Cause) -> Decoded
     }
 }
 
-// inner: the bytes of digits, two digits a byte, or the caller's refusal where a character is no digit or the sum is wrong. An array keeps no
-// more bytes than it holds. The sum of so few bytes is far below 2^32, so it is reduced only once, at the end.
+// inner: the bytes of digits, two digits a byte, or the caller's refusal where a character is no digit or the sum is wrong. An array keeps
+// no more bytes than it holds. The sum of so few bytes is far below 2^32, so it is reduced only once, at the end.
 pub fn decode_digits(digits: &[u8], cause: Cause) -> Decoded
     requires { ⌜ EvenDigits (length (now digits)) ⌝ }
     ensures { λ r. ⌜ r ≡ decodedIf (textFails (now (digits .entry))) cause (now (digits .entry)) ⌝ }

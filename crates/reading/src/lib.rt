@@ -66,8 +66,8 @@ fn is_possible(state: Reading) -> bool
     state.taken as u64 <= line_count(state.design)
 }
 
-// inner: whether a frame is not the one due, which begins as `head` does and has `width` bytes more and a sum byte behind that. (Records use
-// it, too.)
+// inner: whether a frame, of a line or of a record, is not the one due, which begins as `head` does and has `width` bytes more and a sum
+// byte behind that.
 pub fn head_fails(head: Frame, width: usize, bytes: [u8; CAPACITY], count: usize) -> bool
     requires { ⌜ head .count + width ≤ capacity ⌝ }
     ensures { λ r. ⌜ r ≡ headFails (held head) width bytes count ⌝ }

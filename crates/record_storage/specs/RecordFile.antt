@@ -1,5 +1,5 @@
--- Document 02, A2: the records of a set as the document lists them. "Write a set's entries, 3 bytes each, big-endian, initial entries first,
--- as data records of 16 bytes from address 0, the last one shorter where fewer are left, then the end record".
+-- Document 02, A2: the records of a set as the document lists them. "Write a set's entries, 3 bytes each, big-endian, initial entries
+-- first, as data records of 16 bytes from address 0, the last one shorter where fewer are left, then the end record".
 use mathlib.Core.List.{List, [], _∷_, _++_}
 use Prim.Native.Nat.{ℕ, zero, suc, _+_}
 use lib.ListN.{length, getD, take, drop}

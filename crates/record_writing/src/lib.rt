@@ -71,8 +71,8 @@ fn put_entry(number: u32, at: usize, window: &mut [u8])
     window[at + 2] = (number % 256) as u8;
 }
 
-// Puts the entries that have a byte in record n into the window, so that the record's own bytes stand right behind the place of its head, and
-// says whether all of them fit: from the one that its first byte is of to the one that its last byte is of.
+// Puts the entries that have a byte in record n into the window, from the one that its first byte is of to the one that its last byte is
+// of, so that the record's own bytes stand right behind the place of its head, and says whether all of them fit.
 fn put_entries(
     extent: Extent,
     initial: &[u32],
@@ -155,6 +155,7 @@ pub fn write_record(
     let mut window = [0u8; WINDOW];
     let fits = put_entries(extent, initial, offsets, number, &mut window);
     let size = bytes_before(total, number + 1) - bytes_before(total, number);
+    // a colon, and two digits for each of these bytes and of the five beside them
     let characters = 11 + 2 * size;
     if let Verdict::Refused(cause) = line_verdict(fits, characters, record.len()) {
         return Written::Refused(cause);

@@ -64,7 +64,8 @@ pub fn bytes_before(total: usize, n: usize) -> usize
     total
 }
 
-// inner: what record n begins with: length, address and type. The one record that holds no bytes is the end record.
+// inner: what record n begins with: length, where a frame has its kind, address and type. The one record that holds no bytes is the end
+// record.
 pub fn head_of(total: usize, n: usize) -> Frame
     requires { ⌜ RecordInput total n ⌝ }
     ensures { λ r. ⌜ held r ≡ recordHead total n ⌝ }
