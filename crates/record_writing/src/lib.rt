@@ -20,6 +20,7 @@ use encoding::numbers::complement;
 use encoding::numbers::fits;
 use encoding::numbers::fits_signed;
 use encoding::put_bytes;
+use records::DATA_BYTES;
 use records::Extent;
 use records::HEAD_BYTES;
 use records::MOST_BYTES;
@@ -57,7 +58,7 @@ fn entry_number(initials: usize, initial: &[u32], offsets: &[i32], e: usize) -> 
 }
 
 // How many bytes a window holds into which a record's entries are put whole: those of its head, 16, and at most two more.
-const WINDOW: usize = 22;
+const WINDOW: usize = HEAD_BYTES + DATA_BYTES + 2;
 
 // Puts the 3 bytes of an entry into the window, from a place on.
 fn put_entry(number: u32, at: usize, window: &mut [u8])

@@ -80,10 +80,10 @@ pub fn head_of(total: usize, n: usize) -> Frame
 }
 
 // How many bytes a record has beside its data: those of its head, and the sum.
-const OTHER_BYTES: usize = 5;
+const OTHER_BYTES: usize = HEAD_BYTES + 1;
 
 // The longest record: a colon and two digits a byte, of which there are at most 255 beside the others.
-pub const LONGEST_RECORD: usize = 521;
+pub const LONGEST_RECORD: usize = 1 + 2 * (255 + OTHER_BYTES);
 
 // inner: the bytes of a record, or the refusal 21.
 pub fn decode_record(text: &[u8]) -> Decoded
