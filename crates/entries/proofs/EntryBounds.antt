@@ -9,7 +9,7 @@ use Rattle.general.proofs.SignedLaws.{difference-small}
 use Rattle.values.specs.Room.{finestUnit, floorBound, productBound, offsetBound, entryBound}
 use Rattle.values.specs.Inputs.{InRange, FloorInput, SlopeInput}
 use Rattle.values.proofs.FloorLaws.{floor-high}
-use Rattle.values.proofs.Bounds.{start-input, end-input, slopes-scaled, slopes-small}
+use Rattle.values.proofs.Bounds.{start-input, end-input, slopes-scaled}
 use Rattle.design.specs.declared.Design.{Design}
 use Rattle.design.specs.Limits.{mostTables}
 use Rattle.design.specs.Cut.{aOf, bOf, row, fractionBits, position}
@@ -84,12 +84,8 @@ module _ (slopes b p B : ℕ) (small : slopes * 2 ^ (b + p) ≤ productBound) (B
   unfolding magnitude
   magnitude-small = quotient-small (2 ^ p) (le-refl _)
 
--- Hi + Lo of a segment of table i, alone and with 2^(b+p)
+-- Hi + Lo of a segment of table i, with 2^(b+p)
 module _ (d : Design) (l : Limits d) (i A : ℕ) (h : i < d .m) (A-lt : A < 2 ^ aOf d i) where
-  pub slopes-fit : hiAt d i A + loAt d i A ≤ productBound
-  unfolding hiAt loAt
-  slopes-fit = slopes-small (row d) (d .w) (fractionBits d) (aOf d i) A (slopewise d l i h) A-lt
-
   pub slopes-reach : (hiAt d i A + loAt d i A) * 2 ^ (bOf d i + position d i) ≤ productBound
   unfolding hiAt loAt
   slopes-reach =

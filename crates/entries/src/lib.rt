@@ -3,20 +3,19 @@ ghost use mathlib.Core.Path.{_≡_};
 ghost use Prim.Native.Nat.{_+_, _^_, _<_};
 ghost use lib.IntN.{natAbs};
 ghost use Rattle.values.specs.Room.{floorBound};
-ghost use Rattle.values.specs.Inputs.{InRange};
-ghost use Rattle.design.specs.Cut.{aOf};
+ghost use Rattle.values.specs.Inputs.{InRange, SlopeInput};
+ghost use Rattle.values.specs.Slopes.{segmentStart, segmentEnd};
+ghost use Rattle.values.specs.Slopes as Slopes;
 ghost use Rattle.design.specs.Stored.{initialCount};
 ghost use Rattle.design.specs.Cut as Cut;
 ghost use Rattle.design.specs.Legal.{Legal};
-ghost use Rattle.entries.specs.Entries.{valueAt, initialAt, hiAt, loAt, oddNumber, signed, offsetOf};
+ghost use Rattle.entries.specs.Entries.{valueAt, initialAt, oddNumber, signed, offsetOf};
 ghost use Rattle.entries.specs.Meaning.{Meaning};
 ghost use Rattle.entries.specs.Inputs.{OffsetInput};
 use design::Design;
-use design::legal::pair_at;
 use general::pow2;
 use values::floor::floor_value;
 use values::rows::Row;
-use values::rows::row_of;
 use values::slopes::hi;
 use values::slopes::lo;
 use values::slopes::segment_end;
@@ -43,18 +42,15 @@ pub fn initial_at(d: Design, row: Row, word: u64) -> u32
     ((values + 1 + d.m as u64) / 2 + pow2(d.g - 1)) as u32
 }
 
-// inner: Hi + Lo of a segment of table i.
-pub fn slope_sum(d: Design, i: u32, segment: u64) -> u64
-    requires { ⌜ Legal d ⌝ }
-    requires { ⌜ (i < d .m) × (segment < 2 ^ aOf d i) ⌝ }
-    ensures { λ r. ⌜ r ≡ hiAt d i segment + loAt d i segment ⌝ }
+// inner: Hi + Lo of the segment that a value of the top a bits of x names; P = p.
+pub fn slope_sum(row: Row, w: u32, p: u32, a: u32, segment: u64) -> u64
+    requires { ⌜ SlopeInput row w p a ⌝ }
+    requires { ⌜ segment < 2 ^ a ⌝ }
+    ensures { λ r. ⌜ r ≡ Slopes.hi row w p (segmentStart w a segment) + Slopes.lo row w p (segmentEnd w a segment) ⌝ }
 {
-    let a = pair_at(d, i).a;
-    let row = row_of(d.kind);
-    let p = d.q + d.g;
-    let start = segment_start(d.w, a, segment);
-    let end = segment_end(d.w, a, segment);
-    hi(row, d.w, p, start) + lo(row, d.w, p, end)
+    let start = segment_start(w, a, segment);
+    let end = segment_end(w, a, segment);
+    hi(row, w, p, start) + lo(row, w, p, end)
 }
 
 // j, an odd number of either sign.

@@ -70,12 +70,13 @@ fn fill_table(d: Design, i: u32, p: u32, start: usize, offsets: &mut [i32]) -> u
     ensures { λ _. ⌜ now (offsets .exit) ≡ over (now (offsets .entry)) start (tableEntries d i) ⌝ }
 {
     let pair = pair_at(d, i);
-    let rising = row_of(d.kind).rising;
+    let row = row_of(d.kind);
+    let fraction_bits = d.q + d.g;
     let segments = pow2(pair.a);
     let mut at = start;
     for segment in 0..segments {
-        let slopes = slope_sum(d, i, segment);
-        at = fill_segment(slopes, pair.b, p, rising, at, offsets);
+        let slopes = slope_sum(row, d.w, fraction_bits, pair.a, segment);
+        at = fill_segment(slopes, pair.b, p, row.rising, at, offsets);
     }
     at
 }
