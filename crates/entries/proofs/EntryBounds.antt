@@ -60,29 +60,30 @@ module _ (d : Design) (l : Limits d) where
   initial-small A A-lt =
       lt-of-lt-of-le (initial-in-range A A-lt) (pow-mono {j = finestUnit + 2} (omega (arith, l .widths .room .s-small)))
 
--- T of an offset: |j| is at most 2^b, so the bound on slopes·2^(b+p) is one on the product, and T is small.
-module _ (slopes b p B : ℕ) (small : slopes * 2 ^ (b + p) ≤ productBound) (B-lt : B < 2 ^ b) where
-  pub odd-small : natAbs (oddNumber b B) ≤ 2 ^ b
-  unfolding oddNumber
-  odd-small = difference-small (2 * B + 1) (2 ^ b) (omega arith)
+-- |j| is at most 2^b, so the bound on slopes·2^(b+p) is one on the product, and T is small.
+pub odd-small : (b B : ℕ) → B < 2 ^ b → natAbs (oddNumber b B) ≤ 2 ^ b
+unfolding oddNumber
+odd-small b B B-lt = difference-small (2 * B + 1) (2 ^ b) (omega arith)
 
-  whole : slopes * natAbs (oddNumber b B) * 2 ^ p ≤ productBound
-  whole = le-trans (mul-le-mul-right (2 ^ p) (mul-le-mul-left slopes odd-small)) (rw (mul-assoc, ← pow-add 2 b p) small)
+module _ (slopes b p size : ℕ) (small : slopes * 2 ^ (b + p) ≤ productBound) (size-le : size ≤ 2 ^ b) where
+  whole : slopes * size * 2 ^ p ≤ productBound
+  whole = le-trans (mul-le-mul-right (2 ^ p) (mul-le-mul-left slopes size-le)) (rw (mul-assoc, ← pow-add 2 b p) small)
 
-  -- the product with |j|, alone and with 2^p or less
-  pub half-product-small : slopes * natAbs (oddNumber b B) ≤ productBound
-  half-product-small = omega (arith, whole, mul-le-mul-left (slopes * natAbs (oddNumber b B)) (pow-pos p))
+  -- the product with the size, alone and with 2^p or less
+  pub half-product-small : slopes * size ≤ productBound
+  half-product-small = omega (arith, whole, mul-le-mul-left (slopes * size) (pow-pos p))
 
   module _ (unit : ℕ) (unit-le : unit ≤ 2 ^ p) where
-    pub product-small : slopes * natAbs (oddNumber b B) * unit ≤ productBound
-    product-small = le-trans (mul-le-mul-left (slopes * natAbs (oddNumber b B)) unit-le) whole
+    pub product-small : slopes * size * unit ≤ productBound
+    product-small = le-trans (mul-le-mul-left (slopes * size) unit-le) whole
 
-    pub quotient-small : slopes * natAbs (oddNumber b B) * unit / 2 ^ 18 ≤ offsetBound
+    pub quotient-small : slopes * size * unit / 2 ^ 18 ≤ offsetBound
     quotient-small = omega (arith, shr-mono 18 product-small)
 
-  pub magnitude-small : magnitude slopes p (oddNumber b B) ≤ offsetBound
-  unfolding magnitude
-  magnitude-small = quotient-small (2 ^ p) (le-refl _)
+pub magnitude-small : (slopes b p B : ℕ) → slopes * 2 ^ (b + p) ≤ productBound → B < 2 ^ b
+    → magnitude slopes p (oddNumber b B) ≤ offsetBound
+unfolding magnitude
+magnitude-small slopes b p B small B-lt = quotient-small slopes b p _ small (odd-small b B B-lt) (2 ^ p) (le-refl _)
 
 -- Hi + Lo of a segment of table i, with 2^(b+p)
 module _ (d : Design) (l : Limits d) (i A : ℕ) (h : i < d .m) (A-lt : A < 2 ^ aOf d i) where

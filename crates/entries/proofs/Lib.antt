@@ -2,4 +2,5 @@
 pub mod SignLaws
 pub mod MeaningLaws
 pub mod EntryBounds
+pub mod ByArithmetic
 pub mod Opened

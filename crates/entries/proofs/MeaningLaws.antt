@@ -7,7 +7,7 @@ use native.Mathlib.Omega.{arith}
 use borrow.Author.Tests.{ltb-true, ltb-false, lt-ltb, le-ltb}
 use lib.Dec.{ltb, le→leb, lt→ltb}
 use lib.IntN.{ℤ, pos, negsuc, subℕ, natAbs, negℤ, negℤ-negℤ, _+ℤ_, _*ℤ_}
-use lib.Pow.{pow-add, pow-pos}
+use lib.Pow.{pow-pos}
 use lib.Signed.{nonNeg, _≤ℤ_, _<ℤ_}
 use Rattle.values.specs.Slopes.{hi}
 use Rattle.design.specs.declared.Design.{Design}
@@ -15,6 +15,7 @@ use Rattle.design.specs.Stored.{storedIndex, storedWord, offsetFrom}
 use Rattle.design.specs.Cut.{bOf, row, position}
 use Rattle.entries.specs.Entries.{hiAt, loAt, oddNumber, magnitude, sameSign, signed, offsetOf, offsetAt}
 use Rattle.entries.specs.Meaning.{signedProduct, StandsFor, Meaning}
+use Rattle.entries.proofs.SignLaws.{even}
 
 -- Orders of numbers below zero
 neg-le : (m n : ℕ) → m ≤ n → negℤ (pos n) ≤ℤ negℤ (pos m)
@@ -57,11 +58,7 @@ unfolding offsetOf signed magnitude
 offset-stands slopes b p rising B =
     rw (product-is slopes p rising (oddNumber b B)) (cut-stands (sameSign rising (oddNumber b B)) _)
 
--- 2^b is even.
-even : (b : ℕ) → 1 ≤ b → 2 ^ b ≡ 2 * 2 ^ (b - 1)
-even b h = let e : b - 1 + 1 ≡ b = omega arith in omega (arith, rw e at (pow-add 2 (b - 1) 1))
-
--- So j is odd; n for 2^b.
+-- j is odd, since 2^b is even; n for 2^b.
 odd-difference : (B half n : ℕ) → n ≡ 2 * half → natAbs (subℕ (2 * B + 1) n) % 2 ≡ 1
 odd-difference B half n twice = go (ltb (2 * B + 1) n) refl
   where

@@ -1,17 +1,18 @@
 // What the fill writes, entry by entry: document 01, "Filling".
 ghost use mathlib.Core.Path.{_≡_};
-ghost use Prim.Native.Nat.{_+_, _^_, _<_};
+ghost use Prim.Native.Nat.{_+_, _^_, _≤_, _<_};
 ghost use lib.IntN.{natAbs};
-ghost use Rattle.values.specs.Room.{floorBound};
+ghost use Rattle.values.specs.Room.{floorBound, offsetBound};
 ghost use Rattle.values.specs.Inputs.{InRange, SlopeInput};
 ghost use Rattle.values.specs.Slopes.{segmentStart, segmentEnd};
 ghost use Rattle.values.specs.Slopes as Slopes;
 ghost use Rattle.design.specs.Stored.{initialCount};
 ghost use Rattle.design.specs.Cut as Cut;
 ghost use Rattle.design.specs.Legal.{Legal};
-ghost use Rattle.entries.specs.Entries.{valueAt, initialAt, oddNumber, signed, offsetOf};
+ghost use Rattle.entries.specs.Entries.{valueAt, initialAt, oddNumber, offsetOf};
+ghost use Rattle.entries.specs.Signs.{sideOf, signOf, entryBy};
 ghost use Rattle.entries.specs.Meaning.{Meaning};
-ghost use Rattle.entries.specs.Inputs.{OffsetInput};
+ghost use Rattle.entries.specs.Inputs.{WordInput, OffsetInput};
 use design::Design;
 use general::pow2;
 use values::floor::floor_value;
@@ -54,42 +55,58 @@ pub fn slope_sum(row: Row, w: u32, p: u32, a: u32, segment: u64) -> u64
 }
 
 // j, an odd number of either sign.
-fn odd_number(b: u32, word: u64) -> i64
-    requires { ⌜ (b < 32) × (word < 2 ^ b) ⌝ }
+fn odd_number(b: u32, word: u64) -> i32
+    requires { ⌜ WordInput b word ⌝ }
     ensures { λ r. ⌜ r ≡ oddNumber b word ⌝ }
 {
-    (2 * word + 1) as i64 - pow2(b) as i64
+    (2 * word + 1) as i32 - pow2(b) as i32
 }
 
-// |j|.
-fn absolute(j: i64) -> u64
-    requires { ⌜ natAbs j < 2 ^ 32 ⌝ }
-    ensures { λ r. ⌜ r ≡ natAbs j ⌝ }
+// B's top bit: 1 where j is above 0, 0 where it is below.
+fn top_bit(b: u32, word: u64) -> u64
+    requires { ⌜ WordInput b word ⌝ }
+    ensures { λ r. ⌜ r ≡ sideOf (oddNumber b word) ⌝ }
 {
-    if 0 <= j { j as u64 } else { -j as u64 }
+    word >> (b - 1)
 }
 
-// T where j has the function's sign, and -1 - T where it has the other.
-fn with_sign(rising: bool, j: i64, t: u64) -> i32
-    requires { ⌜ t < 2 ^ 31 ⌝ }
-    ensures { λ r. ⌜ r ≡ signed rising j t ⌝ }
+// |j|: j times 1 above 0, times -1 below.
+fn absolute(b: u32, word: u64) -> u64
+    requires { ⌜ WordInput b word ⌝ }
+    ensures { λ r. ⌜ r ≡ natAbs (oddNumber b word) ⌝ }
 {
-    let count = t as i32;
-    if (0 <= j) == rising {
-        count
-    } else {
-        -1 - count
-    }
+    let j = odd_number(b, word);
+    let side = 2 * top_bit(b, word) as i32 - 1;
+    (side * j) as u64
+}
+
+// s, 0 where j has the function's sign: where the top bit is 1 and the function rises, or it is 0 and the function falls.
+fn sign_of(rising: bool, b: u32, word: u64) -> u64
+    requires { ⌜ WordInput b word ⌝ }
+    ensures { λ r. ⌜ r ≡ signOf rising (oddNumber b word) ⌝ }
+{
+    let top = top_bit(b, word);
+    top ^ rising as u64
+}
+
+// T for sign 0, -1 - T for sign 1.
+fn with_sign(sign: u64, t: u64) -> i32
+    requires { ⌜ (sign < 2) × (t ≤ offsetBound) ⌝ }
+    ensures { λ r. ⌜ r ≡ entryBy sign t ⌝ }
+{
+    let s = sign as i32;
+    (1 - 2 * s) * t as i32 - s
 }
 
 // inner: the offset of B = word, by Hi + Lo of its segment, b and p of its table, and the function's sign, and what it means.
+// From B to the entry there is no choice, only arithmetic.
 pub fn offset_of(slopes: u64, b: u32, p: u32, rising: bool, word: u64) -> i32
     requires { ⌜ OffsetInput slopes b p ⌝ }
     requires { ⌜ word < 2 ^ b ⌝ }
     ensures { λ r. ⌜ r ≡ offsetOf slopes b p rising word ⌝ }
     ensures { λ r. ⌜ Meaning slopes b p rising word r ⌝ }
 {
-    let j = odd_number(b, word);
-    let t = slopes * absolute(j) * pow2(p) / (1 << 18);
-    with_sign(rising, j, t)
+    let size = absolute(b, word);
+    let t = slopes * size * pow2(p) / (1 << 18);
+    with_sign(sign_of(rising, b, word), t)
 }

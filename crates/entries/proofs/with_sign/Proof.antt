@@ -1,51 +1,75 @@
--- `entries::with_sign` meets its contract: the test compares the two signs, and -1 - T is what the definition calls `negsuc T`.
-use mathlib.Core.Path.{_≡_, sym, _∙_}
-use mathlib.Core.Bool.{Bool, true, false, Bool·beq, cond}
-use Prim.Native.Nat.{ℕ, _^_, _<_}
+-- `entries::with_sign` meets its contract: (1 - 2·s)·T - s is T or -1 - T by the sign, and every step on the way is small.
+use mathlib.Core.Path.{_≡_, _∙_}
+use Prim.Native.Nat.{ℕ, _≤_, _<_}
+use native.Mathlib.Omega.{arith}
 use borrow.Author.Needs.{needs}
-use lib.IntN.{ℤ, pos, negsuc, _-ℤ_}
-use lib.Signed.{leZ}
-use mir.Syntax.{w32, w64}
+use lib.IntN.{pos, _-ℤ_, _*ℤ_}
+use mir.Syntax.{w32}
 use mir.Val.{SFits, toZ, ofZ}
 use mir.ValLaws.{toZ-pos, toZ-ofZ}
-use Rattle.entries.specs.Entries.{signed}
-use Rattle.entries.proofs.SignLaws.{minus-one-minus, signed-by}
+use Rattle.values.specs.Room.{offsetBound}
+use Rattle.entries.specs.Signs.{entryBy}
+use Rattle.entries.proofs.SignLaws.{by-arithmetic, factor-small, product-small, entry-mag}
 use Rattle.entries.proofs.with_sign.Statement.{statement}
 use Rattle.entries.proofs.with_sign.Tie as tie
 
-module _ (n : ℕ) (small : n < 2 ^ 31) where
-  count-is : toZ w32 n ≡ pos n
-  count-is = toZ-pos w32 n small
+-- s, 2·s and 1 - 2·s, as their bits are read,
+module _ (s : ℕ) (s-lt : s < 2) where
+  s-is : toZ w32 s ≡ pos s
+  s-is = toZ-pos w32 s (omega arith)
 
-  other-fits : SFits w32 (negsuc 0 -ℤ toZ w32 n)
-  other-fits = rw (count-is, minus-one-minus n) (record { sfits = small })
+  twice-fits : SFits w32 (pos 2 *ℤ toZ w32 s)
+  twice-fits = rw s-is (record { sfits = omega arith })
 
-  other-is : toZ w32 (ofZ w32 (negsuc 0 -ℤ toZ w32 n)) ≡ negsuc n
-  other-is = toZ-ofZ w32 _ other-fits ∙ rw (count-is, minus-one-minus n)
+  twice-is : toZ w32 (ofZ w32 (pos 2 *ℤ toZ w32 s)) ≡ pos 2 *ℤ pos s
+  twice-is = toZ-ofZ w32 _ twice-fits ∙ rw s-is
 
-  -- what the test tells, of j as its bits are read
-  by-test : (rising : Bool) (j : ℤ) → SFits w64 j → (answer : Bool) → Bool·beq (leZ (pos 0) (toZ w64 (ofZ w64 j))) rising ≡ answer
-      → cond answer (pos n) (negsuc n) ≡ signed rising j n
-  by-test rising j fits answer e = sym (signed-by rising j n answer (rw (toZ-ofZ w64 j fits) at e))
+  factor-fits : SFits w32 (pos 1 -ℤ toZ w32 (ofZ w32 (pos 2 *ℤ toZ w32 s)))
+  factor-fits = rw twice-is (record { sfits = omega (arith, factor-small s s-lt) })
+
+  abbrev factor : ℕ
+  factor = ofZ w32 (pos 1 -ℤ toZ w32 (ofZ w32 (pos 2 *ℤ toZ w32 s)))
+
+  -- its product with T, and the entry
+  module _ (t : ℕ) (t-le : t ≤ offsetBound) where
+    product-is : toZ w32 factor *ℤ toZ w32 t ≡ (pos 1 -ℤ pos 2 *ℤ pos s) *ℤ pos t
+    product-is = rw (toZ-ofZ w32 _ factor-fits, twice-is, toZ-pos w32 t (omega arith))
+
+    product-fits : SFits w32 (toZ w32 factor *ℤ toZ w32 t)
+    product-fits = rw product-is (record { sfits = omega (arith, product-small s t s-lt) })
+
+    sum-is : toZ w32 (ofZ w32 (toZ w32 factor *ℤ toZ w32 t)) -ℤ toZ w32 s ≡ entryBy s t
+    sum-is = rw (toZ-ofZ w32 _ product-fits, product-is, s-is) (by-arithmetic s t s-lt)
+
+    sum-fits : SFits w32 (toZ w32 (ofZ w32 (toZ w32 factor *ℤ toZ w32 t)) -ℤ toZ w32 s)
+    sum-fits = rw sum-is (record { sfits = omega (arith, entry-mag s t) })
+
+    entry-is : toZ w32 (ofZ w32 (toZ w32 (ofZ w32 (toZ w32 factor *ℤ toZ w32 t)) -ℤ toZ w32 s)) ≡ entryBy s t
+    entry-is = toZ-ofZ w32 _ sum-fits ∙ sum-is
 
 returns : tie.Need-returns
-returns c =
-    let s = c .before in
-    count-is _ (s .pre) ∙ by-test _ (s .pre) _ _ (s .fits .j) true (c .if1 .taken)
+returns c = entry-is _ (c .pre .0) _ (c .pre .1)
 
-returns-2 : tie.Need-returns-2
-returns-2 c =
-    let s = c .before in
-    other-is _ (s .pre) ∙ by-test _ (s .pre) _ _ (s .fits .j) false (c .if1 .left)
+mul-result : tie.Need-mul-result
+mul-result c = twice-fits _ (c .pre .0)
 
 sub-result : tie.Need-sub-result
-sub-result c = other-fits _ (c .before .pre)
+sub-result c = factor-fits _ (c .pre .0)
+
+mul-result-2 : tie.Need-mul-result-2
+mul-result-2 c = product-fits _ (c .pre .0) _ (c .pre .1)
+
+sub-result-2 : tie.Need-sub-result-2
+sub-result-2 c = sum-fits _ (c .pre .0) _ (c .pre .1)
 
 pub with-sign-spec : {M : Type 1} → statement M
 with-sign-spec =
     tie.close
     (tie.spec
     (λ c. search needs)
+    mul-result
     sub-result
-    returns
-    returns-2)
+    (λ c. search needs)
+    mul-result-2
+    sub-result-2
+    returns)
