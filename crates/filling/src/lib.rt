@@ -37,6 +37,7 @@ fn fill_initial(d: Design, initial: &mut [u32])
 }
 
 // The offsets of a segment, from their place on, by Hi + Lo of the segment, b and p of its table, and the function's sign.
+// Words as far above the middle of the segment as others lie below it have entries that add up to -1, so a product serves two.
 // Returns the place after the last.
 fn fill_segment(
     slopes: u64,
@@ -51,14 +52,17 @@ fn fill_segment(
     ensures { λ r. ⌜ r ≡ start + 2 ^ b ⌝ }
     ensures { λ _. ⌜ now (offsets .exit) ≡ over (now (offsets .entry)) start (segmentOffsets slopes b p rising) ⌝ }
 {
-    let count = pow2(b);
-    let mut at = start;
-    for word in 0..count {
-        let entry = offset_of(slopes, b, p, rising, word);
-        offsets[at] = entry;
-        at += 1;
+    let half = pow2(b - 1);
+    let middle = start + half as usize;
+    for far in 0..half {
+        let entry = offset_of(slopes, b, p, rising, half + far);
+        let above = middle + far as usize;
+        let below = middle - 1 - far as usize;
+        let other = -1 - entry;
+        offsets[above] = entry;
+        offsets[below] = other;
     }
-    at
+    middle + half as usize
 }
 
 // The offsets of table i, segment by segment, from where the table begins. Hi and Lo are found once a segment.

@@ -32,6 +32,12 @@ module _ {A : Type 0} (f : ℕ → A) where
   list-add n zero = rw (add-zero, append-nil)
   list-add n (suc k) = rw (add-suc, list-add n k) (append-assoc (listBelow n f) (listBelow k (λ j. f (n + j))) (f (n + k) ∷ []))
 
+  -- and its first element, then the others
+  pub list-first : (n : ℕ) → listBelow (suc n) f ≡ f 0 ∷ listBelow n (λ j. f (suc j))
+  unfolding listBelow
+  list-first zero = refl
+  list-first (suc n) = rw (list-first n)
+
   pub list-congruence : (g : ℕ → A) (n : ℕ) → ((j : ℕ) → j < n → f j ≡ g j) → listBelow n f ≡ listBelow n g
   unfolding listBelow
   list-congruence g zero same = refl

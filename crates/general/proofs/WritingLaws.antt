@@ -1,8 +1,8 @@
 -- A table while it is written: nothing yet, one entry more, a list of entries more, all that begin the table.
-use mathlib.Core.Path.{_≡_, sym, _∙_}
+use mathlib.Core.Path.{_≡_, refl, ap, sym, _∙_}
 use mathlib.Core.List.{List, [], _∷_, _++_, append-assoc, append-nil}
-use Prim.Native.Nat.{ℕ, suc, _+_, _≤_, _<_}
-use native.Mathlib.Nat.{add-assoc, add-zero, zero-add}
+use Prim.Native.Nat.{ℕ, zero, suc, _+_, _≤_, _<_}
+use native.Mathlib.Nat.{add-assoc, add-zero, zero-add, not-suc-le-zero}
 use native.Mathlib.Numerals.{add-one}
 use native.Mathlib.Omega.{arith}
 use lib.ListN.{length, getD, take, drop, set, length-append, length-drop, take-append-drop}
@@ -53,6 +53,23 @@ module _ {A : Type 0} where
     pub over-one : (v : A) → n + length entries < length table
         → set (over table n entries) (n + length entries) v ≡ over table n (entries ++ (v ∷ []))
     over-one v h = store (over table n entries) (n + length entries) v (rw over-length h) ∙ over-more (v ∷ [])
+
+  -- one entry more in front of those that are written
+  module _ (x : A) (xs entries : List A) where
+    first-before : (v : A) → set (over (x ∷ xs) 1 entries) 0 v ≡ over (x ∷ xs) 0 (v ∷ entries)
+    unfolding over
+    first-before v = let e : 0 + suc (length entries) ≡ 1 + length entries = omega arith in rw e
+
+    over-later : (n : ℕ) → over (x ∷ xs) (suc n) entries ≡ x ∷ over xs n entries
+    unfolding over
+    over-later n = let e : suc n + length entries ≡ suc (n + length entries) = omega arith in rw e
+
+  pub over-before : (table : List A) (n : ℕ) (entries : List A) (v : A) → n < length table
+      → set (over table (suc n) entries) n v ≡ over table n (v ∷ entries)
+  over-before [] n entries v h = absurd (not-suc-le-zero h)
+  over-before (x ∷ xs) zero entries v h = first-before x xs entries v
+  over-before (x ∷ xs) (suc n) entries v h =
+      rw (over-later x xs entries (suc n), over-later x xs (v ∷ entries) n) (ap (_∷_ x) (over-before xs n entries v (omega arith)))
 
   -- The first n of the entries stand in front of what the table held, and then one more does.
   pub over-next : (table entries : List A) (n : ℕ) (z : A) → n < length entries → length entries ≤ length table
