@@ -1,29 +1,34 @@
 -- `entries::offset_of` meets its contract: |j| is at most 2^b, so the product and T are small. What the entry means is
 -- a law of its definition.
-use mathlib.Core.Path.{_≡_, _∙_}
-use Prim.Native.Nat.{_^_, _≤_}
+use mathlib.Core.Path.{_≡_, ap₂, _∙_}
+use Prim.Native.Nat.{_*_, _/_, _^_, _≤_}
 use native.Mathlib.Omega.{arith}
 use borrow.Author.Needs.{needs}
 use lib.Pow.{pow-pos}
 use mir.Syntax.{w32}
 use mir.Val.{toZ, ofZ}
 use mir.ValLaws.{toZ-ofZ}
-use Rattle.entries.specs.Entries.{magnitude, offsetOf}
+use Rattle.entries.specs.Entries.{oddNumber, magnitude, offsetOf}
 use Rattle.entries.specs.Inputs.{WordInput}
+use Rattle.entries.specs.Signs.{entryBy}
 use Rattle.entries.proofs.EntryBounds.{odd-small, half-product-small, product-small, quotient-small}
 use Rattle.entries.proofs.MeaningLaws.{offset-means}
 use Rattle.entries.proofs.SignLaws.{sign-small, signed-by}
 use Rattle.entries.proofs.offset_of.Statement.{statement}
 use Rattle.entries.proofs.offset_of.Tie as tie
 
--- the result, as its bits are read
+-- T, and the result as its bits are read
+t-is : (c : tie.After-pow2) → let a = c .before .before .args in
+    a .slopes * c .before .absolute .result * c .pow2 .result / 2 ^ 18 ≡ magnitude (a .slopes) (a .p) (oddNumber (a .b) (a .word))
+unfolding magnitude
+t-is c = rw (c .pow2 .ensures, c .before .absolute .ensures)
+
 offset-is : (c : tie.After-with-sign) → let a = c .before .before .before .before .args in
     toZ w32 (ofZ w32 (c .with-sign .result)) ≡ offsetOf (a .slopes) (a .b) (a .p) (a .rising) (a .word)
-unfolding offsetOf magnitude
+unfolding offsetOf
 offset-is c =
-    let s = c .before in
     toZ-ofZ w32 _ (record { sfits = c .with-sign .ok }) ∙ c .with-sign .ensures
-    ∙ rw (s .sign-of .ensures, s .before .pow2 .ensures, s .before .before .absolute .ensures) (signed-by _ _ _)
+    ∙ ap₂ entryBy (c .before .sign-of .ensures) (t-is (c .before .before)) ∙ signed-by _ _ _
 
 returns : tie.Need-returns
 returns c =
