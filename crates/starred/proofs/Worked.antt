@@ -20,6 +20,8 @@ use Rattle.design.specs.declared.Pair.{Pair}
 use Rattle.design.specs.declared.Design.{Design}
 use Rattle.design.specs.declared.Measured.{Measured}
 use Rattle.design.specs.Answers.{budgetAnswer, sizeAnswer}
+use Rattle.entries.specs.Entries.{oddNumber, offsetAt}
+use Rattle.entries.specs.Signs.{signOf}
 use Rattle.filling.specs.Fill.{initialEntries, offsetEntries}
 use Rattle.evaluating.specs.declared.Batched.{Batched}
 use Rattle.evaluating.specs.Batch.{batchAnswer}
@@ -75,6 +77,11 @@ two-tables =
 abbrev widest : Design
 widest =
     record { kind = 0; w = 16; q = 16; g = 4; alpha = 13; m = 1; pairs = pair 9 3 ∷ pair 0 0 ∷ pair 0 0 ∷ pair 0 0 ∷ [] }
+
+-- The steepest table: kind 0, w 10, q 16, g 4, alpha 2, m 1, (2,8)
+abbrev steepest : Design
+steepest =
+    record { kind = 0; w = 10; q = 16; g = 4; alpha = 2; m = 1; pairs = pair 2 8 ∷ pair 0 0 ∷ pair 0 0 ∷ pair 0 0 ∷ [] }
 
 -- Twenty entries: kind 0, w 6, q 6, g 2, alpha 2, m 4, (1,1) four times
 abbrev twenty : Design
@@ -195,6 +202,11 @@ pub record Worked : Type 0 where
   pub line-40 : Line-of-G 40 "03000007FFFFCD2B"
   -- the number of frames before the last
   pub line-97 : Line-of-G 97 "0400619B"
+  -- The largest T that a legal design has, at the first word of a segment and at its last: one sign and the other
+  pub largest-t : (offsetAt steepest 0 0 0 ≡ pos 107124) × (offsetAt steepest 0 0 255 ≡ negsuc 107124)
+  -- Signs below 0 and above it, where the function falls and where it rises
+  pub signs : (map (λ B. signOf false (oddNumber 3 B)) (0 ∷ 3 ∷ 4 ∷ 7 ∷ []) ≡ 0 ∷ 0 ∷ 1 ∷ 1 ∷ [])
+      × (map (λ B. signOf true (oddNumber 3 B)) (0 ∷ 3 ∷ 4 ∷ 7 ∷ []) ≡ 1 ∷ 1 ∷ 0 ∷ 0 ∷ [])
   -- Zeros behind m from an 01 line, not the sum byte that follows its pair, nor what stood there before
   pub zeros-behind-m : readAnswer
       (session (record { design = two-tables; taken = 0 }) (replicate 32 0) (replicate 64 (pos 0)))
@@ -323,6 +335,8 @@ worked =
       line-33 = refl;
       line-40 = refl;
       line-97 = refl;
+      largest-t = (refl, refl);
+      signs = (refl, refl);
       zeros-behind-m = refl;
       width-before-room = refl;
       room-before-words = refl;
