@@ -6,15 +6,16 @@ use native.Mathlib.Omega.{arith}
 use lib.IntN.{natAbs}
 use lib.Pow.{pow-add, pow-mono, pow-pos, shr-mono}
 use Rattle.general.proofs.SignedLaws.{difference-small}
-use Rattle.values.specs.Room.{finestUnit, floorBound, productBound, offsetBound, entryBound}
+use Rattle.values.specs.Room.{finestUnit, floorBound, entryBound}
 use Rattle.values.specs.Inputs.{InRange, FloorInput, SlopeInput}
 use Rattle.values.proofs.FloorLaws.{floor-high}
 use Rattle.values.proofs.Bounds.{start-input, end-input, slopes-scaled}
 use Rattle.design.specs.declared.Design.{Design}
-use Rattle.design.specs.Limits.{mostTables}
+use Rattle.design.specs.Limits.{leastInitialBits, mostTables}
 use Rattle.design.specs.Cut.{aOf, bOf, row, fractionBits, position}
 use Rattle.design.specs.Stored.{initialCount}
 use Rattle.design.proofs.LegalLaws.{Limits, lawful, slopewise, bits-end, room}
+use Rattle.entries.specs.Inputs.{reachBound, offsetBound}
 use Rattle.entries.specs.Entries.{valueAt, endValues, initialAt, hiAt, loAt, oddNumber, magnitude}
 
 -- What the calls of the values ask, at a legal design
@@ -65,31 +66,36 @@ pub odd-small : (b B : ℕ) → B < 2 ^ b → natAbs (oddNumber b B) ≤ 2 ^ b
 unfolding oddNumber
 odd-small b B B-lt = difference-small (2 * B + 1) (2 ^ b) (omega arith)
 
-module _ (slopes b p size : ℕ) (small : slopes * 2 ^ (b + p) ≤ productBound) (size-le : size ≤ 2 ^ b) where
-  whole : slopes * size * 2 ^ p ≤ productBound
+module _ (slopes b p size : ℕ) (small : slopes * 2 ^ (b + p) ≤ reachBound) (size-le : size ≤ 2 ^ b) where
+  whole : slopes * size * 2 ^ p ≤ reachBound
   whole = le-trans (mul-le-mul-right (2 ^ p) (mul-le-mul-left slopes size-le)) (rw (mul-assoc, ← pow-add 2 b p) small)
 
   -- the product with the size, alone and with 2^p or less
-  pub half-product-small : slopes * size ≤ productBound
+  pub half-product-small : slopes * size ≤ reachBound
   half-product-small = omega (arith, whole, mul-le-mul-left (slopes * size) (pow-pos p))
 
   module _ (unit : ℕ) (unit-le : unit ≤ 2 ^ p) where
-    pub product-small : slopes * size * unit ≤ productBound
+    pub product-small : slopes * size * unit ≤ reachBound
     product-small = le-trans (mul-le-mul-left (slopes * size) unit-le) whole
 
     pub quotient-small : slopes * size * unit / 2 ^ 18 ≤ offsetBound
     quotient-small = omega (arith, shr-mono 18 product-small)
 
-pub magnitude-small : (slopes b p B : ℕ) → slopes * 2 ^ (b + p) ≤ productBound → B < 2 ^ b
+pub magnitude-small : (slopes b p B : ℕ) → slopes * 2 ^ (b + p) ≤ reachBound → B < 2 ^ b
     → magnitude slopes p (oddNumber b B) ≤ offsetBound
 unfolding magnitude
 magnitude-small slopes b p B small B-lt = quotient-small slopes b p _ small (odd-small b B B-lt) (2 ^ p) (le-refl _)
 
 -- Hi + Lo of a segment of table i, with 2^(b+p)
 module _ (d : Design) (l : Limits d) (i A : ℕ) (h : i < d .m) (A-lt : A < 2 ^ aOf d i) where
-  pub slopes-reach : (hiAt d i A + loAt d i A) * 2 ^ (bOf d i + position d i) ≤ productBound
+  pub slopes-reach : (hiAt d i A + loAt d i A) * 2 ^ (bOf d i + position d i) ≤ reachBound
   unfolding hiAt loAt
   slopes-reach =
-      let end = bits-end d l i h in
-      le-trans (mul-le-mul-left (hiAt d i A + loAt d i A) (pow-mono {j = d .w} (omega arith)))
-      (slopes-scaled (row d) (d .w) (fractionBits d) (aOf d i) A (slopewise d l i h) A-lt)
+      let bits = bOf d i + position d i in
+      let fits : bits + leastInitialBits ≤ d .w = omega (arith, bits-end d l i h, l .alpha-low, l .alpha-below) in
+      let wide = pow-mono {i = bits + leastInitialBits} {j = d .w} fits in
+      omega (
+        arith,
+        mul-le-mul-left (hiAt d i A + loAt d i A) (rw (pow-add 2 bits leastInitialBits) at wide),
+        slopes-scaled (row d) (d .w) (fractionBits d) (aOf d i) A (slopewise d l i h) A-lt,
+      )

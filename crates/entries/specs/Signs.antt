@@ -4,10 +4,10 @@ use mathlib.Core.Bool.{Bool, true, cond}
 use Prim.Native.Nat.{ℕ, zero, suc, _+_, _^_, _≤_, _<_}
 use lib.IntN.{ℤ, pos, negsuc, _-ℤ_, _*ℤ_}
 use lib.Signed.{nonNeg}
-use Rattle.values.specs.Room.{offsetBound}
 use Rattle.design.specs.declared.Design.{Design}
 use Rattle.design.specs.Cut.{aOf, bOf, position}
 use Rattle.design.specs.Legal.{Legal}
+use Rattle.entries.specs.Inputs.{offsetBound}
 use Rattle.entries.specs.Entries.{hiAt, loAt, oddNumber, magnitude, sameSign, signed}
 
 -- The side of 0 on which a number lies: 1 above, 0 below

@@ -2,7 +2,7 @@
 ghost use mathlib.Core.Path.{_≡_};
 ghost use Prim.Native.Nat.{_+_, _^_, _≤_, _<_};
 ghost use lib.IntN.{natAbs};
-ghost use Rattle.values.specs.Room.{floorBound, offsetBound};
+ghost use Rattle.values.specs.Room.{floorBound};
 ghost use Rattle.values.specs.Inputs.{InRange, SlopeInput};
 ghost use Rattle.values.specs.Slopes.{segmentStart, segmentEnd};
 ghost use Rattle.values.specs.Slopes as Slopes;
@@ -12,7 +12,7 @@ ghost use Rattle.design.specs.Legal.{Legal};
 ghost use Rattle.entries.specs.Entries.{valueAt, initialAt, oddNumber, offsetOf};
 ghost use Rattle.entries.specs.Signs.{sideOf, signOf, entryBy};
 ghost use Rattle.entries.specs.Meaning.{Meaning};
-ghost use Rattle.entries.specs.Inputs.{WordInput, OffsetInput};
+ghost use Rattle.entries.specs.Inputs.{WordInput, OffsetInput, offsetBound};
 use design::Design;
 use general::pow2;
 use values::floor::floor_value;

@@ -1,20 +1,22 @@
 -- How large numbers get where there is room for them, so that nothing wraps.
 use mathlib.Core.Path.{_≡_, refl, _∙_}
 use mathlib.Core.Bool.{Bool, true, false, cond}
-use Prim.Native.Nat.{ℕ, suc, _+_, _-_, _*_, _/_, _^_, _≤_, _<_}
+use Prim.Native.Nat.{ℕ, zero, suc, _+_, _-_, _*_, _/_, _^_, _≤_, _<_}
 use native.Mathlib.Nat.{mul-le-mul, mul-le-mul-left, mul-le-mul-right, mul-lt-mul-of-pos-left, mul-lt-mul-of-pos-right, le-trans}
-use native.Mathlib.Nat.{le-of-eq, le-of-lt, lt-of-lt-of-le, lt-of-le-of-lt, one-le-mul, div-le-self, mul-div-le, pow-le-pow-left}
+use native.Mathlib.Nat.{one-mul, mul-assoc, pow-zero, pow-suc, le-of-mul-le-mul-right, le-of-eq, le-of-lt, lt-of-lt-of-le, lt-of-le-of-lt, one-le-mul, div-le-self, mul-div-le, pow-le-pow-left}
 use native.Mathlib.Omega.{arith}
 use lib.Pow.{pow-add, pow-lt, pow-mono, pow-pos}
 use Rattle.values.specs.declared.rows.Row.{Row}
 use Rattle.values.specs.Room.{Room, highestDegree, finestUnit, wordBound, inputBound, floorBound, slopeBound, productBound}
-use Rattle.values.specs.Inputs.{FloorInput, SegmentInput, SlopeInput}
+use Rattle.values.specs.Rows.{Lawful}
+use Rattle.values.specs.Inputs.{InRange, FloorInput, SegmentInput, SlopeInput}
+use Rattle.values.specs.Exact.{num, den, numberSide, valueSide}
 use Rattle.values.specs.Parts.{divisorPart, numberPart, valuePart}
 use Rattle.values.specs.Floor.{floorValue}
 use Rattle.values.specs.Slopes.{segmentStart, segmentEnd, hi, lo, spread}
 use Rattle.values.proofs.Powers.{pow-pow, pow-swap}
 use Rattle.values.proofs.ExactLaws.{argument-high}
-use Rattle.values.proofs.FloorLaws.{floor-high}
+use Rattle.values.proofs.FloorLaws.{floor-greatest, floor-high}
 use Rattle.values.proofs.SlopeLaws.{OnSegment, on-range, start-on, end-on, segment-room, lo-le-hi, range-pos}
 
 -- Room for s fraction bits is room for fewer.
@@ -114,11 +116,37 @@ quotient-fits n d more h = omega (arith, div-le-self n d)
 hi-small : (n d : ℕ) → n < floorBound → (n + 1) * 65536 / d + 1 ≤ slopeBound
 hi-small n d h = omega (arith, div-le-self ((n + 1) * 65536) d)
 
--- A slope is L(X) / (k·X), and X is at least 2^w.
-slope-small : (n k s one : ℕ) → 1 ≤ k → one ≤ s → n / (k * s) * one ≤ n
-slope-small n k s one k-pos low =
-    let step : one ≤ k * s = omega (arith, mul-le-mul-right s k-pos) in
-    omega (arith, mul-le-mul-left (n / (k * s)) step, mul-div-le n (k * s))
+-- A slope is L(X) / (k·X), which is at most 2^P / 2^w: of degree 1 by the inequality that L meets, of any other since L is below 2^(P+1).
+-- d is 2^w, and u is 2^P.
+flat-first : (t : Bool) (L c X d u : ℕ) → c ≡ 1 → d ≤ X → L * cond t d (c * X) ≤ u * cond t (c * X) d → L * d ≤ X * u
+flat-first true L c X d u c-is low h = omega (arith, rw (c-is, one-mul X) at h)
+flat-first false L c X d u c-is low h = omega (arith, rw (c-is, one-mul X) at h, mul-le-mul-left L low, mul-le-mul-left u low)
+
+flat-other : (k L X d u : ℕ) → 2 ≤ k → L ≤ 2 * u → d ≤ X → L * d ≤ k * X * u
+flat-other k L X d u k-low high low =
+    omega (arith, mul-le-mul-right d high, mul-le-mul-left u low, mul-le-mul-right (X * u) k-low, mul-assoc k X u)
+
+flat : (k c : ℕ) (t : Bool) (L X d P : ℕ) → 1 ≤ k → 1 ≤ c → 2 * c ≤ 2 ^ k → d ≤ X → L < 2 ^ (P + 1)
+    → L ^ k * cond t d (c * X) ≤ (2 ^ k) ^ P * cond t (c * X) d → L * d ≤ k * X * 2 ^ P
+flat zero c t L X d P k-pos c-pos domain low high holds = absurd (omega arith)
+flat (suc zero) c t L X d P k-pos c-pos domain low high holds =
+    let alone : L ^ 1 ≡ L = rw (pow-suc, pow-zero) (one-mul L) in
+    rw (one-mul X) (flat-first t L c X d (2 ^ P) (omega arith) low (rw alone at holds))
+flat (suc (suc n)) c t L X d P k-pos c-pos domain low high holds =
+    flat-other (suc (suc n)) L X d (2 ^ P) (omega arith) (omega (arith, pow-add 2 P 1)) low
+
+floor-flat : (row : Row) → Lawful row → (w P X : ℕ) → InRange w X → floorValue row w P X * 2 ^ w ≤ row .k * X * 2 ^ P
+unfolding numberSide valueSide num den
+floor-flat row lawful w P X range =
+    flat (row .k) (row .c) (row .rising) _ X (2 ^ w) P (lawful .k-pos) (lawful .c-pos) (lawful .domain) (range .low)
+    (floor-high row lawful w P X range) (floor-greatest row lawful w P X range .holds)
+
+-- Hi without its last one; n is k·X
+slope-flat : (L n d u : ℕ) → 0 < n → d ≤ n → L * d ≤ n * u → (L + 1) * 65536 / n * d ≤ (u + 1) * 65536
+slope-flat L n d u n-pos low flat =
+    let q = (L + 1) * 65536 / n in
+    le-of-mul-le-mul-right {m = q * d} {n = (u + 1) * 65536} {k = n}
+    (omega (arith, mul-le-mul-right d (mul-div-le ((L + 1) * 65536) n))) n-pos
 
 module _ (w a A : ℕ) (fit : SegmentInput w a A) where
   pub width-small : 2 ^ w ≤ wordBound
@@ -152,19 +180,21 @@ module _ (row : Row) (w P a A : ℕ) (fit : SlopeInput row w P a) (A-lt : A < 2 
   spread-small =
       omega (arith, hi-small (floorValue row w P (segmentStart w a A)) (row .k * segmentStart w a A) (floor-small row w P _ start-input))
 
-  hi-scaled : hi row w P (segmentStart w a A) * 2 ^ w ≤ floorBound * 65536 + 2 ^ w
+  hi-scaled : hi row w P (segmentStart w a A) * 2 ^ w ≤ (2 ^ P + 1) * 65536 + 2 ^ w
   unfolding hi
   hi-scaled =
+      let s = segmentStart w a A in
       omega (
         arith,
-        floor-small row w P _ start-input,
-        slope-small ((floorValue row w P (segmentStart w a A) + 1) * 65536) (row .k) (segmentStart w a A) (2 ^ w)
-            (fit .lawful .k-pos) (start-input .range .low),
+        slope-flat (floorValue row w P s) (row .k * s) (2 ^ w) (2 ^ P) (step-pos row w P s start-input)
+            (omega (arith, mul-le-mul (fit .lawful .k-pos) (start-input .range .low)))
+            (floor-flat row (fit .lawful) w P s (start-input .range)),
       )
 
   -- Hi + Lo, alone and with 2^w
   pub slopes-scaled : (hi row w P (segmentStart w a A) + lo row w P (segmentEnd w a A)) * 2 ^ w ≤ productBound
-  slopes-scaled = omega (arith, mul-le-mul-right (2 ^ w) (ordered .1), hi-scaled, words-few (fit .room))
+  slopes-scaled =
+      omega (arith, mul-le-mul-right (2 ^ w) (ordered .1), hi-scaled, words-few (fit .room), pow-mono {j = finestUnit} (fit .room .s-small))
 
   pub slopes-small : hi row w P (segmentStart w a A) + lo row w P (segmentEnd w a A) ≤ productBound
   slopes-small =

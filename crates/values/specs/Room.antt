@@ -36,16 +36,13 @@ inputBound = wordBound * 2
 abbrev pub floorBound : ℕ
 floorBound = 2 ^ (finestUnit + 1)
 
--- Hi, Lo and Hi - Lo are at most `slopeBound`, and (Hi + Lo)·2^w is at most `productBound`;
+-- Hi, Lo and Hi - Lo are at most `slopeBound`, and (Hi + Lo)·2^w is at most `productBound`: L(X) / (k·X) is at most 2^P / 2^w;
 abbrev pub slopeBound : ℕ
 slopeBound = floorBound * 65536 * 2
 
 abbrev pub productBound : ℕ
-productBound = slopeBound * 2
+productBound = ((2 ^ finestUnit + 1) * 65536 + wordBound) * 2
 
--- so T of an offset is at most `offsetBound`, and initial entries and sums in range are below `entryBound`.
-abbrev pub offsetBound : ℕ
-offsetBound = productBound / 2 ^ 18
-
+-- and initial entries and sums in range are below `entryBound`.
 abbrev pub entryBound : ℕ
 entryBound = floorBound * 2

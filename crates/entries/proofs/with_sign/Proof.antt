@@ -7,7 +7,7 @@ use lib.IntN.{pos, _-ℤ_, _*ℤ_}
 use mir.Syntax.{w32}
 use mir.Val.{SFits, toZ, ofZ}
 use mir.ValLaws.{toZ-pos, toZ-ofZ}
-use Rattle.values.specs.Room.{offsetBound}
+use Rattle.entries.specs.Inputs.{offsetBound}
 use Rattle.entries.specs.Signs.{entryBy}
 use Rattle.entries.proofs.SignLaws.{by-arithmetic, factor-small, product-small, entry-mag}
 use Rattle.entries.proofs.with_sign.Statement.{statement}
