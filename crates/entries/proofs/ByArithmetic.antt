@@ -1,14 +1,17 @@
--- Document 02, A3: the sign and the entry come out right by arithmetic, for every T that the fill can meet.
-use mathlib.Core.Path.{_≡_, refl}
+-- Document 02, A3: sides, signs and entries come out right by arithmetic, for every T that the fill can meet.
+use mathlib.Core.Path.{_≡_, refl, _∙_}
 use mathlib.Core.Bool.{Bool, true, false, cond}
-use Prim.Native.Nat.{ℕ}
+use Prim.Native.Nat.{ℕ, _^_, _<_}
 use native.Mathlib.Omega.{arith}
 use lib.IntN.{ℤ}
+use Rattle.design.specs.declared.Design.{Design}
+use Rattle.design.specs.Cut.{aOf, bOf}
+use Rattle.design.specs.Legal.{Legal}
 use Rattle.design.proofs.LegalLaws.{limits}
-use Rattle.entries.specs.Entries.{sameSign}
-use Rattle.entries.specs.Signs.{signOf, SignByArithmetic}
+use Rattle.entries.specs.Entries.{sameSign, offsetOf, offsetAt}
+use Rattle.entries.specs.Signs.{signOf, Comes, SignByArithmetic}
 use Rattle.entries.proofs.EntryBounds.{magnitude-small, slopes-reach}
-use Rattle.entries.proofs.SignLaws.{sign-small, by-arithmetic, signed-by}
+use Rattle.entries.proofs.SignLaws.{top-is, side-times, sign-is, sign-small, by-arithmetic, signed-by}
 
 -- 0 where the test holds, and nowhere else
 zero-means : (t : Bool) → _≡_ {A = ℕ} (cond t 0 1) 0 → t ≡ true
@@ -19,11 +22,22 @@ zero-where : (rising : Bool) (j : ℤ) → (signOf rising j ≡ 0 → sameSign r
 unfolding signOf
 zero-where rising j = (zero-means (sameSign rising j), λ same. rw same)
 
+comes : (d : Design) → Legal d → (i A B : ℕ) → i < d .m → A < 2 ^ aOf d i → B < 2 ^ bOf d i → Comes d i A B
+unfolding offsetAt offsetOf
+comes d legal i A B i-lt A-lt B-lt =
+    record {
+      bounded = magnitude-small _ _ _ B (slopes-reach d (limits d legal) i A i-lt A-lt) B-lt;
+      entry = by-arithmetic _ _ (sign-small _ _) ∙ signed-by _ _ _;
+    }
+
 pub sign-by-arithmetic : SignByArithmetic
 sign-by-arithmetic =
     record {
-      met = λ d legal i A B i-lt A-lt. magnitude-small _ _ _ B (slopes-reach d (limits d legal) i A i-lt A-lt);
-      sign = λ rising j. (sign-small rising j, zero-where rising j .0, zero-where rising j .1);
-      arithmetic = by-arithmetic;
-      entry = signed-by;
+      top = top-is;
+      size = side-times;
+      sign = sign-is;
+      sign-zero = zero-where;
+      sign-small = sign-small;
+      either = by-arithmetic;
+      met = comes;
     }

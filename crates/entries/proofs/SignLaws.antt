@@ -10,9 +10,8 @@ use lib.Dec.{ltb}
 use lib.IntN.{ℤ, pos, negsuc, subℕ, natAbs, _-ℤ_, _*ℤ_}
 use lib.Pow.{pow-add}
 use lib.Signed.{mag, nonNeg}
-use mir.Val.{boolByte}
 use Rattle.entries.specs.Entries.{oddNumber, sameSign, signed}
-use Rattle.entries.specs.Signs.{sideOf, signOf, entryBy}
+use Rattle.entries.specs.Signs.{sideOf, signOf, entryBy, byArithmetic}
 
 -- The difference of two numbers as a signed number
 pub minus-is : (a b : ℕ) → 0 < b → pos a -ℤ pos b ≡ subℕ a b
@@ -60,7 +59,7 @@ side-times (pos n) = ap pos (one-mul n)
 side-times (negsuc n) = ap pos (one-mul (suc n))
 
 -- The sign is 0 where the side is 1 and the function rises, and where it is 0 and the function falls.
-pub sign-is : (rising : Bool) (j : ℤ) → bitXor (sideOf j) (boolByte rising) ≡ signOf rising j
+pub sign-is : (rising : Bool) (j : ℤ) → bitXor (sideOf j) (cond rising 1 0) ≡ signOf rising j
 unfolding sideOf signOf sameSign
 sign-is true (pos n) = refl
 sign-is true (negsuc n) = refl
@@ -76,8 +75,8 @@ sign-small rising j = go (sameSign rising j)
     go false = omega arith
 
 -- (1 - 2·s)·T - s is T or -1 - T,
-pub by-arithmetic : (s T : ℕ) → s < 2 → (pos 1 -ℤ pos 2 *ℤ pos s) *ℤ pos T -ℤ pos s ≡ entryBy s T
-unfolding entryBy
+pub by-arithmetic : (s T : ℕ) → s < 2 → byArithmetic s T ≡ entryBy s T
+unfolding byArithmetic entryBy
 by-arithmetic zero T h = ap pos (omega arith)
 by-arithmetic (suc zero) zero h = refl
 by-arithmetic (suc zero) (suc n) h = rw (one-mul (suc n)) (ap negsuc (omega arith))

@@ -43,15 +43,15 @@ pub fn initial_at(d: Design, row: Row, word: u64) -> u32
     ((values + 1 + d.m as u64) / 2 + pow2(d.g - 1)) as u32
 }
 
-// inner: Hi + Lo of the segment that a value of the top a bits of x names; P = p.
-pub fn slope_sum(row: Row, w: u32, p: u32, a: u32, segment: u64) -> u64
-    requires { ⌜ SlopeInput row w p a ⌝ }
+// inner: Hi + Lo of the segment that a value of the top a bits of x names; P = fraction.
+pub fn slope_sum(row: Row, w: u32, fraction: u32, a: u32, segment: u64) -> u64
+    requires { ⌜ SlopeInput row w fraction a ⌝ }
     requires { ⌜ segment < 2 ^ a ⌝ }
-    ensures { λ r. ⌜ r ≡ Slopes.hi row w p (segmentStart w a segment) + Slopes.lo row w p (segmentEnd w a segment) ⌝ }
+    ensures { λ r. ⌜ r ≡ Slopes.hi row w fraction (segmentStart w a segment) + Slopes.lo row w fraction (segmentEnd w a segment) ⌝ }
 {
     let start = segment_start(w, a, segment);
     let end = segment_end(w, a, segment);
-    hi(row, w, p, start) + lo(row, w, p, end)
+    hi(row, w, fraction, start) + lo(row, w, fraction, end)
 }
 
 // j, an odd number of either sign.
@@ -76,8 +76,8 @@ fn absolute(b: u32, word: u64) -> u64
     ensures { λ r. ⌜ r ≡ natAbs (oddNumber b word) ⌝ }
 {
     let j = odd_number(b, word);
-    let side = 2 * top_bit(b, word) as i32 - 1;
-    (side * j) as u64
+    let turn = 2 * top_bit(b, word) as i32 - 1;
+    (turn * j) as u64
 }
 
 // s, 0 where j has the function's sign: where the top bit is 1 and the function rises, or it is 0 and the function falls.
@@ -98,8 +98,7 @@ fn with_sign(sign: u64, t: u64) -> i32
     (1 - 2 * s) * t as i32 - s
 }
 
-// inner: the offset of B = word, by Hi + Lo of its segment, b and p of its table, and the function's sign, and what it means.
-// From B to the entry there is no choice, only arithmetic.
+// inner: the offset of B = word, from Hi + Lo of its segment, b and p of its table and the function's sign; by arithmetic, with no choice.
 pub fn offset_of(slopes: u64, b: u32, p: u32, rising: bool, word: u64) -> i32
     requires { ⌜ OffsetInput slopes b p ⌝ }
     requires { ⌜ word < 2 ^ b ⌝ }

@@ -1,27 +1,15 @@
 -- The offsets of a segment while they are written from its middle outwards, two at a time.
 use mathlib.Core.Path.{_≡_, refl, ap, sym, _∙_}
 use mathlib.Core.List.{List, _∷_}
-use Prim.Native.Nat.{ℕ, zero, suc, _+_, _-_, _≤_, _<_}
+use Prim.Native.Nat.{ℕ, suc, _+_, _-_, _≤_, _<_}
 use native.Mathlib.Nat.{add-zero, add-suc, zero-add}
 use native.Mathlib.Omega.{arith}
-use borrow.Author.Tests.{le-ltb}
-use lib.IntN.{ℤ, pos, negsuc, _+ℤ_, _-ℤ_, +ℤ-comm, +ℤ-negℤ-cancel}
+use lib.IntN.{ℤ}
 use lib.ListN.{length, set, length-set}
-use lib.Signed.{mag}
 use Rattle.general.specs.Below.{listBelow}
 use Rattle.general.specs.Lists.{over}
 use Rattle.general.proofs.ListLaws.{list-first, list-congruence}
 use Rattle.general.proofs.WritingLaws.{run-none, run-one, over-before}
-
--- Of two numbers that add up to -1 each is -1 less the other,
-pub other-is : (e o : ℤ) → e +ℤ o ≡ negsuc 0 → negsuc 0 -ℤ e ≡ o
-other-is e o sum = rw (← sum, +ℤ-comm e o) (+ℤ-negℤ-cancel o e)
-
--- and fits wherever that does.
-pub other-mag : (e : ℤ) → mag (negsuc 0 -ℤ e) ≡ mag e
-other-mag (pos zero) = refl
-other-mag (pos (suc n)) = omega arith
-other-mag (negsuc n) = rw (le-ltb (suc n) 1 (omega arith)) (omega arith)
 
 module _ (f : ℕ → ℤ) (before : List ℤ) (start : ℕ) where
   -- The entries of n words in a row stand at their places; with one more at either end they are those of n + 2.

@@ -17,6 +17,7 @@ use design::measure::limit_of;
 use entries::initial_at;
 use entries::offset_of;
 use entries::slope_sum;
+use general::mirrored;
 use general::pow2;
 use refusal::Cause;
 use refusal::Verdict;
@@ -37,7 +38,7 @@ fn fill_initial(d: Design, initial: &mut [u32])
 }
 
 // The offsets of a segment, from their place on, by Hi + Lo of the segment, b and p of its table, and the function's sign.
-// Words as far above the middle of the segment as others lie below it have entries that add up to -1, so a product serves two.
+// The entries of B and 2^b - 1 - B add up to -1, so one product serves both, from the middle of the segment outwards.
 // Returns the place after the last.
 fn fill_segment(
     slopes: u64,
@@ -58,7 +59,7 @@ fn fill_segment(
         let entry = offset_of(slopes, b, p, rising, half + far);
         let above = middle + far as usize;
         let below = middle - 1 - far as usize;
-        let other = -1 - entry;
+        let other = mirrored(entry);
         offsets[above] = entry;
         offsets[below] = other;
     }

@@ -1,5 +1,5 @@
 -- A table while it is written: nothing yet, one entry more, a list of entries more, all that begin the table.
-use mathlib.Core.Path.{_≡_, refl, ap, sym, _∙_}
+use mathlib.Core.Path.{_≡_, ap, sym, _∙_}
 use mathlib.Core.List.{List, [], _∷_, _++_, append-assoc, append-nil}
 use Prim.Native.Nat.{ℕ, zero, suc, _+_, _≤_, _<_}
 use native.Mathlib.Nat.{add-assoc, add-zero, zero-add, not-suc-le-zero}

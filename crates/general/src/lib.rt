@@ -1,6 +1,7 @@
-// What every crate above may need of numbers: powers of two.
+// What every crate above may need of numbers: powers of two, and mirrored offsets.
 ghost use mathlib.Core.Path.{_≡_};
 ghost use Prim.Native.Nat.{_^_, _<_};
+ghost use lib.IntN.{negsuc, _-ℤ_};
 
 // inner: 2^n.
 pub fn pow2(n: u32) -> u64
@@ -8,4 +9,11 @@ pub fn pow2(n: u32) -> u64
     ensures { λ r. ⌜ r ≡ 2 ^ n ⌝ }
 {
     1 << n
+}
+
+// inner: the offset of 2^b - 1 - B, by that of B, since the two add up to -1; 32 bits always hold it.
+pub fn mirrored(entry: i32) -> i32
+    ensures { λ r. ⌜ r ≡ negsuc 0 -ℤ entry ⌝ }
+{
+    -1 - entry
 }

@@ -1,6 +1,6 @@
 -- `entries::absolute` meets its contract: j times 1 or -1, by the side of 0 on which it lies, is |j|.
 use mathlib.Core.Path.{_≡_, _∙_}
-use Prim.Native.Nat.{ℕ, _^_, _≤_, _<_}
+use Prim.Native.Nat.{ℕ, _≤_}
 use native.Mathlib.Omega.{arith}
 use borrow.Author.Needs.{needs}
 use lib.IntN.{ℤ, pos, natAbs, _-ℤ_, _*ℤ_}
@@ -59,14 +59,14 @@ returns : tie.Need-returns
 returns c =
     rw (c .top-bit .ensures, odd-is (c .before), size-is _ (j-small _ _ (c .before .before .pre)))
 
-cast-side : tie.Need-cast-side
-cast-side c = rw (c .top-bit .ensures) (side-fits _)
+cast-turn : tie.Need-cast-turn
+cast-turn c = rw (c .top-bit .ensures) (side-fits _)
 
-mul-side : tie.Need-mul-side
-mul-side c = rw (c .top-bit .ensures) (twice-fits _)
+mul-turn : tie.Need-mul-turn
+mul-turn c = rw (c .top-bit .ensures) (twice-fits _)
 
-sub-side : tie.Need-sub-side
-sub-side c = rw (c .top-bit .ensures) (turn-fits _)
+sub-turn : tie.Need-sub-turn
+sub-turn c = rw (c .top-bit .ensures) (turn-fits _)
 
 mul-result : tie.Need-mul-result
 mul-result c = rw (c .top-bit .ensures, odd-is (c .before)) (product-fits _ (j-small _ _ (c .before .before .pre)))
@@ -82,9 +82,9 @@ absolute-spec =
     (tie.spec
     (λ c κs. search needs)
     (λ c κs. search needs)
-    cast-side
-    mul-side
-    sub-side
+    cast-turn
+    mul-turn
+    sub-turn
     mul-result
     cast-result
     returns)

@@ -6,13 +6,13 @@ use borrow.Author.Needs.{needs}
 use Rattle.values.specs.Inputs.{FloorInput}
 use Rattle.values.specs.Slopes.{segmentStart, segmentEnd}
 use Rattle.values.specs.Slopes as Slopes
-use Rattle.values.proofs.Bounds.{segment-input, start-input, end-input, slopes-small}
+use Rattle.values.proofs.Bounds.{start-input, end-input, slopes-small}
 use Rattle.entries.proofs.slope_sum.Statement.{statement}
 use Rattle.entries.proofs.slope_sum.Tie as tie
 
 -- both ends can be asked for
 ends : (c : tie.After-segment-end) → let a = c .before .before .args in
-    FloorInput (a .row) (a .w) (a .p) (c .before .segment-start .result) × FloorInput (a .row) (a .w) (a .p) (c .segment-end .result)
+    FloorInput (a .row) (a .w) (a .fraction) (c .before .segment-start .result) × FloorInput (a .row) (a .w) (a .fraction) (c .segment-end .result)
 ends c =
     let e = c .before .before .pre in
     rw (c .segment-end .ensures, c .before .segment-start .ensures)
@@ -27,8 +27,8 @@ lo-requires c κs = ends (c .before) .1
 -- the sum, as the definitions have it
 sum-is : (c : tie.After-lo) → let a = c .before .before .before .before .args in
     c .before .hi .result + c .lo .result
-    ≡ Slopes.hi (a .row) (a .w) (a .p) (segmentStart (a .w) (a .a) (a .segment))
-    + Slopes.lo (a .row) (a .w) (a .p) (segmentEnd (a .w) (a .a) (a .segment))
+    ≡ Slopes.hi (a .row) (a .w) (a .fraction) (segmentStart (a .w) (a .a) (a .segment))
+    + Slopes.lo (a .row) (a .w) (a .fraction) (segmentEnd (a .w) (a .a) (a .segment))
 sum-is c =
     let b = c .before .before in
     rw (c .lo .ensures, c .before .hi .ensures, b .segment-end .ensures, b .before .segment-start .ensures)

@@ -8,7 +8,7 @@ use mir.Syntax.{w32}
 use mir.Val.{SFits, toZ, ofZ}
 use mir.ValLaws.{toZ-pos, toZ-ofZ}
 use Rattle.entries.specs.Inputs.{offsetBound}
-use Rattle.entries.specs.Signs.{entryBy}
+use Rattle.entries.specs.Signs.{entryBy, byArithmetic}
 use Rattle.entries.proofs.SignLaws.{by-arithmetic, factor-small, product-small, entry-mag}
 use Rattle.entries.proofs.with_sign.Statement.{statement}
 use Rattle.entries.proofs.with_sign.Tie as tie
@@ -39,7 +39,7 @@ module _ (s : ℕ) (s-lt : s < 2) where
     product-fits = rw product-is (record { sfits = omega (arith, product-small s t s-lt) })
 
     sum-is : toZ w32 (ofZ w32 (toZ w32 factor *ℤ toZ w32 t)) -ℤ toZ w32 s ≡ entryBy s t
-    sum-is = rw (toZ-ofZ w32 _ product-fits, product-is, s-is) (by-arithmetic s t s-lt)
+    sum-is = rw (toZ-ofZ w32 _ product-fits, product-is, s-is) (unfold byArithmetic in by-arithmetic s t s-lt)
 
     sum-fits : SFits w32 (toZ w32 (ofZ w32 (toZ w32 factor *ℤ toZ w32 t)) -ℤ toZ w32 s)
     sum-fits = rw sum-is (record { sfits = omega (arith, entry-mag s t) })

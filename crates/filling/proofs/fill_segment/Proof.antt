@@ -2,15 +2,16 @@
 use mathlib.Core.Path.{_≡_, _∙_}
 use Prim.Native.Nat.{_+_, _-_, _^_, _≤_, _<_}
 use native.Mathlib.Omega.{arith}
-use lib.IntN.{negsuc, _-ℤ_}
+use borrow.Author.Needs.{needs}
 use lib.ListN.{length, length-set}
 use mir.Syntax.{w32}
-use mir.Val.{SFits, toZ, ofZ}
+use mir.Val.{toZ, ofZ}
 use mir.ValLaws.{toZ-ofZ}
+use Rattle.general.proofs.SignedLaws.{mirror-is}
 use Rattle.entries.specs.Entries.{offsetOf}
 use Rattle.entries.proofs.SignLaws.{even}
 use Rattle.filling.specs.Segment.{segmentOffsets}
-use Rattle.filling.proofs.SegmentLaws.{other-is, other-mag, Outwards, outwards-start, outwards-next, outwards-end}
+use Rattle.filling.proofs.SegmentLaws.{Outwards, outwards-start, outwards-next, outwards-end}
 use Rattle.filling.proofs.fill_segment.Statement.{statement}
 use Rattle.filling.proofs.fill_segment.Tie as tie
 
@@ -62,46 +63,43 @@ sub-below-2 : tie.Need-sub-below-2 Inv-loop μ-loop
 sub-below-2 c = omega (arith, inside (c .before))
 
 mul-entry : tie.Need-mul-entry Inv-loop μ-loop
-mul-entry c = omega (arith, inside (c .before), c .before .before .before .before .good)
+mul-entry c = omega (arith, inside (c .before .before), c .before .before .before .before .before .good)
 
 slice-set-from-entry : tie.Need-slice-set-from-entry Inv-loop μ-loop
-slice-set-from-entry c = omega (arith, inside (c .before), c .before .before .loop .inv .kept)
+slice-set-from-entry c = omega (arith, inside (c .before .before), c .before .before .before .loop .inv .kept)
 
 mul-other : tie.Need-mul-other Inv-loop μ-loop
-mul-other c = omega (arith, inside (c .before), c .before .before .before .before .good)
+mul-other c = omega (arith, inside (c .before .before), c .before .before .before .before .before .good)
 
 slice-set-from-other : tie.Need-slice-set-from-other Inv-loop μ-loop
-slice-set-from-other c = simp length-set (omega (arith, inside (c .before), c .before .before .loop .inv .kept))
+slice-set-from-other c = simp length-set (omega (arith, inside (c .before .before), c .before .before .before .loop .inv .kept))
 
 -- both entries, as their bits are read
 entry-is : (c : tie.After-offset-of Inv-loop μ-loop) → toZ w32 (ofZ w32 (c .offset-of .result)) ≡ c .offset-of .result
 entry-is c = toZ-ofZ w32 _ (record { sfits = c .offset-of .ok })
 
-other-fits : (c : tie.After-offset-of Inv-loop μ-loop) → SFits w32 (negsuc 0 -ℤ toZ w32 (ofZ w32 (c .offset-of .result)))
-other-fits c = rw (entry-is c) (record { sfits = omega (arith, other-mag (c .offset-of .result), c .offset-of .ok) })
-
-other-entry : (c : tie.After-offset-of Inv-loop μ-loop) → let p = c .before .before .before in let a = p .before .args in
-    toZ w32 (ofZ w32 (negsuc 0 -ℤ toZ w32 (ofZ w32 (c .offset-of .result))))
-    ≡ offsetOf (a .slopes) (a .b) (a .p) (a .rising) (p .pow2 .result - 1 - c .before .before .loop .far)
-other-entry c =
-    let p = c .before .before .before in
-    let word : 2 ^ p .before .args .b - 1 - (p .pow2 .result + c .before .before .loop .far)
-    ≡ p .pow2 .result - 1 - c .before .before .loop .far = omega (arith, twice p, inside (c .before)) in
-    toZ-ofZ w32 _ (other-fits c) ∙ rw (entry-is c) (other-is (c .offset-of .result) _ (rw word at (c .offset-of .ensures .1 .mirrored)))
+other-is : (c : tie.After-mirrored Inv-loop μ-loop) → let p = c .before .before .before .before in let a = p .before .args in
+    toZ w32 (ofZ w32 (c .mirrored .result))
+    ≡ offsetOf (a .slopes) (a .b) (a .p) (a .rising) (p .pow2 .result - 1 - c .before .before .before .loop .far)
+other-is c =
+    let o = c .before in
+    let p = o .before .before .before in
+    let word : 2 ^ p .before .args .b - 1 - (p .pow2 .result + o .before .before .loop .far)
+    ≡ p .pow2 .result - 1 - o .before .before .loop .far = omega (arith, twice p, inside (o .before)) in
+    toZ-ofZ w32 _ (record { sfits = c .mirrored .ok }) ∙ c .mirrored .ensures
+    ∙ rw (entry-is o) (mirror-is (o .offset-of .result) _ (rw word at (o .offset-of .ensures .1 .mirrored)))
 
 loop-again : tie.Need-loop-again Inv-loop μ-loop
 loop-again c =
-    outwards-next _ _ _ _ (c .before .before .loop .inv) _ _ (inside (c .before) .0) (inside (c .before) .1) (omega arith) (omega arith)
-    (entry-is c ∙ c .offset-of .ensures .0) (other-entry c)
-
-sub-other : tie.Need-sub-other Inv-loop μ-loop
-sub-other c = other-fits c
+    let o = c .before in
+    outwards-next _ _ _ _ (o .before .before .loop .inv) _ _ (inside (o .before) .0) (inside (o .before) .1) (omega arith) (omega arith)
+    (entry-is o ∙ o .offset-of .ensures .0) (other-is c)
 
 add-far : tie.Need-add-far Inv-loop μ-loop
-add-far c = omega (arith, inside (c .before), c .before .before .before .before .good)
+add-far c = omega (arith, inside (c .before .before), c .before .before .before .before .before .good)
 
 loop-less : tie.Need-loop-less Inv-loop μ-loop
-loop-less c = omega (arith, inside (c .before))
+loop-less c = omega (arith, inside (c .before .before))
 
 add-result : tie.Need-add-result Inv-loop μ-loop
 add-result c = omega (arith, room (c .before .before), c .before .before .before .good)
@@ -132,7 +130,7 @@ fill-segment-spec =
     add-above
     sub-below
     sub-below-2
-    sub-other
+    (λ c κs. search needs)
     mul-entry
     slice-set-from-entry
     mul-other
