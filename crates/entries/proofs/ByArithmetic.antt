@@ -9,7 +9,7 @@ use Rattle.design.specs.Cut.{aOf, bOf}
 use Rattle.design.specs.Legal.{Legal}
 use Rattle.design.proofs.LegalLaws.{limits}
 use Rattle.entries.specs.Entries.{sameSign, offsetOf, offsetAt}
-use Rattle.entries.specs.Signs.{signOf, Comes, SignByArithmetic}
+use Rattle.entries.specs.Signs.{signOf, magnitudeAt, signAt, Comes, SignByArithmetic}
 use Rattle.entries.proofs.EntryBounds.{magnitude-small, slopes-reach}
 use Rattle.entries.proofs.SignLaws.{top-is, side-times, sign-is, sign-small, by-arithmetic, signed-by}
 
@@ -23,7 +23,7 @@ unfolding signOf
 zero-where rising j = (zero-means (sameSign rising j), λ same. rw same)
 
 comes : (d : Design) → Legal d → (i A B : ℕ) → i < d .m → A < 2 ^ aOf d i → B < 2 ^ bOf d i → Comes d i A B
-unfolding offsetAt offsetOf
+unfolding magnitudeAt signAt offsetAt offsetOf
 comes d legal i A B i-lt A-lt B-lt =
     record {
       bounded = magnitude-small _ _ _ B (slopes-reach d (limits d legal) i A i-lt A-lt) B-lt;

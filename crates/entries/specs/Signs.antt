@@ -28,11 +28,17 @@ entryBy (suc _) T = negsuc T
 unfoldable pub byArithmetic : ℕ → ℕ → ℤ
 byArithmetic s T = (pos 1 -ℤ pos 2 *ℤ pos s) *ℤ pos T -ℤ pos s
 
--- The entry of A_i = A and B_i = B in table i comes out by arithmetic: T is within the bound, and (1 - 2·s)·T - s is document 01's entry.
+-- T and s of A_i = A and B_i = B in table i
+unfoldable pub magnitudeAt : Design → ℕ → ℕ → ℕ → ℕ
+magnitudeAt d i A B = magnitude (hiAt d i A + loAt d i A) (position d i) (oddNumber (bOf d i) B)
+
+unfoldable pub signAt : Design → ℕ → ℕ → ℕ
+signAt d i B = signOf (row d .rising) (oddNumber (bOf d i) B)
+
+-- Their entry comes out by arithmetic: T is within the bound, and (1 - 2·s)·T - s is document 01's entry.
 pub record Comes (d : Design) (i A B : ℕ) : Type 0 where
-  pub bounded : magnitude (hiAt d i A + loAt d i A) (position d i) (oddNumber (bOf d i) B) ≤ offsetBound
-  pub entry : byArithmetic (signOf (row d .rising) (oddNumber (bOf d i) B))
-      (magnitude (hiAt d i A + loAt d i A) (position d i) (oddNumber (bOf d i) B)) ≡ offsetAt d i A B
+  pub bounded : magnitudeAt d i A B ≤ offsetBound
+  pub entry : byArithmetic (signAt d i B) (magnitudeAt d i A B) ≡ offsetAt d i A B
 
 -- "It is shown to be T for sign 0 and -1 - T for sign 1, for every T that the fill can meet."
 pub record SignByArithmetic : Type 0 where

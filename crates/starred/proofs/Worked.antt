@@ -21,7 +21,7 @@ use Rattle.design.specs.declared.Design.{Design}
 use Rattle.design.specs.declared.Measured.{Measured}
 use Rattle.design.specs.Answers.{budgetAnswer, sizeAnswer}
 use Rattle.entries.specs.Entries.{oddNumber, offsetAt}
-use Rattle.entries.specs.Signs.{signOf}
+use Rattle.entries.specs.Signs.{signOf, magnitudeAt}
 use Rattle.filling.specs.Fill.{initialEntries, offsetEntries}
 use Rattle.evaluating.specs.declared.Batched.{Batched}
 use Rattle.evaluating.specs.Batch.{batchAnswer}
@@ -203,7 +203,8 @@ pub record Worked : Type 0 where
   -- the number of frames before the last
   pub line-97 : Line-of-G 97 "0400619B"
   -- The largest T that a legal design has, at the first word of a segment and at its last: one sign and the other
-  pub largest-t : (offsetAt far-reach 0 0 0 ≡ pos 107124) × (offsetAt far-reach 0 0 255 ≡ negsuc 107124)
+  pub largest-t : (magnitudeAt far-reach 0 0 255 ≡ 107124) × (offsetAt far-reach 0 0 0 ≡ pos 107124)
+      × (offsetAt far-reach 0 0 255 ≡ negsuc 107124)
   -- Signs below 0 and above it, where the function falls and where it rises
   pub signs : (map (λ B. signOf false (oddNumber 3 B)) (0 ∷ 3 ∷ 4 ∷ 7 ∷ []) ≡ 0 ∷ 0 ∷ 1 ∷ 1 ∷ [])
       × (map (λ B. signOf true (oddNumber 3 B)) (0 ∷ 3 ∷ 4 ∷ 7 ∷ []) ≡ 1 ∷ 1 ∷ 0 ∷ 0 ∷ [])
@@ -335,7 +336,7 @@ worked =
       line-33 = refl;
       line-40 = refl;
       line-97 = refl;
-      largest-t = (refl, refl);
+      largest-t = (refl, refl, refl);
       signs = (refl, refl);
       zeros-behind-m = refl;
       width-before-room = refl;
