@@ -1,5 +1,5 @@
 -- Signs by arithmetic: the difference of two counts, B's top bit, |j| and the sign by it, and T or -1 - T by the sign.
-use mathlib.Core.Path.{_≡_, refl, ap}
+use mathlib.Core.Path.{_≡_, refl, ap, _∙_}
 use mathlib.Core.Bool.{Bool, true, false, not, cond}
 use Prim.Native.Nat.{ℕ, zero, suc, _+_, _-_, _*_, _/_, _^_, _≤_, _<_}
 use native.Mathlib.Nat.{not-suc-le-zero, one-mul, div-eq-of-lt, div-eq-of-lt-le}
@@ -10,6 +10,9 @@ use lib.Dec.{ltb}
 use lib.IntN.{ℤ, pos, negsuc, subℕ, natAbs, _-ℤ_, _*ℤ_}
 use lib.Pow.{pow-add}
 use lib.Signed.{mag, nonNeg}
+use mir.Syntax.{w32}
+use mir.Val.{SFits, toZ, ofZ}
+use mir.ValLaws.{toZ-pos, toZ-ofZ}
 use Rattle.entries.specs.Entries.{oddNumber, sameSign, signed}
 use Rattle.entries.specs.Signs.{sideOf, signOf, entryBy, byArithmetic}
 
@@ -42,16 +45,16 @@ pub top-is : (b B : ℕ) → 1 ≤ b → B < 2 ^ b → B / 2 ^ (b - 1) ≡ sideO
 unfolding sideOf oddNumber
 top-is b B b-low B-lt = by-half B (2 ^ (b - 1)) (2 ^ b) (even b b-low) B-lt (ltb (2 * B + 1) (2 ^ b)) refl
 
-pub side-small : (j : ℤ) → sideOf j ≤ 1
+pub side-small : (j : ℤ) → sideOf j < 2
 unfolding sideOf
 side-small (pos n) = omega arith
 side-small (negsuc n) = omega arith
 
 -- |j| is j times 1 above 0, and times -1 below: times twice the side less 1.
-pub turn-small : (j : ℤ) → mag (pos 2 *ℤ pos (sideOf j) -ℤ pos 1) ≤ 1
+pub side-factor-small : (j : ℤ) → mag (pos 2 *ℤ pos (sideOf j) -ℤ pos 1) ≤ 1
 unfolding sideOf
-turn-small (pos n) = omega arith
-turn-small (negsuc n) = omega arith
+side-factor-small (pos n) = omega arith
+side-factor-small (negsuc n) = omega arith
 
 pub side-times : (j : ℤ) → (pos 2 *ℤ pos (sideOf j) -ℤ pos 1) *ℤ j ≡ pos (natAbs j)
 unfolding sideOf
@@ -98,6 +101,17 @@ pub entry-mag : (s T : ℕ) → mag (entryBy s T) ≡ T
 unfolding entryBy
 entry-mag zero T = refl
 entry-mag (suc s) T = refl
+
+-- A bit and twice a bit, as their bits are read
+module _ (n : ℕ) (n-lt : n < 2) where
+  pub bit-is : toZ w32 n ≡ pos n
+  bit-is = toZ-pos w32 n (omega arith)
+
+  pub twice-fits : SFits w32 (pos 2 *ℤ toZ w32 n)
+  twice-fits = rw bit-is (record { sfits = omega arith })
+
+  pub twice-is : toZ w32 (ofZ w32 (pos 2 *ℤ toZ w32 n)) ≡ pos 2 *ℤ pos n
+  twice-is = toZ-ofZ w32 _ twice-fits ∙ rw bit-is
 
 -- Document 01's entry is the one by this sign.
 pub signed-by : (rising : Bool) (j : ℤ) (T : ℕ) → entryBy (signOf rising j) T ≡ signed rising j T

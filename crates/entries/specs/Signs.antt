@@ -35,8 +35,8 @@ magnitudeAt d i A B = magnitude (hiAt d i A + loAt d i A) (position d i) (oddNum
 unfoldable pub signAt : Design → ℕ → ℕ → ℕ
 signAt d i B = signOf (row d .rising) (oddNumber (bOf d i) B)
 
--- Their entry comes out by arithmetic: T is within the bound, and (1 - 2·s)·T - s is document 01's entry.
-pub record Comes (d : Design) (i A B : ℕ) : Type 0 where
+-- T is within the bound, and (1 - 2·s)·T - s is document 01's entry.
+pub record EntryByArithmetic (d : Design) (i A B : ℕ) : Type 0 where
   pub bounded : magnitudeAt d i A B ≤ offsetBound
   pub entry : byArithmetic (signAt d i B) (magnitudeAt d i A B) ≡ offsetAt d i A B
 
@@ -53,4 +53,4 @@ pub record SignByArithmetic : Type 0 where
   -- For sign 0 and for sign 1 the arithmetic comes to the entry,
   pub either : (s T : ℕ) → s < 2 → byArithmetic s T ≡ entryBy s T
   -- and so it does for every T that the fill can meet, of a legal design, admitted or not.
-  pub met : (d : Design) → Legal d → (i A B : ℕ) → i < d .m → A < 2 ^ aOf d i → B < 2 ^ bOf d i → Comes d i A B
+  pub met : (d : Design) → Legal d → (i A B : ℕ) → i < d .m → A < 2 ^ aOf d i → B < 2 ^ bOf d i → EntryByArithmetic d i A B

@@ -76,8 +76,8 @@ fn absolute(b: u32, word: u64) -> u64
     ensures { λ r. ⌜ r ≡ natAbs (oddNumber b word) ⌝ }
 {
     let j = odd_number(b, word);
-    let turn = 2 * top_bit(b, word) as i32 - 1;
-    (turn * j) as u64
+    let factor = 2 * top_bit(b, word) as i32 - 1;
+    (factor * j) as u64
 }
 
 // s, 0 where j has the function's sign: where the top bit is 1 and the function rises, or it is 0 and the function falls.

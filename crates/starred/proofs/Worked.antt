@@ -79,8 +79,8 @@ widest =
     record { kind = 0; w = 16; q = 16; g = 4; alpha = 13; m = 1; pairs = pair 9 3 ∷ pair 0 0 ∷ pair 0 0 ∷ pair 0 0 ∷ [] }
 
 -- The table with the largest T: kind 0, w 10, q 16, g 4, alpha 2, m 1, (2,8)
-abbrev far-reach : Design
-far-reach =
+abbrev largest-offsets : Design
+largest-offsets =
     record { kind = 0; w = 10; q = 16; g = 4; alpha = 2; m = 1; pairs = pair 2 8 ∷ pair 0 0 ∷ pair 0 0 ∷ pair 0 0 ∷ [] }
 
 -- Twenty entries: kind 0, w 6, q 6, g 2, alpha 2, m 4, (1,1) four times
@@ -203,8 +203,8 @@ pub record Worked : Type 0 where
   -- the number of frames before the last
   pub line-97 : Line-of-G 97 "0400619B"
   -- The largest T that a legal design has, at the first word of a segment and at its last: one sign and the other
-  pub largest-t : (magnitudeAt far-reach 0 0 255 ≡ 107124) × (offsetAt far-reach 0 0 0 ≡ pos 107124)
-      × (offsetAt far-reach 0 0 255 ≡ negsuc 107124)
+  pub largest-t : (magnitudeAt largest-offsets 0 0 255 ≡ 107124) × (offsetAt largest-offsets 0 0 0 ≡ pos 107124)
+      × (offsetAt largest-offsets 0 0 255 ≡ negsuc 107124)
   -- Signs below 0 and above it, where the function falls and where it rises
   pub signs : (map (λ B. signOf false (oddNumber 3 B)) (0 ∷ 3 ∷ 4 ∷ 7 ∷ []) ≡ 0 ∷ 0 ∷ 1 ∷ 1 ∷ [])
       × (map (λ B. signOf true (oddNumber 3 B)) (0 ∷ 3 ∷ 4 ∷ 7 ∷ []) ≡ 1 ∷ 1 ∷ 0 ∷ 0 ∷ [])

@@ -143,7 +143,7 @@ floor-flat row lawful w P X range =
 
 -- Hi without its last one; n is k·X
 slope-flat : (L n d u : ℕ) → 0 < n → d ≤ n → L * d ≤ n * u → (L + 1) * 65536 / n * d ≤ (u + 1) * 65536
-slope-flat L n d u n-pos low flat =
+slope-flat L n d u n-pos low high =
     let q = (L + 1) * 65536 / n in
     le-of-mul-le-mul-right {m = q * d} {n = (u + 1) * 65536} {k = n}
     (omega (arith, mul-le-mul-right d (mul-div-le ((L + 1) * 65536) n))) n-pos

@@ -9,23 +9,14 @@ use mir.Val.{SFits, toZ, ofZ}
 use mir.ValLaws.{toZ-pos, toZ-ofZ}
 use Rattle.entries.specs.Inputs.{offsetBound}
 use Rattle.entries.specs.Signs.{entryBy, byArithmetic}
-use Rattle.entries.proofs.SignLaws.{by-arithmetic, factor-small, product-small, entry-mag}
+use Rattle.entries.proofs.SignLaws.{bit-is, twice-fits, twice-is, by-arithmetic, factor-small, product-small, entry-mag}
 use Rattle.entries.proofs.with_sign.Statement.{statement}
 use Rattle.entries.proofs.with_sign.Tie as tie
 
--- s, 2·s and 1 - 2·s, as their bits are read,
+-- 1 - 2·s, as its bits are read,
 module _ (s : ℕ) (s-lt : s < 2) where
-  s-is : toZ w32 s ≡ pos s
-  s-is = toZ-pos w32 s (omega arith)
-
-  twice-fits : SFits w32 (pos 2 *ℤ toZ w32 s)
-  twice-fits = rw s-is (record { sfits = omega arith })
-
-  twice-is : toZ w32 (ofZ w32 (pos 2 *ℤ toZ w32 s)) ≡ pos 2 *ℤ pos s
-  twice-is = toZ-ofZ w32 _ twice-fits ∙ rw s-is
-
   factor-fits : SFits w32 (pos 1 -ℤ toZ w32 (ofZ w32 (pos 2 *ℤ toZ w32 s)))
-  factor-fits = rw twice-is (record { sfits = omega (arith, factor-small s s-lt) })
+  factor-fits = rw (twice-is s s-lt) (record { sfits = omega (arith, factor-small s s-lt) })
 
   abbrev factor : ℕ
   factor = ofZ w32 (pos 1 -ℤ toZ w32 (ofZ w32 (pos 2 *ℤ toZ w32 s)))
@@ -33,13 +24,13 @@ module _ (s : ℕ) (s-lt : s < 2) where
   -- its product with T, and the entry
   module _ (t : ℕ) (t-le : t ≤ offsetBound) where
     product-is : toZ w32 factor *ℤ toZ w32 t ≡ (pos 1 -ℤ pos 2 *ℤ pos s) *ℤ pos t
-    product-is = rw (toZ-ofZ w32 _ factor-fits, twice-is, toZ-pos w32 t (omega arith))
+    product-is = rw (toZ-ofZ w32 _ factor-fits, twice-is s s-lt, toZ-pos w32 t (omega arith))
 
     product-fits : SFits w32 (toZ w32 factor *ℤ toZ w32 t)
     product-fits = rw product-is (record { sfits = omega (arith, product-small s t s-lt) })
 
     sum-is : toZ w32 (ofZ w32 (toZ w32 factor *ℤ toZ w32 t)) -ℤ toZ w32 s ≡ entryBy s t
-    sum-is = rw (toZ-ofZ w32 _ product-fits, product-is, s-is) (unfold byArithmetic in by-arithmetic s t s-lt)
+    sum-is = rw (toZ-ofZ w32 _ product-fits, product-is, bit-is s s-lt) (unfold byArithmetic in by-arithmetic s t s-lt)
 
     sum-fits : SFits w32 (toZ w32 (ofZ w32 (toZ w32 factor *ℤ toZ w32 t)) -ℤ toZ w32 s)
     sum-fits = rw sum-is (record { sfits = omega (arith, entry-mag s t) })
