@@ -3,19 +3,20 @@ use mathlib.Core.Path.{_≡_}
 use mathlib.Core.Bool.{false}
 use Prim.Native.Nat.{ℕ, _+_, _-_, _≤_, _<_}
 use native.Mathlib.Omega.{arith}
+use lib.Pow.{pow-mono}
 use borrow.Author.Tests.{ltb-false, leb-false, eqb-true, not-false}
 use Rattle.general.proofs.Tests.{neither}
 use Rattle.general.proofs.Sums.{none-below, sum-step}
 use Rattle.refusal.proofs.Checks.{passed-append, none-fails, inside}
 use Rattle.values.specs.Rows.{Lawful}
-use Rattle.values.specs.Room.{Room}
+use Rattle.values.specs.Room.{Room, finestUnit, entryBound}
 use Rattle.values.specs.Inputs.{SlopeInput}
 use Rattle.values.specs.Widths.{limitsOf, widthChecks}
 use Rattle.values.proofs.WidthLaws.{Widths, widths-of}
 use Rattle.design.specs.declared.Design.{Design}
 use Rattle.design.specs.declared.legal.TableRule.{TableRule}
 use Rattle.design.specs.Limits.{leastInitialBits, mostInitialBits, mostTables, mostOffsetBits, mostTableBits}
-use Rattle.design.specs.Cut.{aOf, bOf, row, fractionBits, position}
+use Rattle.design.specs.Cut.{aOf, bOf, row, fractionBits, sumLimit, position}
 use Rattle.design.specs.Legal.{breaks, tableBreaks, cutChecks, designChecks, designVerdict, Legal}
 
 -- A table that lies within document 01's limits
@@ -76,6 +77,10 @@ module _ (d : Design) (l : Limits d) where
 
   pub room : Room (row d) (d .w) (fractionBits d)
   room = l .widths .room
+
+  -- The limit on sums is one that the machine has room for.
+  pub sum-limit-small : sumLimit d ≤ entryBound
+  sum-limit-small = pow-mono {j = finestUnit + 2} (omega (arith, room .s-small))
 
   pub slopewise : (i : ℕ) → i < d .m → SlopeInput (row d) (d .w) (fractionBits d) (aOf d i)
   slopewise i h = record { lawful = lawful; room = room; a-small = omega (arith, l .table i h .a-high, l .alpha-below) }

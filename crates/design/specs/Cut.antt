@@ -32,6 +32,10 @@ row d = rowOf (d .kind)
 abbrev pub fractionBits : Design → ℕ
 fractionBits d = d .q + d .g
 
+-- "0 ≤ Y < 2^(P+2)": the limit on sums, in table units
+abbrev pub sumLimit : Design → ℕ
+sumLimit d = 2 ^ (fractionBits d + 2)
+
 -- "p_0 = 0 and p_(i+1) = p_i + b_i"
 unfoldable pub position : Design → ℕ → ℕ
 position d i = sumBelow i (bOf d)

@@ -45,6 +45,14 @@ pub fn limit_of(d: Design) -> u64
     pow2(d.g + 17)
 }
 
+// inner: the limit on sums, 2^(P+2).
+pub fn sum_limit(d: Design) -> u64
+    requires { ⌜ Legal d ⌝ }
+    ensures { λ r. ⌜ r ≡ Cut.sumLimit d ⌝ }
+{
+    pow2(d.q + d.g + 2)
+}
+
 // inner: how many offsets table i stores.
 pub fn offset_count(d: Design, i: u32) -> u64
     requires { ⌜ Legal d ⌝ }

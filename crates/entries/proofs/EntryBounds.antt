@@ -12,9 +12,9 @@ use Rattle.values.proofs.FloorLaws.{floor-high}
 use Rattle.values.proofs.Bounds.{start-input, end-input, slopes-scaled}
 use Rattle.design.specs.declared.Design.{Design}
 use Rattle.design.specs.Limits.{leastInitialBits, mostTables}
-use Rattle.design.specs.Cut.{aOf, bOf, row, fractionBits, position}
+use Rattle.design.specs.Cut.{aOf, bOf, row, fractionBits, sumLimit, position}
 use Rattle.design.specs.Stored.{initialCount}
-use Rattle.design.proofs.LegalLaws.{Limits, lawful, slopewise, bits-end, room}
+use Rattle.design.proofs.LegalLaws.{Limits, lawful, slopewise, bits-end, room, sum-limit-small}
 use Rattle.entries.specs.Inputs.{reachBound, offsetBound}
 use Rattle.entries.specs.Entries.{valueAt, endValues, initialAt, hiAt, loAt, oddNumber, magnitude}
 
@@ -46,7 +46,7 @@ module _ (d : Design) (l : Limits d) where
   unit-small = le-trans half-unit (pow-mono {j = finestUnit + 1} (omega (arith, l .widths .room .s-small)))
 
   -- Every initial entry is a sum in range, "0 ≤ Y < 2^(P+2)", by itself,
-  pub initial-in-range : (A : ℕ) → A < initialCount d → initialAt d A < 2 ^ (P + 2)
+  pub initial-in-range : (A : ℕ) → A < initialCount d → initialAt d A < sumLimit d
   unfolding initialAt endValues valueAt initialCount
   initial-in-range A A-lt =
       let fit = interval-input d l in
@@ -58,8 +58,7 @@ module _ (d : Design) (l : Limits d) where
 
   -- and so it is small.
   pub initial-small : (A : ℕ) → A < initialCount d → initialAt d A < entryBound
-  initial-small A A-lt =
-      lt-of-lt-of-le (initial-in-range A A-lt) (pow-mono {j = finestUnit + 2} (omega (arith, l .widths .room .s-small)))
+  initial-small A A-lt = lt-of-lt-of-le (initial-in-range A A-lt) (sum-limit-small d l)
 
 -- |j| is at most 2^b, so the bound on slopes·2^(b+p) is one on the product, and T is small.
 pub odd-small : (b B : ℕ) → B < 2 ^ b → natAbs (oddNumber b B) ≤ 2 ^ b

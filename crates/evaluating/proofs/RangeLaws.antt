@@ -16,7 +16,7 @@ use Rattle.refusal.specs.Checks.{outside, verdict}
 use Rattle.refusal.proofs.Checks.{inside}
 use Rattle.values.specs.Value.{wordCheck}
 use Rattle.design.specs.declared.Design.{Design}
-use Rattle.design.specs.Cut.{fractionBits, initialWord, offsetWord}
+use Rattle.design.specs.Cut.{sumLimit, initialWord, offsetWord}
 use Rattle.design.specs.Stored.{initialCount, offsetTotal}
 use Rattle.design.proofs.LegalLaws.{Limits}
 use Rattle.design.proofs.StoredLaws.{place-in-total, from-size}
@@ -69,12 +69,12 @@ module _ (d : Design) (l : Limits d) (initial : List ℕ) (offsets : List ℤ) w
       let place = place-in-total d i _ _ more (segment-word-lt d l i x more word) (offset-word-lt d i x) in
       rw (from-size d i (offsetWord d i x)) (omega (arith, largest-above (offsetTotal d) (λ (j : ℕ). mag (getD offsets j (pos 0))) _ place))
 
-  within-limit : {k limit : ℕ} → limit ≡ 2 ^ (fractionBits d + 2) → k < limit → sumOutside d (pos k) ≡ false
+  within-limit : {k limit : ℕ} → limit ≡ sumLimit d → k < limit → sumOutside d (pos k) ≡ false
   unfolding sumOutside
   within-limit {k} e h = simp (le-ltb k 0 (omega arith), lt-leb _ _ (rw e at h))
 
   pub sums-stay : (reach limit : ℕ) → reach ≡ d .m * (largest (offsetTotal d) (λ (j : ℕ). mag (getD offsets j (pos 0))) + 1)
-      → limit ≡ 2 ^ (fractionBits d + 2) → reach < limit
+      → limit ≡ sumLimit d → reach < limit
       → someBelow (initialCount d) (λ (A : ℕ). outside reach (limit - reach - 1) (getD initial A 0)) ≡ false
       → SumsInRange d initial offsets
   unfolding sumAt

@@ -13,6 +13,7 @@ ghost use Rattle.evaluating.specs.Range.{SumsInRange, widthAnswer};
 use crate::Batched;
 use design::Design;
 use design::measure::offset_total;
+use design::measure::sum_limit;
 use general::pow2;
 use refusal::Cause;
 use refusal::outside;
@@ -62,7 +63,7 @@ pub fn sums_in_range(d: Design, initial: &[u32], offsets: &[i32]) -> bool
 {
     let size = largest_magnitude(offsets, offset_total(d) as usize) as u64 + 1;
     let reach = d.m as u64 * size;
-    let limit = pow2(d.q + d.g + 2);
+    let limit = sum_limit(d);
     if limit <= reach {
         return false;
     }

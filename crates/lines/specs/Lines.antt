@@ -1,11 +1,13 @@
--- Document 01, "Bits, lines and the report": the frames of a set, and its lines.
-use mathlib.Core.Bool.{Bool, true}
+-- Document 01, "Bits, lines and the report": the frames of a set, what an entry is refused for in them, and its lines.
+use mathlib.Core.Bool.{Bool, true, false}
 use mathlib.Core.List.{List, _∷_, _++_}
 use Prim.Native.Nat.{ℕ}
+use lib.Dec.{leb}
 use lib.ListN.{getD}
 use lib.IntN.{ℤ, pos}
 use Rattle.general.specs.Below.{listBelow}
 use Rattle.design.specs.declared.Design.{Design}
+use Rattle.design.specs.Cut.{sumLimit}
 use Rattle.encoding.specs.Bytes.{bigEndian, entryBytes, complement, fits, fitsSigned}
 use Rattle.encoding.specs.Encode.{lineOf}
 use Rattle.encoding.specs.DesignBytes.{designBytes}
@@ -39,6 +41,17 @@ entryFits Slot.Design initial offsets = true
 entryFits (Slot.Initial index) initial offsets = fits entryBytes (getD initial index 0)
 entryFits (Slot.Offset table index place) initial offsets = fitsSigned entryBytes (getD offsets place (pos 0))
 entryFits (Slot.End before) initial offsets = true
+
+-- Document 02, A4, 23: "an initial entry is 2^(P+2) or more"
+abbrev pub initialOver : Design → ℕ → Bool
+initialOver d entry = leb (sumLimit d) entry
+
+-- and of a line, whose entry is given as the number in its bytes. Offsets are not concerned.
+unfoldable pub entryOver : Design → Slot → ℕ → Bool
+entryOver d Slot.Design number = false
+entryOver d (Slot.Initial index) number = initialOver d number
+entryOver d (Slot.Offset table index place) number = false
+entryOver d (Slot.End before) number = false
 
 -- A frame without its sum byte
 unfoldable pub frameOf : Design → Slot → List ℕ → List ℤ → List ℕ

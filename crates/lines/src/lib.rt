@@ -1,15 +1,16 @@
-// The lines of a set: which line holds what, and the bytes before its entry.
+// The lines of a set: which line holds what, the bytes before its entry, and which initial entries no line carries.
 ghost use mathlib.Core.Path.{_≡_};
 ghost use Prim.Native.Nat.{_<_};
 ghost use lib.ListN.{length};
 ghost use Rattle.design.specs.Legal.{Legal};
 ghost use Rattle.encoding.specs.Inputs.{held};
 ghost use Rattle.lines.specs.Slots.{lineCount, offsetSlot, slotOf};
-ghost use Rattle.lines.specs.Lines.{frameHead, entryWidth};
+ghost use Rattle.lines.specs.Lines.{frameHead, entryWidth, initialOver, entryOver};
 ghost use Rattle.lines.specs.Inputs.{LineInput, PlaceInput};
 use design::Design;
 use design::measure::offset_count;
 use design::measure::offset_total;
+use design::measure::sum_limit;
 use encoding::Frame;
 use encoding::design_frame;
 use encoding::numbers::ENTRY_BYTES;
@@ -88,6 +89,31 @@ pub fn head_of(d: Design, slot: Slot) -> Frame
             place: _,
         } => Frame::of_kind(3).with(1, table).with(2, index),
         Slot::End(before) => Frame::of_kind(4).with(2, before),
+    }
+}
+
+// inner: whether an initial entry is at the limit on sums or beyond it.
+pub fn initial_over(d: Design, entry: u32) -> bool
+    requires { ⌜ Legal d ⌝ }
+    ensures { λ r. ⌜ r ≡ initialOver d entry ⌝ }
+{
+    sum_limit(d) <= entry as u64
+}
+
+// inner: whether a line's entry, which is given as the number in its bytes, is such an initial entry.
+pub fn entry_over(d: Design, slot: Slot, number: u32) -> bool
+    requires { ⌜ Legal d ⌝ }
+    ensures { λ r. ⌜ r ≡ entryOver d slot number ⌝ }
+{
+    match slot {
+        Slot::Design => false,
+        Slot::Initial(_) => initial_over(d, number),
+        Slot::Offset {
+            table: _,
+            index: _,
+            place: _,
+        } => false,
+        Slot::End(_) => false,
     }
 }
 

@@ -28,6 +28,8 @@ numberOf Cause.LineNumber = 19
 numberOf Cause.AddressRange = 20
 numberOf Cause.Record = 21
 numberOf Cause.RecordDue = 22
+-- document 02, A4
+numberOf Cause.InitialRange = 23
 
 -- The number of a verdict; 0 where nothing is turned down.
 abbrev pub verdictNumber : Verdict → ℕ

@@ -26,6 +26,7 @@ pub enum Cause {
     AddressRange,
     Record,
     RecordDue,
+    InitialRange,
 }
 
 // What a list of checks comes to: nothing turned the input down, or the first check that did.
@@ -61,6 +62,7 @@ pub fn number(cause: Cause) -> u8
         Cause::AddressRange => 20,
         Cause::Record => 21,
         Cause::RecordDue => 22,
+        Cause::InitialRange => 23,
     }
 }
 

@@ -14,7 +14,7 @@ use Rattle.general.proofs.Tests.{neither}
 use Rattle.general.proofs.Sums.{signed-next, signed-first}
 use Rattle.values.specs.declared.TableUnits.{TableUnits}
 use Rattle.design.specs.declared.Design.{Design}
-use Rattle.design.specs.Cut.{fractionBits}
+use Rattle.design.specs.Cut.{sumLimit}
 use Rattle.tables.specs.Inputs.{sumAbove}
 use Rattle.tables.specs.Sum.{offsetFor, sumFrom, sumOutside}
 
@@ -75,7 +75,7 @@ module _ (d : Design) (entry : ℕ) (offsets : List ℤ) (x : ℕ) (some : 1 ≤
   first-last = +ℤ-assoc (pos entry) above first ∙ ap (λ (z : ℤ). pos entry +ℤ z) (+ℤ-comm above first ∙ all-tables)
 
 -- A sum in range is a number of fewer than P + 3 bits.
-pub in-range : (d : Design) (Y : ℤ) → sumOutside d Y ≡ false → T (nonNeg Y) × (natAbs Y < 2 ^ (fractionBits d + 2))
+pub in-range : (d : Design) (Y : ℤ) → sumOutside d Y ≡ false → T (nonNeg Y) × (natAbs Y < sumLimit d)
 unfolding sumOutside
-in-range d (pos n) e = (tt, leb-false _ _ (neither (ltb n 0) (leb (2 ^ (fractionBits d + 2)) n) e .1))
+in-range d (pos n) e = (tt, leb-false _ _ (neither (ltb n 0) (leb (sumLimit d) n) e .1))
 in-range d (negsuc n) e = absurd (true≢false e)

@@ -1,13 +1,13 @@
 -- Document 01, "Evaluating and checking": the sum Y over any tables, whoever filled them, and the word.
 use mathlib.Core.Bool.{Bool, _||_}
 use mathlib.Core.List.{List}
-use Prim.Native.Nat.{ℕ, _+_, _/_, _^_}
+use Prim.Native.Nat.{ℕ, _/_, _^_}
 use lib.ListN.{getD}
 use lib.IntN.{ℤ, pos, _+ℤ_, natAbs}
 use lib.Signed.{ltZ, leZ}
 use Rattle.general.specs.Below.{signedSum}
 use Rattle.design.specs.declared.Design.{Design}
-use Rattle.design.specs.Cut.{fractionBits, initialWord, segmentWord, offsetWord}
+use Rattle.design.specs.Cut.{sumLimit, initialWord, segmentWord, offsetWord}
 use Rattle.design.specs.Stored.{offsetFrom, offsetPlace}
 
 -- The offset of table i that x looks up, "entry A_i·2^(b_i) + B_i": it comes from what is stored at the place that A_i and B_i read
@@ -24,7 +24,7 @@ sumAt d initial offsets x = sumFrom d (getD initial (initialWord d x) 0) offsets
 
 -- not "0 ≤ Y < 2^(P+2)"
 unfoldable pub sumOutside : Design → ℤ → Bool
-sumOutside d Y = ltZ Y (pos 0) || leZ (pos (2 ^ (fractionBits d + 2))) Y
+sumOutside d Y = ltZ Y (pos 0) || leZ (pos (sumLimit d)) Y
 
 -- "the word is floor(Y / 2^g)", for a Y that is not negative
 unfoldable pub wordOf : Design → ℤ → ℕ

@@ -14,7 +14,7 @@ use crate::lookups::Lookup;
 use crate::lookups::Lookups;
 use crate::lookups::place_of;
 use design::Design;
-use general::pow2;
+use design::measure::sum_limit;
 use values::OutputUnits;
 use values::TableUnits;
 
@@ -109,7 +109,7 @@ pub fn sum_outside(d: Design, sum: TableUnits) -> bool
     requires { ⌜ Legal d ⌝ }
     ensures { λ r. ⌜ r ≡ sumOutside d (sum .0) ⌝ }
 {
-    let limit = pow2(d.q + d.g + 2) as i64;
+    let limit = sum_limit(d) as i64;
     sum.0 < 0 || limit <= sum.0
 }
 

@@ -1,17 +1,17 @@
 -- `tables::sums::sum_outside` meets its contract: the two tests of the definition, on a sum and a limit that 64 bits hold.
 use mathlib.Core.Path.{_≡_, refl, sym, ap, subst, _∙_}
 use mathlib.Core.Bool.{Bool, true, false, _||_, true≢false}
-use Prim.Native.Nat.{_+_, _^_, _≤_}
+use Prim.Native.Nat.{_≤_}
 use native.Mathlib.Omega.{arith}
+use borrow.Author.Needs.{needs}
 use lib.IntN.{ℤ, pos}
-use lib.Pow.{pow-mono}
 use lib.Signed.{ltZ, leZ}
 use mir.Syntax.{w64}
 use mir.ValLaws.{toZ-pos, toZ-ofZ}
-use Rattle.values.specs.Room.{finestUnit, entryBound}
+use Rattle.values.specs.Room.{entryBound}
 use Rattle.design.specs.declared.Design.{Design}
-use Rattle.design.specs.Cut.{fractionBits}
-use Rattle.design.proofs.LegalLaws.{limits}
+use Rattle.design.specs.Cut.{sumLimit}
+use Rattle.design.proofs.LegalLaws.{limits, sum-limit-small}
 use Rattle.tables.specs.Sum.{sumOutside}
 use Rattle.tables.proofs.sums.sum_outside.Statement.{statement}
 use Rattle.tables.proofs.sums.sum_outside.Tie as tie
@@ -30,24 +30,13 @@ module _ (d : Design) (Y held : ℤ) (same : held ≡ Y) where
   unfolding sumOutside
   below e = subst (λ (z : ℤ). ltZ held (pos 0) ≡ sumOutside d z) same (first _ _ e)
 
-  above : (limit : ℤ) → limit ≡ pos (2 ^ (fractionBits d + 2)) → ltZ held (pos 0) ≡ false → leZ limit held ≡ sumOutside d Y
+  above : (limit : ℤ) → limit ≡ pos (sumLimit d) → ltZ held (pos 0) ≡ false → leZ limit held ≡ sumOutside d Y
   unfolding sumOutside
   above limit limit-is e =
       subst (λ (z : ℤ). leZ limit held ≡ sumOutside d z) same (ap (λ (z : ℤ). leZ z held) limit-is ∙ second _ _ e)
 
-add-pow2 : tie.Need-add-pow2
-add-pow2 c = omega (arith, limits _ (c .before .pre) .widths .room .s-small)
-
-add-pow2-2 : tie.Need-add-pow2-2
-add-pow2-2 c = omega (arith, limits _ (c .before .pre) .widths .room .s-small)
-
-pow2-requires : tie.Need-pow2-requires
-pow2-requires c κs = omega (arith, limits _ (c .before .pre) .widths .room .s-small)
-
-limit-small : (c : tie.After-pow2) → c .pow2 .result ≤ entryBound
-limit-small c =
-    let few = limits _ (c .before .before .pre) .widths .room .s-small in
-    rw (c .pow2 .ensures) (pow-mono {j = finestUnit + 2} (omega arith))
+limit-small : (c : tie.After-sum-limit) → c .sum-limit .result ≤ entryBound
+limit-small c = rw (c .sum-limit .ensures) (sum-limit-small _ (limits _ (c .before .pre)))
 
 cast-limit : tie.Need-cast-limit
 cast-limit c = record { sfits = omega (arith, limit-small c) }
@@ -55,15 +44,15 @@ cast-limit c = record { sfits = omega (arith, limit-small c) }
 returns-2 : tie.Need-returns-2
 returns-2 c =
     let b = c .before .before .before .before .before in
-    let a = b .before .before .args in
+    let a = b .before .args in
     above (a .d) (a .sum .0) _ (toZ-ofZ w64 (a .sum .0) (record { sfits = c .struct-told2 .given .0 .1 })) _
-    (toZ-pos w64 (b .pow2 .result) (omega (arith, limit-small b)) ∙ ap pos (b .pow2 .ensures)) (c .before .before .if1 .left)
+    (toZ-pos w64 (b .sum-limit .result) (omega (arith, limit-small b)) ∙ ap pos (b .sum-limit .ensures)) (c .before .before .if1 .left)
 
 returns : tie.Need-returns
 returns c =
-    let a = c .before .before .before .before .before .args in
+    let a = c .before .before .before .before .args in
     below (a .d) (a .sum .0) _ (toZ-ofZ w64 (a .sum .0) (record { sfits = c .before .struct-told .given .0 .1 })) (c .if1 .taken)
 
 pub sum-outside-spec : {M : Type 1} → statement M
 sum-outside-spec =
-    tie.close (tie.spec add-pow2 add-pow2-2 pow2-requires cast-limit returns returns-2)
+    tie.close (tie.spec (λ c κs. search needs) cast-limit returns returns-2)
