@@ -18,6 +18,13 @@ pub fn design_line(d: &Design, pairs: usize) -> Vec<u8> {
     sealed(&numbers.map(|number| number as u8).collect::<Vec<_>>())
 }
 
+/// An 02 line of any initial entry that fits its 3 bytes.
+pub fn initial_line(index: usize, entry: u32) -> Vec<u8> {
+    let [i1, i0] = (index as u16).to_be_bytes();
+    let [_, entry @ ..] = entry.to_be_bytes();
+    sealed(&[&[2, i1, i0], &entry[..]].concat())
+}
+
 /// A record of at most 255 data bytes.
 pub fn record(address: u16, kind: u8, data: &[u8]) -> Vec<u8> {
     let [a1, a0] = address.to_be_bytes();

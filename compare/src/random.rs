@@ -319,6 +319,11 @@ pub fn lengths(d: &Design) -> (usize, usize) {
     (1 << d.alpha, offsets)
 }
 
+/// The limit on sums, 2^(P+2), of a legal design; for another it is no greater.
+pub fn sum_limit(d: &Design) -> u32 {
+    1 << (d.q.min(16) + d.g.min(6) + 2)
+}
+
 impl Random {
     /// Random entries, as many as asked for.
     pub fn tables(&mut self, (initial, offsets): (usize, usize)) -> Tables {
@@ -385,7 +390,7 @@ impl Random {
             let extreme = self.once_in(4);
             if self.once_in(2) {
                 let place = self.place(tables.initial.len());
-                let limit = 1 << (d.q.min(16) + d.g.min(6) + 2);
+                let limit = sum_limit(d);
                 let extremes = [0, 1, u32::MAX, 1 << 31, limit, limit - 1, 15, 16, 63, 64];
                 let entry = &mut tables.initial[place];
                 *entry = if extreme {

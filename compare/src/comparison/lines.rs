@@ -2,7 +2,7 @@
 
 use super::Comparison;
 use crate::frames::{design_line, sealed};
-use crate::random::{lengths, Given, Tables};
+use crate::random::{lengths, sum_limit, Given, Tables};
 use crate::wide::reference::{Design, Reading};
 
 /// One past the greatest initial entry and the greatest offset that fit 3 bytes.
@@ -133,7 +133,8 @@ impl Comparison {
         }
     }
 
-    /// Tables of any length and sort with some entries at the limits of 3 bytes.
+    /// Tables of any length and sort with some entries at the limits of 3 bytes, and initial
+    /// entries at the limit on sums.
     fn tables_with_extremes(&mut self, d: &Design) -> Tables {
         let mut tables = match self.random.within(0..=4) {
             0 => self.random.room(d),
@@ -141,11 +142,13 @@ impl Comparison {
             _ => self.random.plausible(d),
         };
         let share = self.random.pick(&[1, 2, 8]);
+        let limit = sum_limit(d);
         for entry in &mut tables.initial {
             if self.random.once_in(share) {
-                *entry = self
+                let large = self
                     .random
-                    .pick(&[0, END - 1, END, END + 1, u32::MAX, END | 5]);
+                    .pick(&[END - 1, END, END + 1, u32::MAX, END | 5]);
+                *entry = self.random.pick(&[0, limit - 1, limit, large]);
             }
         }
         for entry in &mut tables.offsets {
@@ -226,15 +229,15 @@ impl Comparison {
         }
     }
 
-    /// The line with a number, with a random entry where the tables have none or one that does
-    /// not fit.
+    /// The line with a number, with a random entry where the tables have none or one that no line
+    /// carries.
     fn written(&mut self, d: &Design, tables: &Tables, number: usize) -> Vec<u8> {
         let (initial, offsets) = lengths(d);
         let mut whole = tables.clone();
         whole.initial.resize(initial, 1);
         whole.offsets.resize(offsets, -1);
         for entry in &mut whole.initial {
-            *entry >>= 8;
+            *entry %= sum_limit(d);
         }
         for entry in &mut whole.offsets {
             *entry >>= 8;

@@ -2,6 +2,7 @@
 
 mod calls;
 mod counts;
+mod limits;
 mod lines;
 mod records;
 mod sets;
@@ -21,7 +22,7 @@ pub struct Comparison {
 type Part = fn(&mut Comparison);
 
 /// The parts of the comparison, each with a seed of its own.
-const PARTS: [(&str, Part); 23] = [
+const PARTS: [(&str, Part); 24] = [
     ("values", Comparison::values),
     ("designs", Comparison::designs),
     ("fills", Comparison::fills),
@@ -48,6 +49,10 @@ const PARTS: [(&str, Part); 23] = [
     ("spoilt records", Comparison::spoilt_records),
     ("records out of order", Comparison::records_out_of_order),
     ("records in every state", Comparison::records_in_every_state),
+    (
+        "initial entries at the limit on sums",
+        Comparison::entries_at_limit,
+    ),
 ];
 
 /// Ends the program at the first difference. Returns whether all that should come up did.

@@ -4,11 +4,11 @@ use super::lines::{body, END, HALF};
 use super::sets::stayed;
 use super::Comparison;
 use crate::frames::record;
-use crate::random::{largest, lengths, Tables, LARGEST};
+use crate::random::{largest, lengths, sum_limit, Tables, LARGEST};
 use crate::wide::reference::{Design, HexReading};
 
 /// A buffer with room for every record of a set.
-const ROOM: [u8; 44] = [b'.'; 44];
+pub const ROOM: [u8; 44] = [b'.'; 44];
 
 /// Numbers past every set. 16 times some of them is small modulo 2^16 or 2^64.
 pub const HUGE: [usize; 7] = [
@@ -123,12 +123,18 @@ impl Comparison {
             let tally = &mut self.calls.tally;
             tally.note(&format!("set restored from records: kind {}", d.kind));
             tally.note(&format!("set restored from records: last one {last}"));
+            if tables.initial[..initial]
+                .iter()
+                .any(|&entry| entry >= sum_limit(d))
+            {
+                tally.note("set that lines do not carry, restored from records");
+            }
         }
     }
 
     /// A set whose entries fit, some at the limits of 3 bytes, with anything beyond it. An
     /// admitted one is filled but for these.
-    fn fitting(&mut self, d: &Design) -> Tables {
+    pub fn fitting(&mut self, d: &Design) -> Tables {
         let mut tables = self.random.filled(d);
         let (initial, offsets) = lengths(d);
         for entry in &mut tables.initial[..initial] {

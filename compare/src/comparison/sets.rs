@@ -1,7 +1,7 @@
 //! Values, designs, filled sets, words, batches, verdicts and counts.
 
 use super::Comparison;
-use crate::random::{lengths, limits, Given, Tables};
+use crate::random::{lengths, limits, sum_limit, Given, Tables};
 use crate::wide::reference::{self, Design};
 
 /// Designs whose budget is exactly the limit, one of each kind.
@@ -286,7 +286,7 @@ impl Comparison {
         for round in 0..40 {
             let d = self.random.small(round % 5);
             let size = self.random.within(1..=500);
-            let (reach, limit) = (d.m * size, 1 << (d.q + d.g + 2));
+            let (reach, limit) = (d.m * size, sum_limit(&d));
             let near = [0, size, reach, limit - reach, limit - size, limit];
             for entry in near
                 .into_iter()

@@ -13,7 +13,7 @@ const fn call(name: &'static str, refusals: &'static [u8]) -> Call {
 }
 
 /// The document's "Checks in order"; the count "refuses as the check does", and the calls of
-/// records as request A2 says, but for 20: no legal set is that large.
+/// records as request A2 says, but for 20: no legal set is that large. 23 is request A4's.
 pub const CALLS: [Call; 15] = [
     call("value", &[0, 1, 2, 3, 4, 12]),
     call("legal", &[0, 1, 2, 3, 4, 5, 6, 7, 8, 9]),
@@ -30,9 +30,12 @@ pub const CALLS: [Call; 15] = [
     call("count", &[0, 1, 2, 3, 4, 5, 6, 7, 8, 9, 10]),
     call(
         "write_line",
-        &[0, 1, 2, 3, 4, 5, 6, 7, 8, 9, 10, 19, 18, 14],
+        &[0, 1, 2, 3, 4, 5, 6, 7, 8, 9, 10, 19, 18, 23, 14],
     ),
-    call("read_line", &[0, 17, 15, 16, 1, 2, 3, 4, 5, 6, 7, 8, 9, 10]),
+    call(
+        "read_line",
+        &[0, 17, 15, 16, 1, 2, 3, 4, 5, 6, 7, 8, 9, 23, 10],
+    ),
     call(
         "write_record",
         &[0, 1, 2, 3, 4, 5, 6, 7, 8, 9, 10, 19, 18, 14],
@@ -48,7 +51,7 @@ pub const CALLS: [Call; 15] = [
 const PLAIN: [Call; 2] = [call("is_finished", &[0]), call("records_finished", &[0])];
 
 /// Things that must come up, and how often at the least.
-const WANTED: [(&str, u64); 81] = [
+const WANTED: [(&str, u64); 94] = [
     ("budget equal to the limit", 5),
     ("budget one below the limit", 5),
     ("budget of 2^32 or more", 100),
@@ -130,6 +133,22 @@ const WANTED: [(&str, u64); 81] = [
     ("record, in a state that holds 1: 17", 1000),
     ("record, in a state that holds 2: 0", 1000),
     ("record, in a state past the set: 17", 1000),
+    ("initial entry one below the limit, line written: 0", 1000),
+    ("initial entry at the limit, line written: 23", 1000),
+    ("initial entry beyond the limit, line written: 23", 1000),
+    ("initial entry that does not fit, line written: 18", 1000),
+    ("initial entry one below the limit, line read: 0", 1000),
+    ("initial entry at the limit, line read: 23", 1000),
+    ("initial entry beyond the limit, line read: 23", 1000),
+    (
+        "initial entry one below the limit, tables too short: 10",
+        1000,
+    ),
+    ("initial entry at the limit, tables too short: 23", 1000),
+    ("initial entry at the limit, at another index: 16", 1000),
+    ("initial entry at the limit, record written: 0", 1000),
+    ("offset at the limit, line written: 0", 1000),
+    ("set that lines do not carry, restored from records", 900),
 ];
 
 #[derive(Default)]

@@ -100,9 +100,18 @@ impl Legal {
         }
         (place == self.offsets).then_some(Due::End { before: number })
     }
+
+    /// Refusal 23, for lines alone: an initial entry is 2^(P+2) or more.
+    fn limited(&self, entry: u32) -> Result<(), u8> {
+        if entry >> (self.function.p + 2) == 0 {
+            Ok(())
+        } else {
+            Err(refusal::INITIAL)
+        }
+    }
 }
 
-/// Writes the line with the asked number and returns its length; refusals 1 to 10, 19, 18, 14.
+/// Writes the line with the asked number and returns its length; refusals 1 to 10, 19, 18, 23, 14.
 pub fn write_line(
     d: &Design,
     initial: &[u32],
@@ -114,7 +123,11 @@ pub fn write_line(
     legal.fits(initial, offsets)?;
     let frame = match legal.due(number).ok_or(refusal::PAST_SET)? {
         Due::Design => design_frame(d, legal.m),
-        Due::Initial { index } => initial_frame(index, initial[index])?,
+        Due::Initial { index } => {
+            let frame = initial_frame(index, initial[index])?;
+            legal.limited(initial[index])?;
+            frame
+        }
         Due::Offset {
             table,
             index,
@@ -229,8 +242,8 @@ pub struct Reading {
 }
 
 impl Reading {
-    /// Takes one line; refusals 17, 15, 16, on an 01 line 1 to 9, then 10. A refused line gives
-    /// back the state that came in.
+    /// Takes one line; refusals 17, 15, 16, on an 01 line 1 to 9, on a 02 line 23, then 10. A
+    /// refused line gives back the state that came in.
     pub fn read_line(
         self,
         initial: &mut [u32],
@@ -281,6 +294,9 @@ impl Reading {
         let legal = self.possible()?;
         let frame = Frame::from_line(line)?;
         let entry = read_entry(legal.due(self.taken), frame.bytes())?;
+        if let Some(Entry::Initial { entry, .. }) = entry {
+            legal.limited(entry)?;
+        }
         legal.fits(initial, offsets)?;
         match entry {
             Some(Entry::Initial { index, entry }) => initial[index] = entry,

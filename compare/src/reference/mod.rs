@@ -1,5 +1,5 @@
-//! Document 01: multipartite tables for reciprocal, root and reciprocal root; and requests A1 and
-//! A2.
+//! Document 01: multipartite tables for reciprocal, root and reciprocal root; and requests A1, A2
+//! and A4.
 //!
 //! Names are the document's: kind, w, q, g, alpha, m, a, b, P, hi, lo, budget. `Int` is the type
 //! of every intermediate product, `Signed` that of sums; both come from the module that includes this

@@ -245,7 +245,12 @@ fn entries_that_do_not_fit() {
     let d = example();
     let (mut initial, mut offsets) = filled(&d);
     let mut line = [0; 16];
-    for (entry, answer) in [(1 << 24, Err(18)), ((1 << 24) - 1, Ok(14))] {
+    for (entry, answer) in [
+        (1 << 24, Err(18)),
+        ((1 << 24) - 1, Err(23)),
+        (1 << 14, Err(23)),
+        ((1 << 14) - 1, Ok(14)),
+    ] {
         initial[0] = entry;
         assert_eq!(write_line(&d, &initial, &offsets, 1, &mut line), answer);
     }
@@ -323,6 +328,32 @@ fn lines_refused() {
     assert_eq!(tables.0[..2], [4050, 5]);
 }
 
+/// G's limit is 2^14. The other lines of a set with such an entry are written, and an offset of that
+/// size is; 23 comes before 14.
+#[test]
+fn initial_entries_beyond_the_limit() {
+    let d = example();
+    let (mut initial, mut offsets) = filled(&d);
+    let mut line = [0; 20];
+    (initial[0], offsets[0]) = (1 << 14, 1 << 14);
+    for (number, answer) in [(0, Ok(20)), (1, Err(23)), (2, Ok(14)), (33, Ok(16))] {
+        let written = write_line(&d, &initial, &offsets, number, &mut line);
+        assert_eq!(written, answer);
+    }
+    assert_eq!(write_line(&d, &initial, &offsets, 1, &mut []), Err(23));
+    let mut read = |taken, line: &str| {
+        let state = Reading { design: d, taken };
+        let (answer, next) = state.read_line(&mut initial, &mut offsets, line.as_bytes());
+        assert_eq!(next.taken, taken + usize::from(answer.is_ok()));
+        answer.err().unwrap_or(0)
+    };
+    assert_eq!(read(1, "020000003FFFC0"), 0);
+    assert_eq!(read(1, "020000004000BE"), 23);
+    assert_eq!(read(1, "020001004000BD"), 16);
+    assert_eq!(read(33, "03000000004000BD"), 0);
+    assert_eq!(initial[0], 16383);
+}
+
 #[test]
 fn tables_come_last() {
     let d = example();
@@ -337,6 +368,7 @@ fn tables_come_last() {
             .0
     };
     assert_eq!(read("020000000FD21D"), Err(10));
+    assert_eq!(read("020000004000BE"), Err(23));
     assert_eq!(read("020001000FD21C"), Err(16));
     assert_eq!(initial[0], 5);
 }

@@ -25,6 +25,7 @@ use Rattle.record_reading.specs.ReadRecord.{
   heldCount,
   unusedFail,
   hexPossible,
+  hexFinished,
   HexSession,
   hexSession,
   hexVerdictOn,
@@ -36,6 +37,8 @@ use Rattle.record_reading.specs.ReadRecord.{
 use Rattle.record_reading.proofs.StateLaws.{taken-within}
 use Rattle.record_reading.proofs.StoringLaws.{cut-length, stored-length}
 use Rattle.record_storage.specs.Loading.{noRecord, hexFeed}
+use Rattle.record_storage.specs.RecordStorage.{Recordable, loadedIn}
+use Rattle.record_storage.proofs.Uniqueness.{unique}
 use Rattle.record_storage.proofs.Taking.{Came, piece-data, accepted-record}
 use Rattle.record_storage.proofs.AfterRecords.{cut-possible}
 use Rattle.hex_console.specs.Loaded.{Underway, HexStepped, HexCame}
@@ -152,3 +155,9 @@ module _ (d : Design) where
   pub came-underway : (initial : List ℕ) (offsets : List ℤ) (s : HexSession) → Legal d → HexCame d initial offsets s
       → Underway d (s .state)
   came-underway initial offsets s legal came = record { legal = legal; within = taken-within total (s .state) (came .is-possible) }
+
+-- Records hold a set that was read from them to its end.
+pub loaded-recordable : (d : Design) (initial : List ℕ) (offsets : List ℤ) (end : HexSession) → HexCame d initial offsets end
+    → hexFinished d (end .state) ≡ true → Recordable (loadedIn d end)
+loaded-recordable d initial offsets end came finished =
+    rw (← came .fed) (unique d (hexSession noRecord initial offsets) (came .texts) refl (rw (came .fed) finished) .recordable)

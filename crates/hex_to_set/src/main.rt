@@ -1,10 +1,12 @@
-// Reads a design's line and the Intel HEX records of its set from standard input, and writes the set's lines.
+// Reads a design's line and the Intel HEX records of its set from standard input, and writes the set's lines, or the refusal.
 ghost use lib.ListN.{length};
 ghost use Rattle.set_console.specs.Reading.{HoldsEverySet};
 use design::limits::MOST_INITIAL;
 use design::limits::MOST_OFFSETS;
 use hex_console::read_design;
 use hex_console::read_records;
+use lines::some_over;
+use refusal::Cause;
 use set_console::print_set;
 
 fn read_and_write(initial: &mut [u32], offsets: &mut [i32])
@@ -16,9 +18,15 @@ fn read_and_write(initial: &mut [u32], offsets: &mut [i32])
         return;
     }
     let set = read_records(design, initial, offsets);
-    if set.finished {
-        print_set(design, initial, offsets);
+    if !set.finished {
+        return;
     }
+    // Records carry initial entries that lines do not. Of such a set no line is written.
+    if some_over(design, initial) {
+        console::print_refused(Cause::InitialRange);
+        return;
+    }
+    print_set(design, initial, offsets);
 }
 
 fn main() {

@@ -5,9 +5,10 @@ use Prim.Native.Nat.{ℕ}
 use lib.Dec.{leb}
 use lib.ListN.{getD}
 use lib.IntN.{ℤ, pos}
-use Rattle.general.specs.Below.{listBelow}
+use Rattle.general.specs.Below.{someBelow, listBelow}
 use Rattle.design.specs.declared.Design.{Design}
 use Rattle.design.specs.Cut.{sumLimit}
+use Rattle.design.specs.Stored.{initialCount}
 use Rattle.encoding.specs.Bytes.{bigEndian, entryBytes, complement, fits, fitsSigned}
 use Rattle.encoding.specs.Encode.{lineOf}
 use Rattle.encoding.specs.DesignBytes.{designBytes}
@@ -45,6 +46,10 @@ entryFits (Slot.End before) initial offsets = true
 -- Document 02, A4, 23: "an initial entry is 2^(P+2) or more"
 abbrev pub initialOver : Design → ℕ → Bool
 initialOver d entry = leb (sumLimit d) entry
+
+-- of some of a set's initial entries,
+unfoldable pub someOver : Design → List ℕ → Bool
+someOver d initial = someBelow (initialCount d) (λ index. initialOver d (getD initial index 0))
 
 -- and of a line, whose entry is given as the number in its bytes. Offsets are not concerned.
 unfoldable pub entryOver : Design → Slot → ℕ → Bool

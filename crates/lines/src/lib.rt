@@ -1,11 +1,12 @@
 // The lines of a set: which line holds what, the bytes before its entry, and which initial entries no line carries.
 ghost use mathlib.Core.Path.{_≡_};
-ghost use Prim.Native.Nat.{_<_};
+ghost use Prim.Native.Nat.{_≤_, _<_};
 ghost use lib.ListN.{length};
+ghost use Rattle.design.specs.Stored.{initialCount};
 ghost use Rattle.design.specs.Legal.{Legal};
 ghost use Rattle.encoding.specs.Inputs.{held};
 ghost use Rattle.lines.specs.Slots.{lineCount, offsetSlot, slotOf};
-ghost use Rattle.lines.specs.Lines.{frameHead, entryWidth, initialOver, entryOver};
+ghost use Rattle.lines.specs.Lines.{frameHead, entryWidth, initialOver, someOver, entryOver};
 ghost use Rattle.lines.specs.Inputs.{LineInput, PlaceInput};
 use design::Design;
 use design::measure::offset_count;
@@ -100,7 +101,21 @@ pub fn initial_over(d: Design, entry: u32) -> bool
     sum_limit(d) <= entry as u64
 }
 
-// inner: whether a line's entry, which is given as the number in its bytes, is such an initial entry.
+// inner: whether some initial entry of a set is, so that lines do not carry the set.
+pub fn some_over(d: Design, initial: &[u32]) -> bool
+    requires { ⌜ Legal d × (initialCount d ≤ length (now initial)) ⌝ }
+    ensures { λ r. ⌜ r ≡ someOver d (now (initial .entry)) ⌝ }
+{
+    let count = pow2(d.alpha) as usize;
+    for i in 0..count {
+        if initial_over(d, initial[i]) {
+            return true;
+        }
+    }
+    false
+}
+
+// inner: whether a line's entry, which is given as the number in its bytes, is such an initial entry. Offsets have no limit but their 3 bytes.
 pub fn entry_over(d: Design, slot: Slot, number: u32) -> bool
     requires { ⌜ Legal d ⌝ }
     ensures { λ r. ⌜ r ≡ entryOver d slot number ⌝ }

@@ -20,7 +20,7 @@ use Rattle.tables.specs.Set.{tablesCheck}
 use Rattle.frames.specs.DesignFrame.{frameDesign, firstChecks}
 use Rattle.frames.specs.Line.{capacity}
 use Rattle.frames.proofs.FrameLaws.{frameDesign-padded, firstChecks-padded}
-use Rattle.encoding.specs.Bytes.{numberIn, entryBytes}
+use Rattle.encoding.specs.Bytes.{numberIn}
 use Rattle.lines.specs.declared.Slot.{Slot}
 use Rattle.lines.specs.Slots.{lineCount, slotOf}
 use Rattle.lines.specs.Lines.{frameHead, entryWidth}
@@ -38,7 +38,7 @@ use Rattle.reading.specs.ReadLine.{
   afterFrame,
 }
 use Rattle.reading.proofs.BeginsLaws.{begins-front}
-use Rattle.reading.proofs.ReadLaws.{notDue, first-design, later-design, first-checks, later-checks}
+use Rattle.reading.proofs.ReadLaws.{notDue, isOver, first-design, later-design, first-checks, later-checks}
 
 -- Bytes within the first `count` are the same among these as among all.
 within-front : (bytes : List ℕ) (count from n : ℕ) → from + n ≤ count → take n (drop from (take count bytes)) ≡ take n (drop from bytes)
@@ -97,10 +97,6 @@ module _ (bytes : List ℕ) (count : ℕ) (full : length bytes ≡ capacity) (so
           (answerIf (dueVerdict state initial offsets (take count bytes)) state (take count bytes))
       first-accepted e = rw (first-verdict, due, e, first-design state (take count bytes) none, design-same, none)
 
--- The number in an entry's bytes behind a head
-abbrev pub behind : ℕ → List ℕ → ℕ
-behind from bytes = numberIn (take entryBytes (drop from bytes))
-
 -- What the reading of a frame has to come to: this answer, and these tables
 abbrev pub Outcome : Reading → List ℕ → List ℤ → List ℕ → Read → List ℕ → List ℤ → Type 0
 Outcome state initial offsets frame answer initial-after offsets-after =
@@ -115,13 +111,35 @@ module _ (state : Reading) (initial : List ℕ) (offsets : List ℤ) (frame : Li
   unfolding afterFrame
   refused-outcome cause answer is e = rw (is, e) (refl, (refl, refl))
 
--- A later line is tried for the frame that is due, and then for the tables' lengths.
+-- The number in an entry's bytes, which lie within the frame
+entry-same : (d : Design) (slot : Slot) (bytes : List ℕ) (count : ℕ) → length (frameHead d slot) + entryWidth slot ≤ count
+    → entryIn d slot (take count bytes) ≡ entryIn d slot bytes
+unfolding entryIn
+entry-same d slot bytes count h = ap numberIn (within-front bytes count (length (frameHead d slot)) (entryWidth slot) h)
+
+-- A frame that is due has room for its entry.
+due-long : (head : List ℕ) (width : ℕ) (bytes : List ℕ) (count : ℕ) → headFails head width bytes count ≡ false
+    → length head + width ≤ count
+unfolding headFails
+due-long head width bytes count e =
+    let due = length head + width + 1 in
+    omega (arith, eqb-true count due (not-false (eqb count due) (neither (not (eqb count due)) _ e .0)))
+
+-- The entry of a frame that is due, by all bytes
+due-entry : (state : Reading) (bytes : List ℕ) (count : ℕ) → notDue state bytes count ≡ false
+    → let slot = slotOf (state .design) (state .taken) in
+    entryIn (state .design) slot (take count bytes) ≡ entryIn (state .design) slot bytes
+due-entry state bytes count due =
+    let slot = slotOf (state .design) (state .taken) in
+    entry-same (state .design) slot bytes count (due-long (frameHead (state .design) slot) (entryWidth slot) bytes count due)
+
+-- A later line is tried for the frame that is due, then for the limit on its entry, and then for the tables' lengths.
 module _ (bytes : List ℕ) (count : ℕ) (full : length bytes ≡ capacity) (sound : Sound bytes count) (state : Reading) (begun : Begun state)
     (initial offsets : ℕ) where
   later-verdict : dueVerdict state initial offsets (take count bytes)
       ≡ verdict
       ((leb (lineCount (state .design)) (state .taken) || notDue state bytes count) ↝ Cause.Frame
-      ∷ tablesCheck (state .design) initial offsets ∷ [])
+      ∷ isOver state (take count bytes) ↝ Cause.InitialRange ∷ tablesCheck (state .design) initial offsets ∷ [])
   unfolding dueVerdict
   later-verdict =
       let slot = slotOf (state .design) (state .taken) in
@@ -139,57 +157,32 @@ module _ (bytes : List ℕ) (count : ℕ) (full : length bytes ≡ capacity) (so
   other-due e = later-verdict ∙ rw (e, or-true)
 
   module _ (within : state .taken < lineCount (state .design)) (due : notDue state bytes count ≡ false) where
-    pub later-short : tablesCheck (state .design) initial offsets .fails ≡ true
-        → dueVerdict state initial offsets (take count bytes) ≡ Verdict.Refused Cause.TablesShort
-    unfolding tablesCheck
-    later-short e = later-verdict ∙ rw (lt-leb _ _ within, due, e)
+    over-same : {over : Bool} → isOver state bytes ≡ over → isOver state (take count bytes) ≡ over
+    over-same e = rw (due-entry state bytes count due) e
 
-    pub later-accepted : tablesCheck (state .design) initial offsets .fails ≡ false
-        → dueVerdict state initial offsets (take count bytes) ≡ Verdict.Passed
-    later-accepted e = later-verdict ∙ rw (lt-leb _ _ within, due, e)
+    pub later-over : isOver state bytes ≡ true → dueVerdict state initial offsets (take count bytes) ≡ Verdict.Refused Cause.InitialRange
+    later-over e = later-verdict ∙ rw (lt-leb _ _ within, due, over-same e)
 
--- The number that is stored: where there is an entry, its bytes lie within the frame.
-module _ (d : Design) (bytes : List ℕ) (count : ℕ) where
-  initial-same : (slot : Slot) (initial : List ℕ) → length (frameHead d slot) + entryWidth slot ≤ count
-      → initialStored slot (behind (length (frameHead d slot)) bytes) initial
-      ≡ initialStored slot (entryIn d slot (take count bytes)) initial
-  unfolding initialStored entryIn entryWidth
-  initial-same Slot.Design initial h = refl
-  initial-same (Slot.Initial index) initial h = rw (within-front bytes count (length (frameHead d (Slot.Initial index))) entryBytes h)
-  initial-same (Slot.Offset table index place) initial h = refl
-  initial-same (Slot.End before) initial h = refl
+    module _ (below : isOver state bytes ≡ false) where
+      pub later-short : tablesCheck (state .design) initial offsets .fails ≡ true
+          → dueVerdict state initial offsets (take count bytes) ≡ Verdict.Refused Cause.TablesShort
+      unfolding tablesCheck
+      later-short e = later-verdict ∙ rw (lt-leb _ _ within, due, over-same below, e)
 
-  offsets-same : (slot : Slot) (offsets : List ℤ) → length (frameHead d slot) + entryWidth slot ≤ count
-      → offsetsStored slot (behind (length (frameHead d slot)) bytes) offsets
-      ≡ offsetsStored slot (entryIn d slot (take count bytes)) offsets
-  unfolding offsetsStored entryIn entryWidth
-  offsets-same Slot.Design offsets h = refl
-  offsets-same (Slot.Initial index) offsets h = refl
-  offsets-same (Slot.Offset table index place) offsets h =
-      rw (within-front bytes count (length (frameHead d (Slot.Offset table index place))) entryBytes h)
-  offsets-same (Slot.End before) offsets h = refl
-
--- A frame that is due has room for its entry.
-due-long : (head : List ℕ) (width : ℕ) (bytes : List ℕ) (count : ℕ) → headFails head width bytes count ≡ false
-    → length head + width ≤ count
-unfolding headFails
-due-long head width bytes count e =
-    let due = length head + width + 1 in
-    omega (arith, eqb-true count due (not-false (eqb count due) (neither (not (eqb count due)) _ e .0)))
+      pub later-accepted : tablesCheck (state .design) initial offsets .fails ≡ false
+          → dueVerdict state initial offsets (take count bytes) ≡ Verdict.Passed
+      later-accepted e = later-verdict ∙ rw (lt-leb _ _ within, due, over-same below, e)
 
 -- The answer to a frame that is accepted, and the tables after it
 module _ (state : Reading) (begun : Begun state) (initial : List ℕ) (offsets : List ℤ) (bytes : List ℕ) (count : ℕ) where
   pub accepted-outcome : notDue state bytes count ≡ false
       → dueVerdict state (length initial) (length offsets) (take count bytes) ≡ Verdict.Passed
       → let slot = slotOf (state .design) (state .taken) in
-      let number = behind (length (frameHead (state .design) slot)) bytes in
+      let number = entryIn (state .design) slot bytes in
       Outcome state initial offsets (take count bytes)
       (record { verdict = Verdict.Passed; state = record { design = state .design; taken = state .taken + 1 } })
       (initialStored slot number initial)
       (offsetsStored slot number offsets)
   unfolding afterFrame
   accepted-outcome due e =
-      let slot = slotOf (state .design) (state .taken) in
-      let long = due-long (frameHead (state .design) slot) (entryWidth slot) bytes count due in
-      rw (e, later-design state (take count bytes) (begun .some))
-      (refl, (initial-same (state .design) bytes count slot initial long, offsets-same (state .design) bytes count slot offsets long))
+      rw (e, later-design state (take count bytes) (begun .some), due-entry state bytes count due) (refl, (refl, refl))

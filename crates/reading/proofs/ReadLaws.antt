@@ -22,16 +22,33 @@ use Rattle.frames.specs.Line.{lineFails, lineChecks}
 use Rattle.frames.specs.DesignFrame.{frameDesign, firstChecks}
 use Rattle.frames.proofs.FrameLaws.{first-frame}
 use Rattle.lines.specs.Slots.{lineCount, slotOf}
-use Rattle.lines.specs.Lines.{frameHead, entryWidth}
+use Rattle.lines.specs.Lines.{frameHead, entryWidth, entryOver}
 use Rattle.reading.specs.declared.Reading.{Reading}
 use Rattle.reading.specs.Inputs.{Begun}
-use Rattle.reading.specs.ReadLine.{possible, finished, stateCheck, designAfter, headFails, laterFails, dueChecks, readVerdict}
+use Rattle.reading.specs.ReadLine.{
+  possible,
+  finished,
+  stateCheck,
+  designAfter,
+  headFails,
+  laterFails,
+  entryIn,
+  laterChecks,
+  dueChecks,
+  readVerdict,
+}
 
 -- A later frame is not the one due, by its bytes and their number.
 abbrev pub notDue : Reading → List ℕ → ℕ → Bool
 notDue state bytes count =
     let slot = slotOf (state .design) (state .taken) in
     headFails (frameHead (state .design) slot) (entryWidth slot) bytes count
+
+-- The entry in it is an initial entry at the limit on sums or beyond it.
+abbrev pub isOver : Reading → List ℕ → Bool
+isOver state bytes =
+    let slot = slotOf (state .design) (state .taken) in
+    entryOver (state .design) slot (entryIn (state .design) slot bytes)
 
 module _ (state : Reading) where
   -- the design that counts
@@ -50,13 +67,13 @@ module _ (state : Reading) where
     unfolding dueChecks
     first-checks e = rw (first-design bytes e, e)
 
-    abbrev pub laterChecks : List Check
-    laterChecks =
+    abbrev pub allLater : List Check
+    allLater =
         (leb (lineCount (state .design)) (state .taken) || notDue state bytes (length bytes)) ↝ Cause.Frame
-        ∷ tablesCheck (state .design) initial offsets ∷ []
+        ∷ isOver state bytes ↝ Cause.InitialRange ∷ tablesCheck (state .design) initial offsets ∷ []
 
-    pub later-checks : 0 < state .taken → dueChecks state initial offsets bytes ≡ laterChecks
-    unfolding dueChecks laterFails
+    pub later-checks : 0 < state .taken → dueChecks state initial offsets bytes ≡ allLater
+    unfolding dueChecks laterChecks laterFails
     later-checks h = rw (later-design bytes h, ne-eqb (state .taken) 0 (λ z. omega arith))
 
   -- the state
@@ -154,15 +171,16 @@ module _ (state : Reading) (initial offsets : ℕ) where
     pub record Later : Type 0 where
       pub within : state .taken < lineCount (state .design)
       pub head : notDue state bytes (length bytes) ≡ false
+      pub below : isOver state bytes ≡ false
       pub tables : tablesCheck (state .design) initial offsets .fails ≡ false
 
     pub later-passing : 0 < state .taken → verdict (dueChecks state initial offsets bytes) ≡ Verdict.Passed → Later
     later-passing h e =
-        let tried = none-fails (laterChecks state initial offsets bytes)
+        let tried = none-fails (allLater state initial offsets bytes)
         (ap verdict (sym (later-checks state initial offsets bytes h)) ∙ e) in
         let due = neither _ (notDue state bytes (length bytes)) (tried .0) in
-        record { within = leb-false _ _ (due .0); head = due .1; tables = tried .1 .0 }
+        record { within = leb-false _ _ (due .0); head = due .1; below = tried .1 .0; tables = tried .1 .1 .0 }
 
     pub later-passed : 0 < state .taken → Later → verdict (dueChecks state initial offsets bytes) ≡ Verdict.Passed
     later-passed h p =
-        rw (later-checks state initial offsets bytes h, lt-leb _ _ (p .within), p .head, p .tables)
+        rw (later-checks state initial offsets bytes h, lt-leb _ _ (p .within), p .head, p .below, p .tables)

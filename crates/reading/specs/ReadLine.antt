@@ -1,4 +1,5 @@
--- What the call `read_line` answers, "reader 17, 15, 16, on an 01 line 1 to 9, then 10", and what it leaves in the state and the tables.
+-- What the call `read_line` answers, "reader 17, 15, 16, on an 01 line 1 to 9, then 10", with document 02's 23 "in the reader after 16", and
+-- what it leaves in the state and the tables.
 use mathlib.Core.Bool.{Bool, true, false, cond, not, _||_, _&&_}
 use mathlib.Core.List.{List, [], _∷_, _++_}
 use Prim.Native.Nat.{ℕ, _+_}
@@ -17,7 +18,7 @@ use Rattle.frames.specs.DesignFrame.{frameDesign, firstChecks}
 use Rattle.encoding.specs.Bytes.{numberIn, entryBytes, fromComplement}
 use Rattle.lines.specs.declared.Slot.{Slot}
 use Rattle.lines.specs.Slots.{lineCount, slotOf}
-use Rattle.lines.specs.Lines.{frameHead, entryWidth}
+use Rattle.lines.specs.Lines.{frameHead, entryWidth, entryOver}
 use Rattle.reading.specs.declared.Reading.{Reading}
 use Rattle.reading.specs.declared.Read.{Read}
 
@@ -55,16 +56,28 @@ laterFails state bytes =
     let slot = slotOf d (state .taken) in
     leb (lineCount d) (state .taken) || headFails (frameHead d slot) (entryWidth slot) bytes (length bytes)
 
--- "16, on an 01 line 1 to 9, then 10", of a sound line's bytes, for tables of these lengths: with no line taken the first frame is due.
+-- The number in the entry's bytes
+unfoldable pub entryIn : Design → Slot → List ℕ → ℕ
+entryIn d slot bytes = numberIn (take (entryWidth slot) (drop (length (frameHead d slot)) bytes))
+
+-- What is tried on such a line: 16, and on an 02 line 23, "an initial entry is 2^(P+2) or more"
+unfoldable pub laterChecks : Reading → List ℕ → List Check
+laterChecks state bytes =
+    let d = state .design in
+    let slot = slotOf d (state .taken) in
+    laterFails state bytes ↝ Cause.Frame ∷ entryOver d slot (entryIn d slot bytes) ↝ Cause.InitialRange ∷ []
+
+-- "16, on an 01 line 1 to 9", on an 02 line 23, "then 10", of a sound line's bytes, for tables of these lengths: with no line taken the
+-- first frame is due.
 unfoldable pub dueChecks : Reading → ℕ → ℕ → List ℕ → List Check
 dueChecks state initial offsets bytes =
-    cond (eqb (state .taken) 0) (firstChecks bytes (length bytes)) (laterFails state bytes ↝ Cause.Frame ∷ [])
+    cond (eqb (state .taken) 0) (firstChecks bytes (length bytes)) (laterChecks state bytes)
     ++ tablesCheck (designAfter state bytes) initial offsets ∷ []
 
 unfoldable pub dueVerdict : Reading → ℕ → ℕ → List ℕ → Verdict
 dueVerdict state initial offsets bytes = verdict (dueChecks state initial offsets bytes)
 
--- "reader 17, 15, 16, on an 01 line 1 to 9, then 10"
+-- "reader 17, 15", and what is due
 unfoldable pub readVerdict : Reading → ℕ → ℕ → List ℕ → Verdict
 readVerdict state initial offsets line =
     verdict (stateCheck state ∷ lineChecks line ++ dueChecks state initial offsets (bytesOf line))
@@ -77,10 +90,6 @@ nextState state bytes = record { design = designAfter state bytes; taken = state
 -- The verdict on a sound line, which is given as its bytes, and the state beside it; a refusal "gives back the state that came in".
 abbrev pub answerIf : Verdict → Reading → List ℕ → Read
 answerIf v state bytes = record { verdict = v; state = ifPassed v (nextState state bytes) (λ cause. state) }
-
--- The number in the entry's bytes
-unfoldable pub entryIn : Design → Slot → List ℕ → ℕ
-entryIn d slot bytes = numberIn (take (entryWidth slot) (drop (length (frameHead d slot)) bytes))
 
 -- "stores at most one entry; all other elements stand"
 unfoldable pub initialStored : Slot → ℕ → List ℕ → List ℕ

@@ -1,10 +1,10 @@
 // The reader: one line a call, into lent tables.
 ghost use mathlib.Core.Path.{_≡_};
-ghost use Prim.Native.Nat.{_+_, _≤_};
-ghost use lib.ListN.{length, take, drop};
+ghost use Prim.Native.Nat.{_+_, _*_, _^_, _≤_, _<_};
+ghost use lib.ListN.{length, take};
 ghost use Rattle.refusal.specs.Numbers.{verdictNumber};
 ghost use Rattle.frames.specs.Line.{capacity};
-ghost use Rattle.encoding.specs.Bytes.{numberIn, entryBytes};
+ghost use Rattle.encoding.specs.Bytes.{entryBytes};
 ghost use Rattle.encoding.specs.Inputs.{held};
 ghost use Rattle.lines.specs.Inputs.{SlotIn};
 ghost use Rattle.reading.specs.ReadLine.{
@@ -25,7 +25,6 @@ ghost use Rattle.reading.specs.Inputs.{Sound, Begun};
 use design::Design;
 use design::legal::design_verdict;
 use encoding::Frame;
-use encoding::numbers::ENTRY_BYTES;
 use encoding::numbers::from_complement;
 use encoding::numbers::number_in;
 use frames::CAPACITY;
@@ -33,6 +32,7 @@ use frames::decode;
 use frames::first_verdict;
 use frames::frame_design;
 use lines::Slot;
+use lines::entry_over;
 use lines::entry_width;
 use lines::head_of;
 use lines::line_count;
@@ -84,24 +84,24 @@ pub fn head_fails(head: Frame, width: usize, bytes: [u8; CAPACITY], count: usize
     false
 }
 
-// Stores the entry whose bytes begin at a place of the frame.
-fn store(slot: Slot, from: usize, bytes: [u8; CAPACITY], initial: &mut [u32], offsets: &mut [i32])
+// Stores the entry of a line, which is given as the number in its bytes.
+fn store(slot: Slot, number: u32, initial: &mut [u32], offsets: &mut [i32])
     requires { ⌜ SlotIn slot (length (now initial)) (length (now offsets)) ⌝ }
-    requires { ⌜ from + entryBytes ≤ capacity ⌝ }
-    ensures { λ _. ⌜ now (initial .exit) ≡ initialStored slot (numberIn (take entryBytes (drop from bytes))) (now (initial .entry)) ⌝ }
-    ensures { λ _. ⌜ now (offsets .exit) ≡ offsetsStored slot (numberIn (take entryBytes (drop from bytes))) (now (offsets .entry)) ⌝ }
+    requires { ⌜ number < 2 ^ (8 * entryBytes) ⌝ }
+    ensures { λ _. ⌜ now (initial .exit) ≡ initialStored slot number (now (initial .entry)) ⌝ }
+    ensures { λ _. ⌜ now (offsets .exit) ≡ offsetsStored slot number (now (offsets .entry)) ⌝ }
 {
     match slot {
         Slot::Design => {}
         Slot::Initial(index) => {
-            initial[index as usize] = number_in(&bytes, from, ENTRY_BYTES);
+            initial[index as usize] = number;
         }
         Slot::Offset {
             table: _,
             index: _,
             place,
         } => {
-            offsets[place as usize] = from_complement(number_in(&bytes, from, ENTRY_BYTES));
+            offsets[place as usize] = from_complement(number);
         }
         Slot::End(_) => {}
     }
@@ -119,22 +119,22 @@ fn refused(state: Reading, cause: Cause) -> Read
 
 // A sound line with no line taken: it must hold a design.
 fn first_line(
-    state: Reading,
+    start: Reading,
     bytes: [u8; CAPACITY],
     count: usize,
     initial: usize,
     offsets: usize,
 ) -> Read
     requires { ⌜ Sound bytes count ⌝ }
-    requires { ⌜ state .taken ≡ 0 ⌝ }
-    ensures { λ r. ⌜ r ≡ answerIf (dueVerdict state initial offsets (take count bytes)) state (take count bytes) ⌝ }
+    requires { ⌜ start .taken ≡ 0 ⌝ }
+    ensures { λ r. ⌜ r ≡ answerIf (dueVerdict start initial offsets (take count bytes)) start (take count bytes) ⌝ }
 {
     if let Verdict::Refused(cause) = first_verdict(bytes, count) {
-        return refused(state, cause);
+        return refused(start, cause);
     }
     let design = frame_design(bytes);
     if tables_short(design, initial, offsets) {
-        return refused(state, Cause::TablesShort);
+        return refused(start, Cause::TablesShort);
     }
     Read {
         verdict: Verdict::Passed,
@@ -166,13 +166,20 @@ fn later_line(
     }
     let slot = slot_of(d, state.taken);
     let head = head_of(d, slot);
-    if head_fails(head, entry_width(slot), bytes, count) {
+    let width = entry_width(slot);
+    if head_fails(head, width, bytes, count) {
         return refused(state, Cause::Frame);
     }
-    if tables_short(d, initial.len(), offsets.len()) {
+    let number = number_in(&bytes, head.count, width);
+    let over = entry_over(d, slot, number);
+    let short = tables_short(d, initial.len(), offsets.len());
+    if over {
+        return refused(state, Cause::InitialRange);
+    }
+    if short {
         return refused(state, Cause::TablesShort);
     }
-    store(slot, head.count, bytes, initial, offsets);
+    store(slot, number, initial, offsets);
     Read {
         verdict: Verdict::Passed,
         state: Reading {

@@ -14,7 +14,6 @@ use Rattle.refusal.proofs.Checks.{verdict-append}
 use Rattle.design.specs.Stored.{initialCount}
 use Rattle.tables.proofs.SetLaws.{set-passed}
 use Rattle.encoding.specs.Bytes.{entryBytes}
-use Rattle.writing.specs.Write.{askedChecks}
 use Rattle.records.specs.IntelHex.{dataBytes, dataCount, recordCount}
 use Rattle.records.specs.SetBytes.{entryCount, byteCount, entryFits, bytesCheck, recordSetChecks}
 use Rattle.record_writing.specs.WriteRecord.{
@@ -63,7 +62,7 @@ module _ (t : TableSet) (n : ℕ) (buffer : List ℕ) where
   -- The writer gives each record of a set that records can hold.
   module _ (ok : Recordable t) (within : n < recordCount (byteCount (t .design))) (room : length (recordIn t n) ≤ length buffer) where
     passes : hexWriteVerdict (t .design) (t .initial) (t .offsets) n (length buffer) ≡ Verdict.Passed
-    unfolding hexWriteVerdict recordSetChecks bytesCheck hexNumberCheck askedChecks
+    unfolding hexWriteVerdict recordSetChecks bytesCheck hexNumberCheck
     passes =
         rw (
           verdict-append,

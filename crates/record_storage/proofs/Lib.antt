@@ -11,6 +11,6 @@ pub mod Uniqueness
 pub mod InOrder
 -- The writer, and what the fill writes:
 pub mod Giving
-pub mod LinesSuffice
+pub mod LinesAndRecords
 -- The statement, all together:
 pub mod RecordStored

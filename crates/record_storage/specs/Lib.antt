@@ -2,3 +2,4 @@
 pub mod Loading
 pub mod RecordFile
 pub mod RecordStorage
+pub mod LinesAndRecords

@@ -1,6 +1,6 @@
 -- What the checks of the writer come to, and the length of the asked record.
 use mathlib.Core.Path.{_≡_, ap, _∙_}
-use mathlib.Core.List.{List, _∷_, _++_}
+use mathlib.Core.List.{List, [], _∷_, _++_}
 use Prim.Native.Nat.{ℕ, _+_, _*_, _≤_, _<_}
 use native.Mathlib.Omega.{arith}
 use lib.ListN.{length}
@@ -19,7 +19,7 @@ use Rattle.tables.proofs.SetLaws.{set-passed}
 use Rattle.encoding.specs.Bytes.{entryBytes}
 use Rattle.encoding.specs.Encode.{lineOf}
 use Rattle.writing.specs.declared.Written.{Written}
-use Rattle.writing.specs.Write.{askedChecks, toldBy}
+use Rattle.writing.specs.Write.{widthCheck, roomCheck, toldBy}
 use Rattle.writing.proofs.WriteLaws.{refuses-by, writes-by}
 use Rattle.records.specs.declared.Extent.{Extent}
 use Rattle.records.specs.IntelHex.{recordCount, lengthAt, recordHead, recordText, dataIn, recordOf}
@@ -69,7 +69,8 @@ module _ (d : Design) (initial : List ℕ) (offsets : List ℤ) (n buffer : ℕ)
     pub within-records : byteCount d ≤ mostBytes → n < recordCount (byteCount d)
         → hexWriteVerdict d initial offsets n buffer
         ≡ verdict
-        (askedChecks (recordFits (entryCount d) (initialCount d) initial offsets n) (length (setRecord d initial offsets n)) buffer)
+        (widthCheck (recordFits (entryCount d) (initialCount d) initial offsets n)
+        ∷ roomCheck (length (setRecord d initial offsets n)) buffer ∷ [])
     unfolding hexWriteVerdict recordSetChecks bytesCheck hexNumberCheck
     within-records few h = rw (verdict-append, verdict-append, set-passed _ _ _ u, le-ltb _ _ few, lt-leb _ _ h)
 

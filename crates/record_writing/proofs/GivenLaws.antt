@@ -16,7 +16,7 @@ use Rattle.tables.specs.Inputs.{Usable}
 use Rattle.tables.specs.Set.{setChecks}
 use Rattle.tables.proofs.SetLaws.{usable}
 use Rattle.writing.specs.declared.Written.{Written}
-use Rattle.writing.specs.Write.{askedChecks}
+use Rattle.writing.specs.Write.{widthCheck, roomCheck}
 use Rattle.records.specs.IntelHex.{recordCount}
 use Rattle.records.specs.SetBytes.{entryCount, byteCount, mostBytes, setRecord, bytesCheck, recordSetChecks}
 use Rattle.record_writing.specs.WriteRecord.{hexNumberCheck, recordFits, hexWriteVerdict, hexWriteAnswer}
@@ -38,11 +38,11 @@ module _ (d : Design) (initial : List ℕ) (offsets : List ℤ) (n buffer : ℕ)
     pub fit : recordFits (entryCount d) (initialCount d) initial offsets n ≡ true
 
   pub given : hexWriteVerdict d initial offsets n buffer ≡ Verdict.Passed → Given
-  unfolding hexWriteVerdict recordSetChecks bytesCheck hexNumberCheck askedChecks
+  unfolding hexWriteVerdict recordSetChecks bytesCheck hexNumberCheck
   given e =
       let before = setChecks d (length initial) (length offsets) in
       let fit = recordFits (entryCount d) (initialCount d) initial offsets n in
-      let later = hexNumberCheck d n ∷ askedChecks fit (length (setRecord d initial offsets n)) buffer in
+      let later = hexNumberCheck d n ∷ widthCheck fit ∷ roomCheck (length (setRecord d initial offsets n)) buffer ∷ [] in
       let lists = passed-append (before ++ bytesCheck d ∷ []) later e in
       let set = passed-append before (bytesCheck d ∷ []) (lists .0) in
       let asked = none-fails later (lists .1) in

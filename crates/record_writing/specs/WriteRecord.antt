@@ -1,6 +1,6 @@
 -- What the call `write_record` answers, "1 to 10, 20, then 19, 18, 14 for the writer", and what it leaves in the record buffer.
 use mathlib.Core.Bool.{Bool, not, _&&_}
-use mathlib.Core.List.{List, _∷_, _++_}
+use mathlib.Core.List.{List, [], _∷_, _++_}
 use Prim.Native.Nat.{ℕ, _+_, _*_}
 use lib.Dec.{leb, ltb}
 use lib.ListN.{length}
@@ -14,7 +14,7 @@ use Rattle.design.specs.declared.Design.{Design}
 use Rattle.design.specs.Stored.{initialCount}
 use Rattle.encoding.specs.Bytes.{entryBytes}
 use Rattle.writing.specs.declared.Written.{Written}
-use Rattle.writing.specs.Write.{askedChecks, writtenIf}
+use Rattle.writing.specs.Write.{widthCheck, roomCheck, writtenIf}
 use Rattle.records.specs.IntelHex.{dataBytes, recordCount}
 use Rattle.records.specs.SetBytes.{entryCount, byteCount, entryFits, setRecord, recordSetChecks}
 
@@ -35,7 +35,7 @@ recordFits entries initials initial offsets n =
 unfoldable pub hexWriteVerdict : Design → List ℕ → List ℤ → ℕ → ℕ → Verdict
 hexWriteVerdict d initial offsets n buffer =
     verdict (recordSetChecks d (length initial) (length offsets) ++ hexNumberCheck d n
-    ∷ askedChecks (recordFits (entryCount d) (initialCount d) initial offsets n) (length (setRecord d initial offsets n)) buffer)
+    ∷ widthCheck (recordFits (entryCount d) (initialCount d) initial offsets n) ∷ roomCheck (length (setRecord d initial offsets n)) buffer ∷ [])
 
 -- The record's length, as the writer of lines answers with the line's
 unfoldable pub hexWriteAnswer : Design → List ℕ → List ℤ → ℕ → ℕ → Written

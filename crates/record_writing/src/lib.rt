@@ -32,7 +32,6 @@ use refusal::Cause;
 use refusal::Verdict;
 use tables::set_verdict;
 use writing::Written;
-use writing::line_verdict;
 
 // Whether entry e fits its 3 bytes.
 fn entry_fits(initials: usize, initial: &[u32], offsets: &[i32], e: usize) -> bool
@@ -158,8 +157,11 @@ pub fn write_record(
     let size = bytes_before(total, number + 1) - bytes_before(total, number);
     // a colon, and two digits for each of these bytes and of the five beside them
     let characters = 11 + 2 * size;
-    if let Verdict::Refused(cause) = line_verdict(fits, characters, record.len()) {
-        return Written::Refused(cause);
+    if !fits {
+        return Written::Refused(Cause::EntryWidth);
+    }
+    if record.len() < characters {
+        return Written::Refused(Cause::OutputShort);
     }
     put_head(total, number, &mut window);
     put_record(&window[..HEAD_BYTES + size], record);

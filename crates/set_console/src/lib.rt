@@ -8,6 +8,7 @@ ghost use Rattle.refusal.specs.declared.Verdict.{Verdict};
 ghost use Rattle.frames.specs.Line.{longestLine};
 ghost use Rattle.writing.specs.Write.{writeVerdict};
 ghost use Rattle.reading.specs.ReadLine.{finished, session};
+ghost use Rattle.storage.specs.Sets.{Storable};
 ghost use Rattle.set_console.specs.Reading.{HoldsEverySet, Stepped, Came};
 use checking::Checked;
 use console::KEPT;
@@ -145,8 +146,11 @@ pub fn print_line(d: Design, initial: &[u32], offsets: &[i32], number: usize) ->
     }
 }
 
-// Writes the lines of a set, one after another, until the writer gives no more.
-pub fn print_set(d: Design, initial: &[u32], offsets: &[i32]) {
+// inner: writes the lines of a set, one after another, until the writer gives no more. The writer gives all of them: no program begins
+// with the lines of a set of which one is refused.
+pub fn print_set(d: Design, initial: &[u32], offsets: &[i32])
+    requires { ⌜ Storable (record { design = d; initial = now initial; offsets = now offsets }) ⌝ }
+{
     let mut number = 0;
     while print_line(d, initial, offsets, number) {
         number += 1;

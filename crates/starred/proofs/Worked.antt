@@ -43,7 +43,7 @@ use Rattle.writing.specs.declared.Written.{Written}
 use Rattle.writing.specs.Write as Write
 use Rattle.writing.specs.Write.{writeAnswer}
 use Rattle.reading.specs.ReadLine as ReadLine
-use Rattle.reading.specs.ReadLine.{session, readAnswer}
+use Rattle.reading.specs.ReadLine.{session, verdictOn, readAnswer}
 use Rattle.records.specs.IntelHex as IntelHex
 use Rattle.records.specs.IntelHex.{recordCount}
 use Rattle.records.specs.SetBytes as SetBytes
@@ -94,7 +94,7 @@ causes =
     Cause.Kind ∷ Cause.InputWidth ∷ Cause.OutputWidth ∷ Cause.GuardBits ∷ Cause.InitialBits ∷ Cause.TableCount ∷ Cause.SegmentBits
     ∷ Cause.OffsetBits ∷ Cause.CutSum ∷ Cause.TablesShort ∷ Cause.NotAdmitted ∷ Cause.WordRange ∷ Cause.SumRange ∷ Cause.OutputShort
     ∷ Cause.Line ∷ Cause.Frame ∷ Cause.State ∷ Cause.EntryWidth ∷ Cause.LineNumber ∷ Cause.AddressRange ∷ Cause.Record ∷ Cause.RecordDue
-    ∷ []
+    ∷ Cause.InitialRange ∷ []
 
 -- G's first line
 abbrev G-line : String
@@ -161,10 +161,22 @@ after-seven = hexAfter G (into-zeros (held 6 0 0)) (ascii ":10006000000032000023
 abbrev entry-5-changed : ℕ → Written
 entry-5-changed n = hexWriteAnswer G (set (initialEntries G) 5 (2 ^ 24)) (offsetEntries G) n 43
 
+-- Line n of G's set with initial entry 0 changed, for a line buffer of this length
+abbrev entry-0-changed : ℕ → ℕ → ℕ → Written
+entry-0-changed entry n buffer = writeAnswer G (set (initialEntries G) 0 entry) (offsetEntries G) n buffer
+
+-- What a reading of G's lines with so many taken answers to a line: into tables of zeros, and into tables of no entries
+abbrev number-in : ℕ → String → ℕ
+number-in taken line =
+    verdictNumber (verdictOn (session (record { design = G; taken = taken }) (replicate 32 0) (replicate 64 (pos 0))) (ascii line))
+
+abbrev number-in-none : ℕ → String → ℕ
+number-in-none taken line = verdictNumber (verdictOn (session (record { design = G; taken = taken }) [] []) (ascii line))
+
 pub record Worked : Type 0 where
   -- Every cause's number
   pub numbers : map numberOf causes
-      ≡ 1 ∷ 2 ∷ 3 ∷ 4 ∷ 5 ∷ 6 ∷ 7 ∷ 8 ∷ 9 ∷ 10 ∷ 11 ∷ 12 ∷ 13 ∷ 14 ∷ 15 ∷ 16 ∷ 17 ∷ 18 ∷ 19 ∷ 20 ∷ 21 ∷ 22 ∷ []
+      ≡ 1 ∷ 2 ∷ 3 ∷ 4 ∷ 5 ∷ 6 ∷ 7 ∷ 8 ∷ 9 ∷ 10 ∷ 11 ∷ 12 ∷ 13 ∷ 14 ∷ 15 ∷ 16 ∷ 17 ∷ 18 ∷ 19 ∷ 20 ∷ 21 ∷ 22 ∷ 23 ∷ []
   -- L for g 4, q 8, w 8: kind 2, x 0, and kind 3, x 255
   pub other-kinds : (valueOf 2 8 8 4 0 ≡ Valued.Value (record { 0 = pos 5792 }))
       × (valueOf 3 8 8 4 255 ≡ Valued.Value (record { 0 = pos 2899 }))
@@ -289,6 +301,22 @@ pub record Worked : Type 0 where
   pub number-before-room : (hexWriteAnswer G (initialEntries G) (offsetEntries G) 19 0 ≡ Written.Refused Cause.LineNumber)
       × (hexWriteAnswer G (initialEntries G) (offsetEntries G) 18 10 ≡ Written.Refused Cause.OutputShort)
       × (hexWriteAnswer G (initialEntries G) (offsetEntries G) 18 11 ≡ Written.Length 11)
+  -- Document 02, A4: G's limit is 2^14. 16383 is written, 16384 and 2^24 - 1 are refused with 23, and 2^24 with 18, which is tried before;
+  -- 23 is tried before 14.
+  pub limit-written : (map (λ entry. entry-0-changed entry 1 14) (16383 ∷ 16384 ∷ 16777215 ∷ 16777216 ∷ [])
+      ≡ Written.Length 14 ∷ Written.Refused Cause.InitialRange ∷ Written.Refused Cause.InitialRange ∷ Written.Refused Cause.EntryWidth ∷ [])
+      × (entry-0-changed 16384 1 0 ≡ Written.Refused Cause.InitialRange)
+  -- The other lines of such a set are given, and an offset of 16384 is
+  pub other-lines : (map (λ n. entry-0-changed 16384 n 20) (0 ∷ 2 ∷ 33 ∷ []) ≡ Written.Length 20 ∷ Written.Length 14 ∷ Written.Length 16 ∷ [])
+      × (writeAnswer G (initialEntries G) (set (offsetEntries G) 0 (pos 16384)) 33 16 ≡ Written.Length 16)
+  -- The reader, with one line taken: 16383 is taken, 16384 refused with 23, and with 16 at another index; an offset of 16384 is taken
+  pub limit-read : (map (number-in 1) ("020000003FFFC0" ∷ "020000004000BE" ∷ "020001004000BD" ∷ []) ≡ 0 ∷ 23 ∷ 16 ∷ [])
+      × (number-in 33 "03000000004000BD" ≡ 0)
+  -- 23 before 10: into tables that are too short
+  pub limit-before-tables : map (number-in-none 1) ("020000003FFFC0" ∷ "020000004000BE" ∷ []) ≡ 10 ∷ 23 ∷ []
+  -- "the Intel HEX records still carry it": written, and read
+  pub still-carried : (hexWriteAnswer G (set (initialEntries G) 0 16384) (offsetEntries G) 0 43 ≡ Written.Length 43)
+      × (number-on (held 0 0 0) ":10000000004000000F59000EE7000E7B000E1600A6" ≡ 0)
   -- Input words in decimal: leading zeros, and the greatest
   pub decimal-words : map (λ line. wordIn (ascii line)) ("007" ∷ "4294967295" ∷ []) ≡ ReadWord.Word 7 ∷ ReadWord.Word 4294967295 ∷ []
   -- No input words: an empty line, the character before 0, the one after 9, 2^32
@@ -302,8 +330,8 @@ unfolding
     Bytes.bigEndian Bytes.complement Bytes.fits
     Encode.digitOf Encode.hexOf Encode.sumByte Encode.withSum Encode.lineOf DesignBytes.pairBytes DesignBytes.designBytes
     Slots.lineCount Slots.tableOf Slots.offsetSlot Slots.slotOf Lines.frameHead Lines.entryWidth Lines.entryNumber Lines.entryFits
-    Lines.frameOf Lines.lineAt Write.numberCheck Write.askedChecks Write.writeVerdict Write.writeAnswer ReadLine.possible
-    ReadLine.stateCheck ReadLine.designAfter ReadLine.laterFails ReadLine.dueChecks ReadLine.readVerdict ReadLine.verdictOn
+    Lines.entryOver Lines.frameOf Lines.lineAt Write.numberCheck Write.entryChecks Write.askedChecks Write.writeVerdict Write.writeAnswer ReadLine.possible
+    ReadLine.stateCheck ReadLine.designAfter ReadLine.laterFails ReadLine.entryIn ReadLine.laterChecks ReadLine.dueChecks ReadLine.readVerdict ReadLine.verdictOn
     ReadLine.after ReadLine.readAnswer
     ReadLine.begins ReadLine.headFails Bytes.numberIn Bytes.fromComplement Bytes.fitsSigned
     IntelHex.dataCount IntelHex.recordCount IntelHex.bytesBefore IntelHex.lengthAt IntelHex.headOf IntelHex.recordHead IntelHex.recordText
@@ -365,6 +393,11 @@ worked =
       end-once = (refl, refl);
       both-halves = refl;
       number-before-room = (refl, refl, refl);
+      limit-written = (refl, refl);
+      other-lines = (refl, refl);
+      limit-read = (refl, refl);
+      limit-before-tables = refl;
+      still-carried = (refl, refl);
       decimal-words = refl;
       no-words = refl;
     }

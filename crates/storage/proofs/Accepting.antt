@@ -26,9 +26,10 @@ use Rattle.encoding.proofs.LineBack.{Front, front, with-sum-length}
 use Rattle.encoding.proofs.DesignBack.{design-again}
 use Rattle.lines.specs.declared.Slot.{Slot}
 use Rattle.lines.specs.Slots.{lineCount, slotOf}
-use Rattle.lines.specs.Lines.{frameHead, entryWidth, entryFits, frameOf, lineAt}
+use Rattle.lines.specs.Lines.{frameHead, entryWidth, entryOver, frameOf, lineAt}
 use Rattle.lines.specs.Inputs.{SlotIn}
 use Rattle.lines.proofs.SlotLaws.{slot-first, slot-in}
+use Rattle.writing.proofs.WriteLaws.{Carried}
 use Rattle.reading.specs.ReadLine.{
   Session,
   begins,
@@ -114,9 +115,10 @@ pub record Accepted (s : Session) (line : List ℕ) (design : Design) (number : 
   -- the writer's line
   pub written : lineAt design (initialStored (slotOf design (s .state .taken)) number (s .initial))
       (offsetsStored (slotOf design (s .state .taken)) number (s .offsets)) (s .state .taken) ≡ line
-  pub entry-fits : entryFits (slotOf design (s .state .taken))
+  -- and the entry that it carries
+  pub entry : Carried design (slotOf design (s .state .taken))
       (initialStored (slotOf design (s .state .taken)) number (s .initial))
-      (offsetsStored (slotOf design (s .state .taken)) number (s .offsets)) ≡ true
+      (offsetsStored (slotOf design (s .state .taken)) number (s .offsets))
 
 -- A line that passes, the frame it is the line of, and the design that counts after it
 module _ (s : Session) (line f : List ℕ) (d : Design) (small : Bytes f) (is-line : lineOf f ≡ line) (bytes : bytesOf line ≡ withSum f)
@@ -133,18 +135,29 @@ module _ (s : Session) (line f : List ℕ) (d : Design) (small : Bytes f) (is-li
   unfolding after
   stepped = rw (passes, bytes, counts)
 
-  as-accepted : Parts d slot f → (0 < s .state .taken → d ≡ s .state .design) → Accepted s line d (entryIn d slot (withSum f))
+  as-accepted : Parts d slot f → entryOver d slot (entryIn d slot (withSum f)) ≡ false → (0 < s .state .taken → d ≡ s .state .design)
+      → Accepted s line d (entryIn d slot (withSum f))
   unfolding lineAt
-  as-accepted parts kept =
+  as-accepted parts below kept =
       let v = entryIn d slot (withSum f) in
+      let small-entry = entry-in-lt d slot f small parts in
       record {
         moved = stepped;
         kept = kept;
         tables = tables;
         within = within;
         written = rw (frame-again d slot f small parts (s .initial) (s .offsets) in-tables) is-line;
-        entry-fits = stored-fits slot v (s .initial) (s .offsets) in-tables (entry-in-lt d slot f small parts);
+        entry =
+            record {
+              fits = stored-fits slot v (s .initial) (s .offsets) in-tables small-entry;
+              below = rw (stored-number slot v (s .initial) (s .offsets) in-tables small-entry) below;
+            };
       }
+
+-- The first line has no entry.
+first-below : (d : Design) (n number : ℕ) → n ≡ 0 → entryOver d (slotOf d n) number ≡ false
+unfolding entryOver
+first-below d n number none = rw (none, slot-first d) refl
 
 some-lines : (d : Design) → 0 < lineCount d
 unfolding lineCount
@@ -173,7 +186,7 @@ module _ (s : Session) (line : List ℕ) (passes : verdictOn s line ≡ Verdict.
         number = entryIn d (slotOf d (s .state .taken)) bytes;
         accepted =
             as-accepted s line (w .frame) d (w .small) (w .line) (w .bytes) passes (first-design (s .state) bytes none) (p .tables)
-            (omega (arith, some-lines d)) parts (λ some. absurd (omega arith));
+            (omega (arith, some-lines d)) parts (first-below d (s .state .taken) _ none) (λ some. absurd (omega arith));
       }
 
   later-accepted : (w : Front line) → 0 < s .state .taken → SomeAccepted s line
@@ -188,7 +201,7 @@ module _ (s : Session) (line : List ℕ) (passes : verdictOn s line ≡ Verdict.
         number = entryIn d (slotOf d (s .state .taken)) bytes;
         accepted =
             as-accepted s line (w .frame) d (w .small) (w .line) (w .bytes) passes (later-design (s .state) bytes some) tables
-            (p .within) (due-parts d (slotOf d (s .state .taken)) (w .frame) (p .head)) (λ h. refl);
+            (p .within) (due-parts d (slotOf d (s .state .taken)) (w .frame) (p .head)) (p .below) (λ h. refl);
       }
 
   pub accepted-line : SomeAccepted s line

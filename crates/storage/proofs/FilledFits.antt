@@ -15,7 +15,7 @@ use Rattle.design.specs.Legal.{Legal}
 use Rattle.design.proofs.LegalLaws.{Limits, limits}
 use Rattle.design.proofs.StoredLaws.{entry-at, word-lt}
 use Rattle.entries.specs.Entries.{initialAt, oddNumber, sameSign, signed, offsetOf, offsetAt}
-use Rattle.entries.proofs.EntryBounds.{initial-small, magnitude-small, slopes-reach}
+use Rattle.entries.proofs.EntryBounds.{initial-in-range, initial-small, magnitude-small, slopes-reach}
 use Rattle.filling.specs.Fill.{fillVerdict, initialAfter, offsetsAfter, Filled, storedOffset}
 use Rattle.filling.proofs.EntryLaws as EntryLaws
 use Rattle.encoding.specs.Bytes.{fits, fitsSigned, entryBytes}
@@ -58,6 +58,7 @@ filled-storable t legal filled =
             filled .offset-entry (at .i) (at .A) (at .index) (at .i-lt) (at .entry .A-lt) (at .entry .index-lt),
           )
           (offset-fits d (limits d legal) (at .i) (at .A) (at .index) (at .i-lt) (at .entry .A-lt) (at .entry .index-lt)));
+      below = λ index h. rw (filled .initial-entry index h) (initial-in-range d (limits d legal) index h);
     }
 
 -- "an accepted fill leaves such tables"

@@ -27,12 +27,14 @@ use Rattle.lines.specs.declared.Slot.{Slot}
 use Rattle.lines.specs.Slots.{lineCount, slotOf, offsetSlot}
 use Rattle.lines.specs.Lines.{entryNumber, entryFits, lineAt, setLines}
 use Rattle.lines.proofs.SlotLaws.{slot-initial, slot-offset, slot-last}
+use Rattle.writing.proofs.WriteLaws.{Carried}
 use Rattle.reading.specs.ReadLine.{Session, session, initialStored, offsetsStored, verdictOn, after}
 use Rattle.reading.proofs.ReadLaws.{finished-at-end}
 use Rattle.storage.specs.Feeding.{Begins, Finished, feed, keptIf, accepted}
 use Rattle.storage.specs.Sets.{TableSet, Storable, linesIn}
 use Rattle.storage.specs.Storage.{ReadsBack}
-use Rattle.storage.proofs.SameDesigns.{initial-count-same, offset-total-same, line-count-same, slot-same, line-same}
+use Rattle.storage.proofs.SameDesigns.{initial-count-same, offset-total-same, line-count-same, slot-same, over-same, line-same}
+use Rattle.storage.proofs.Fitting.{storable-lines}
 use Rattle.storage.proofs.Taking.{given-usable, first-passes, first-taken, later-passes, later-taken}
 
 -- One line more
@@ -102,9 +104,13 @@ module _ (t : TableSet) (ok : Storable t) (s : Session) (begins : Begins s) (ini
   usable-given : Usable e (length (s .initial)) (length (s .offsets))
   usable-given = given-usable (t .design) (ok .usable .legal) (t .initial) (t .offsets) s begins initial-long offsets-long
 
-  fits-given : (n : ℕ) → n < lineCount e → entryFits (slotOf e n) (t .initial) (t .offsets) ≡ true
-  fits-given n h =
-      rw (slot-same e (t .design) same n) (ok .fits n (rw (line-count-same e (t .design) same) at h))
+  entry-given : (n : ℕ) → n < lineCount e → Carried e (slotOf e n) (t .initial) (t .offsets)
+  entry-given n h =
+      let entry = storable-lines t ok n (rw (line-count-same e (t .design) same) at h) in
+      record {
+        fits = rw (slot-same e (t .design) same n) (entry .fits);
+        below = rw (over-same e (t .design) same (slotOf e n), slot-same e (t .design) same n) (entry .below);
+      }
 
   -- One later line
   module _ (n : ℕ) (initial : List ℕ) (offsets : List ℤ) (some : 0 < n) (within : n < lineCount e)
@@ -116,9 +122,9 @@ module _ (t : TableSet) (ok : Storable t) (s : Session) (begins : Begins s) (ini
         → Reached line s (suc n) (session (record { design = e; taken = suc n }) initial-next offsets-next)
     reached-later initial-next offsets-next initial-is offsets-are r =
         let usable : Usable e (length initial) (length offsets) = rw (initial-kept, offsets-kept) usable-given in
-        let moves = later-taken e n initial (t .initial) offsets (t .offsets) some within usable (fits-given n within) in
+        let moves = later-taken e n initial (t .initial) offsets (t .offsets) some within usable (entry-given n within) in
         reached-more line s n _ _ r
-        (rw (line-given n) (later-passes e n initial (t .initial) offsets (t .offsets) some within usable (fits-given n within)))
+        (rw (line-given n) (later-passes e n initial (t .initial) offsets (t .offsets) some within usable (entry-given n within)))
         (rw (line-given n, ← add-one n, ← initial-is, ← offsets-are) moves)
 
   -- the set's entries
@@ -170,7 +176,7 @@ module _ (t : TableSet) (ok : Storable t) (s : Session) (begins : Begins s) (ini
   unfolding offsetsStored entryNumber offsetSlot entryFits lineCount
   offset-more p h =
       let slot = slot-offset e (initialCount e + 1 + p) p refl h in
-      let fits = rw slot at (fits-given (initialCount e + 1 + p) (omega arith)) in
+      let fits = rw slot at (entry-given (initialCount e + 1 + p) (omega arith) .fits) in
       rw (
         slot,
         complement-back entryBytes (getD (t .offsets) p (pos 0)) (omega arith) fits,

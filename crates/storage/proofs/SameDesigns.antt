@@ -43,8 +43,8 @@ use Rattle.counting.specs.Count.{classOf, classAt, countOf, countsBelow, countV
 use Rattle.encoding.specs.DesignBytes.{designBytes}
 use Rattle.lines.specs.declared.Slot.{Slot}
 use Rattle.lines.specs.Slots.{lineCount, tableOf, offsetSlot, slotOf}
-use Rattle.lines.specs.Lines.{frameHead, frameOf, lineAt, setLines}
-use Rattle.writing.specs.Write.{numberCheck, writeVerdict, writeAnswer, bufferAfter, writeTold}
+use Rattle.lines.specs.Lines.{frameHead, entryOver, frameOf, lineAt, setLines}
+use Rattle.writing.specs.Write.{numberCheck, askedChecks, writeVerdict, writeAnswer, bufferAfter, writeTold}
 use Rattle.records.specs.SetBytes.{entryCount, byteCount, setBytes, setRecord, setRecords, bytesCheck, recordSetChecks}
 use Rattle.record_writing.specs.WriteRecord.{hexNumberCheck, hexWriteVerdict, hexWriteAnswer, recordBufferAfter, hexWriteTold}
 use Rattle.record_reading.specs.ReadRecord.{hexFinished, hexVerdictOn, hexAfter, hexAnswer}
@@ -120,6 +120,19 @@ module _ (d e : Design) (s : Same d e) where
   head-same (Slot.Offset table index place) = refl
   head-same (Slot.End before) = refl
 
+  -- what its entry is refused for
+  pub over-same : (slot : Slot) (number : ℕ) → entryOver d slot number ≡ entryOver e slot number
+  unfolding entryOver
+  over-same Slot.Design number = refl
+  over-same (Slot.Initial index) number = rw (s .q, s .g)
+  over-same (Slot.Offset table index place) number = refl
+  over-same (Slot.End before) number = refl
+
+  asked-same : (initial : List ℕ) (offsets : List ℤ) (n : ℕ)
+      → askedChecks d (slotOf d n) initial offsets ≡ askedChecks e (slotOf e n) initial offsets
+  unfolding askedChecks
+  asked-same initial offsets n = rw (slot-same n, over-same (slotOf e n))
+
   pub line-same : (initial : List ℕ) (offsets : List ℤ) (n : ℕ) → lineAt d initial offsets n ≡ lineAt e initial offsets n
   unfolding lineAt frameOf
   line-same initial offsets n = rw (slot-same n, head-same (slotOf e n))
@@ -138,6 +151,7 @@ answers-same d e s =
     (λ pairs t.
     let same : Same d (with-pairs d pairs) = search in
     let line = line-same d (with-pairs d pairs) same in
+    let asked = asked-same d (with-pairs d pairs) same in
     record {
       design = rw (t, insides);
       budget = rw (t, insides);
@@ -152,8 +166,8 @@ answers-same d e s =
       output = λ initial offsets words output. rw (t, insides);
       check = λ initial offsets. rw (t, insides);
       count = λ initial offsets. rw (t, insides);
-      write = λ initial offsets n buffer. rw (line initial offsets n, t, insides);
-      line-buffer = λ initial offsets n buffer. rw (line initial offsets n, t, insides);
+      write = λ initial offsets n buffer. rw (line initial offsets n, asked initial offsets n, t, insides);
+      line-buffer = λ initial offsets n buffer. rw (line initial offsets n, asked initial offsets n, t, insides);
       write-record = λ initial offsets n buffer. rw (t, insides);
       record-buffer = λ initial offsets n buffer. rw (t, insides);
       record-verdict = λ s text. rw (t, insides);
@@ -166,7 +180,7 @@ answers-same d e s =
       batch-told = λ initial offsets words output. rw (t, insides);
       check-told = λ initial offsets. rw (t, insides);
       count-told = λ initial offsets. rw (t, insides);
-      write-told = λ initial offsets n buffer. rw (line initial offsets n, t, insides);
+      write-told = λ initial offsets n buffer. rw (line initial offsets n, asked initial offsets n, t, insides);
       record-told = λ initial offsets n buffer. rw (t, insides);
       line = line;
       lines = λ initial offsets. rw (fun-ext (line initial offsets), t, insides);

@@ -1,5 +1,5 @@
 -- An entry that is stored changes no other line.
-use mathlib.Core.Path.{_≡_, refl, ap}
+use mathlib.Core.Path.{_≡_, refl, ap, _∙_}
 use mathlib.Core.Logic.{_≢_}
 use mathlib.Core.List.{List}
 use Prim.Native.Nat.{ℕ, _+_, _<_}
@@ -25,6 +25,7 @@ use Rattle.lines.proofs.SlotLaws.{
   slot-offset,
   slot-last,
 }
+use Rattle.writing.proofs.WriteLaws.{Carried}
 use Rattle.reading.specs.ReadLine.{initialStored, offsetsStored}
 
 -- The line holds another entry than the initial entry at an index, or than the offset at a place.
@@ -118,6 +119,11 @@ module _ (d : Design) (v : ℕ) (initial : List ℕ) (offsets : List ℤ) (j n :
   unfolding lineAt frameOf
   earlier-line = rw (number-stands v initial offsets (slotOf d j) (slotOf d n) (apart d j n earlier within))
 
-  pub earlier-fits : entryFits (slotOf d j) (initialStored (slotOf d n) v initial) (offsetsStored (slotOf d n) v offsets)
-      ≡ entryFits (slotOf d j) initial offsets
-  earlier-fits = fits-stands v initial offsets (slotOf d j) (slotOf d n) (apart d j n earlier within)
+  pub earlier-entry : Carried d (slotOf d j) initial offsets
+      → Carried d (slotOf d j) (initialStored (slotOf d n) v initial) (offsetsStored (slotOf d n) v offsets)
+  earlier-entry entry =
+      let other = apart d j n earlier within in
+      record {
+        fits = fits-stands v initial offsets (slotOf d j) (slotOf d n) other ∙ entry .fits;
+        below = rw (number-stands v initial offsets (slotOf d j) (slotOf d n) other) (entry .below);
+      }

@@ -4,28 +4,24 @@ use mathlib.Core.List.{List}
 use Prim.Native.Nat.{ℕ, _≤_, _<_}
 use native.Mathlib.Omega.{arith}
 use lib.ListN.{length}
-use borrow.Author.Tests.{lt-leb, le-ltb}
 use Rattle.refusal.specs.declared.Verdict.{Verdict}
-use Rattle.refusal.proofs.Checks.{verdict-append}
-use Rattle.tables.proofs.SetLaws.{set-passed, usable}
 use Rattle.lines.specs.Slots.{lineCount}
 use Rattle.lines.specs.Lines.{lineAt}
-use Rattle.writing.specs.Write.{numberCheck, writeVerdict, writeAnswer, bufferAfter, askedChecks}
-use Rattle.writing.proofs.WriteLaws.{Given, line-given, given}
+use Rattle.writing.specs.Write.{writeVerdict, writeAnswer, bufferAfter}
+use Rattle.writing.proofs.WriteLaws.{line-passes, Given, line-given, given}
 use Rattle.storage.specs.Sets.{TableSet, Storable}
 use Rattle.storage.specs.Storage.{Gives, Storage}
 use Rattle.storage.proofs.InOrder.{in-order}
 use Rattle.storage.proofs.ReadingBack.{read-back}
 use Rattle.storage.proofs.Uniqueness.{unique, refused-skipped}
+use Rattle.storage.proofs.Fitting.{storable-lines, lines-storable}
 use Rattle.storage.proofs.FilledFits.{filled-storable, fill-storable}
 
 -- The writer gives each line of a set that has a stored form.
 module _ (t : TableSet) (n : ℕ) (buffer : List ℕ) (ok : Storable t) (within : n < lineCount (t .design))
     (room : length (lineAt (t .design) (t .initial) (t .offsets) n) ≤ length buffer) where
   passes : writeVerdict (t .design) (t .initial) (t .offsets) n (length buffer) ≡ Verdict.Passed
-  unfolding writeVerdict numberCheck askedChecks
-  passes =
-      rw (verdict-append, set-passed _ _ _ (ok .usable), lt-leb _ _ within, ok .fits n within, le-ltb _ _ room)
+  passes = line-passes _ _ _ _ _ (ok .usable) within (storable-lines t ok n within) room
 
   gives : Gives t n buffer
   unfolding writeAnswer bufferAfter
@@ -38,7 +34,7 @@ module _ (t : TableSet) (buffer : List ℕ) where
 
   all-given : ((n : ℕ) → n < lineCount (t .design) → Gives t n buffer) → Storable t
   unfolding lineCount
-  all-given gives = record { usable = told 0 (gives 0 (omega arith)) .usable; fits = λ n h. told n (gives n h) .fits }
+  all-given gives = lines-storable t (told 0 (gives 0 (omega arith)) .usable) (λ n h. told n (gives n h) .entry)
 
 -- Demand 2, its last sentence, and what the fill writes
 pub storage : Storage

@@ -29,6 +29,7 @@ use Rattle.lines.specs.Slots.{lineCount, slotOf}
 use Rattle.lines.specs.Lines.{frameHead, entryWidth, entryNumber, entryFits, frameOf, lineAt}
 use Rattle.lines.proofs.SlotLaws.{slot-first}
 use Rattle.lines.proofs.FrameLaws.{frame-length, frame-short, frame-small, entry-lt}
+use Rattle.writing.proofs.WriteLaws.{Carried}
 use Rattle.reading.specs.declared.Reading.{Reading}
 use Rattle.reading.specs.ReadLine.{Session, session, begins, headFails, entryIn, initialStored, offsetsStored, verdictOn, after}
 use Rattle.reading.proofs.BeginsLaws.{begins-append}
@@ -80,7 +81,7 @@ module _ (d : Design) (legal : Legal d) (initial : List ℕ) (offsets : List ℤ
 
 -- A later line: in a possible state with a line taken, the line that is due
 module _ (d : Design) (n : ℕ) (initial set-initial : List ℕ) (offsets set-offsets : List ℤ) (some : 0 < n) (within : n < lineCount d)
-    (tables : Usable d (length initial) (length offsets)) (fit : entryFits (slotOf d n) set-initial set-offsets ≡ true) where
+    (tables : Usable d (length initial) (length offsets)) (entry : Carried d (slotOf d n) set-initial set-offsets) where
   abbrev state : Reading
   state = record { design = d; taken = n }
 
@@ -99,6 +100,7 @@ module _ (d : Design) (n : ℕ) (initial set-initial : List ℕ) (offsets set-of
             (later-passed state (length initial) (length offsets) _ some (record {
               within = within;
               head = head-passes d (slotOf d n) set-initial set-offsets;
+              below = rw (entry-back d (slotOf d n) set-initial set-offsets (entry .fits)) (entry .below);
               tables = tables-long d _ _ tables;
             }));
       })
@@ -112,7 +114,7 @@ module _ (d : Design) (n : ℕ) (initial set-initial : List ℕ) (offsets set-of
         later-passes,
         line-bytes d (tables .legal) set-initial set-offsets n,
         later-design state (withSum (frame d (slotOf d n) set-initial set-offsets)) some,
-        entry-back d (slotOf d n) set-initial set-offsets fit,
+        entry-back d (slotOf d n) set-initial set-offsets (entry .fits),
       )
 
 -- The first line, with no line taken, into tables long enough

@@ -1,6 +1,5 @@
 -- A finished reading came from exactly the lines the writer gives.
 use mathlib.Core.Path.{_≡_, refl, sym, ap, ap₂, _∙_}
-use mathlib.Core.Bool.{true}
 use mathlib.Core.List.{List, [], _∷_, _++_, append-nil}
 use Prim.Native.Nat.{ℕ, _+_, _<_}
 use native.Mathlib.Decide.{decLt}
@@ -17,19 +16,21 @@ use Rattle.tables.specs.Inputs.{Usable}
 use Rattle.encoding.specs.Bytes.{entryBytes, fromComplement}
 use Rattle.lines.specs.declared.Slot.{Slot}
 use Rattle.lines.specs.Slots.{lineCount, slotOf}
-use Rattle.lines.specs.Lines.{entryFits, lineAt, setLines}
+use Rattle.lines.specs.Lines.{lineAt, setLines}
+use Rattle.writing.proofs.WriteLaws.{Carried}
 use Rattle.reading.specs.ReadLine.{Session, session, initialStored, offsetsStored, verdictOn, after}
 use Rattle.reading.proofs.ReadLaws.{all-taken}
 use Rattle.storage.specs.Feeding.{Begins, Finished, feed, keptIf, accepted}
 use Rattle.storage.specs.Storage.{CameFrom, setIn}
+use Rattle.storage.proofs.Fitting.{lines-storable}
 use Rattle.storage.proofs.Accepting.{SomeAccepted, accepted-line}
-use Rattle.storage.proofs.Standing.{earlier-line, earlier-fits}
+use Rattle.storage.proofs.Standing.{earlier-line, earlier-entry}
 
 -- The lines that came are the writer's for the design and the tables that the reading has.
 pub record SoFar (s : Session) (came : List (List ℕ)) : Type 0 where
   pub lines : came ≡ listBelow (s .state .taken) (lineAt (s .state .design) (s .initial) (s .offsets))
   pub tables : 0 < s .state .taken → Usable (s .state .design) (length (s .initial)) (length (s .offsets))
-  pub entries-fit : (n : ℕ) → n < s .state .taken → entryFits (slotOf (s .state .design) n) (s .initial) (s .offsets) ≡ true
+  pub entries : (n : ℕ) → n < s .state .taken → Carried (s .state .design) (slotOf (s .state .design) n) (s .initial) (s .offsets)
 
 -- Storing keeps the tables' lengths.
 pub initial-length : (slot : Slot) (v : ℕ) (initial : List ℕ) → length (initialStored slot v initial) ≡ length initial
@@ -64,15 +65,15 @@ module _ (s : Session) (came : List (List ℕ)) (so-far : SoFar s came) (line : 
         rw (← some .accepted .kept (omega arith))
         (sym (earlier-line (some .design) (some .number) (s .initial) (s .offsets) j n h (some .accepted .within)))
 
-    fits-next : (j : ℕ) → j < n + 1 → entryFits (slotOf (some .design) j) (next .initial) (next .offsets) ≡ true
-    fits-next j h =
+    entry-next : (j : ℕ) → j < n + 1 → Carried (some .design) (slotOf (some .design) j) (next .initial) (next .offsets)
+    entry-next j h =
         elim (decLt j n) [
           | yes earlier ↦
-              earlier-fits (some .design) (some .number) (s .initial) (s .offsets) j n earlier (some .accepted .within)
-              ∙ rw (some .accepted .kept (omega arith)) (so-far .entries-fit j earlier)
+              earlier-entry (some .design) (some .number) (s .initial) (s .offsets) j n earlier (some .accepted .within)
+              (rw (some .accepted .kept (omega arith)) (so-far .entries j earlier))
           | no last ↦
               let e : j ≡ n = omega arith in
-              rw e (some .accepted .entry-fits)
+              rw e (some .accepted .entry)
         ]
 
     one-more : SoFar next (came ++ (line ∷ []))
@@ -84,7 +85,7 @@ module _ (s : Session) (came : List (List ℕ)) (so-far : SoFar s came) (line : 
               (ap₂ (λ (front : List (List ℕ)) (last : List ℕ). front ++ (last ∷ []))
               (list-congruence _ _ n line-stands) (sym (some .accepted .written)));
           tables = λ h. rw (initial-length, offsets-length) (some .accepted .tables);
-          entries-fit = fits-next;
+          entries = entry-next;
         }
 
   so-far-accepted : verdictOn s line ≡ Verdict.Passed → SoFar (after s line) (came ++ (line ∷ []))
@@ -142,21 +143,18 @@ refused-skipped s (line ∷ lines) = one-counts s line lines (refused-skipped (a
 -- No line is taken yet.
 none-taken : (s : Session) → Begins s → SoFar s []
 unfolding listBelow
-none-taken s none = record { lines = rw none; tables = λ h. absurd (omega arith); entries-fit = λ n h. absurd (omega arith) }
+none-taken s none = record { lines = rw none; tables = λ h. absurd (omega arith); entries = λ n h. absurd (omega arith) }
 
 -- All lines are taken: the set has a stored form, and they are its lines.
 module _ (s : Session) (came : List (List ℕ)) (so-far : SoFar s came) (at-end : Finished s) where
   finished : s .state .taken ≡ lineCount (s .state .design)
   finished = all-taken (s .state) at-end
 
-  all-fit : (n : ℕ) → n < lineCount (s .state .design) → entryFits (slotOf (s .state .design) n) (s .initial) (s .offsets) ≡ true
-  all-fit n h = so-far .entries-fit n (rw finished h)
-
   came-from : CameFrom (setIn s) came
   unfolding setLines lineCount
   came-from =
       record {
-        storable = record { usable = so-far .tables (omega (arith, finished)); fits = all-fit };
+        storable = lines-storable (setIn s) (so-far .tables (omega (arith, finished))) (λ n h. so-far .entries n (rw finished h));
         lines = so-far .lines ∙ rw finished;
       }
 

@@ -43,6 +43,7 @@ use Rattle.storage.proofs.SameDesigns.{
   line-count-same,
   slot-same,
   head-same,
+  over-same,
   answers-same,
 }
 
@@ -54,7 +55,7 @@ at d n = record { design = d; taken = n }
 module _ (d e : Design) (s : Same d e) (n : ℕ) (some : 0 < n) where
   later-verdict : (initial offsets : ℕ) (line : List ℕ)
       → readVerdict (at d n) initial offsets line ≡ readVerdict (at e n) initial offsets line
-  unfolding readVerdict stateCheck tablesCheck
+  unfolding readVerdict stateCheck tablesCheck entryIn
   later-verdict initial offsets line =
       rw (
         later-possible (at d n) some,
@@ -65,6 +66,7 @@ module _ (d e : Design) (s : Same d e) (n : ℕ) (some : 0 < n) where
         line-count-same d e s,
         slot-same d e s n,
         head-same d e s (slotOf e n),
+        over-same d e s (slotOf e n),
         initial-count-same d e s,
         offset-total-same d e s,
       )

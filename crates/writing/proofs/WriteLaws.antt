@@ -1,19 +1,20 @@
 -- What the checks of the writer come to, what it finds out about the asked line, and what its answer promises of the line buffer.
 use mathlib.Core.Path.{_≡_, refl, ap, _∙_}
-use mathlib.Core.Bool.{Bool, true}
-use mathlib.Core.List.{List, _∷_, _++_}
+use mathlib.Core.Bool.{Bool, true, false}
+use mathlib.Core.List.{List, [], _∷_, _++_}
 use Prim.Native.Nat.{ℕ, _+_, _*_, _≤_, _<_}
 use native.Mathlib.Omega.{arith}
+use lib.Dec.{ltb}
 use lib.IntN.{ℤ}
 use lib.ListN.{length}
-use borrow.Author.Tests.{le-leb, lt-leb, leb-false, ltb-false, not-false}
+use borrow.Author.Tests.{le-leb, lt-leb, leb-false, le-ltb, not-false}
 use Rattle.general.specs.Lists.{over}
 use Rattle.general.proofs.WritingLaws.{over-start}
 use Rattle.refusal.specs.declared.Cause.{Cause}
 use Rattle.refusal.specs.declared.Verdict.{Verdict}
-use Rattle.refusal.specs.Checks.{verdict, leaves}
+use Rattle.refusal.specs.Checks.{Check, _↝_, verdict, leaves}
 use Rattle.refusal.specs.Told.{told}
-use Rattle.refusal.proofs.Checks.{verdict-append, passed-append, none-fails}
+use Rattle.refusal.proofs.Checks.{after, verdict-append, passed-append, none-fails}
 use Rattle.refusal.proofs.Answers.{only-passed}
 use Rattle.design.specs.declared.Design.{Design}
 use Rattle.tables.specs.Inputs.{Usable}
@@ -27,41 +28,79 @@ use Rattle.encoding.specs.Inputs.{held}
 use Rattle.encoding.proofs.LineBack.{line-length}
 use Rattle.lines.specs.declared.Slot.{Slot}
 use Rattle.lines.specs.Slots.{lineCount, slotOf}
-use Rattle.lines.specs.Lines.{frameHead, entryWidth, entryNumber, entryFits, frameOf, lineAt}
+use Rattle.lines.specs.Lines.{frameHead, entryWidth, entryNumber, entryFits, entryOver, frameOf, lineAt}
 use Rattle.lines.specs.Inputs.{SlotIn}
 use Rattle.lines.proofs.SlotLaws.{slot-in}
 use Rattle.lines.proofs.FrameLaws.{frame-length, frame-short, entry-short}
 use Rattle.writing.specs.declared.Written.{Written}
-use Rattle.writing.specs.Write.{numberCheck, askedChecks, writeVerdict, writtenIf, writeAnswer, bufferAfter, toldBy, writeTold}
+use Rattle.writing.specs.Write.{
+  numberCheck,
+  roomCheck,
+  entryChecks,
+  askedChecks,
+  writeVerdict,
+  writtenIf,
+  writeAnswer,
+  bufferAfter,
+  toldBy,
+  writeTold,
+}
 
--- "writer 1 to 10, 19, 18, 14"
+-- A line carries its entry: it fits, and it is no initial entry at the limit on sums or beyond it.
+pub record Carried (d : Design) (slot : Slot) (initial : List ℕ) (offsets : List ℤ) : Type 0 where
+  pub fits : entryFits slot initial offsets ≡ true
+  pub below : entryOver d slot (entryNumber slot initial offsets) ≡ false
+
+-- These are the entries that pass 18 and 23.
+module _ (d : Design) (slot : Slot) (initial : List ℕ) (offsets : List ℤ) where
+  pub carried : verdict (askedChecks d slot initial offsets) ≡ Verdict.Passed → Carried d slot initial offsets
+  unfolding askedChecks entryChecks
+  carried e =
+      let tests = none-fails (askedChecks d slot initial offsets) e in
+      record { fits = not-false _ (tests .0); below = tests .1 .0 }
+
+  pub carried-passes : Carried d slot initial offsets → verdict (askedChecks d slot initial offsets) ≡ Verdict.Passed
+  unfolding askedChecks entryChecks
+  carried-passes c = rw (c .fits, c .below)
+
+-- "writer 1 to 10, 19, 18", 23, "14"
 module _ (d : Design) (initial : List ℕ) (offsets : List ℤ) (n buffer : ℕ) where
+  -- What is tried once the set has passed
+  abbrev lineChecks : List Check
+  lineChecks =
+      numberCheck d n ∷ askedChecks d (slotOf d n) initial offsets ++ roomCheck (length (lineAt d initial offsets n)) buffer ∷ []
+
   -- A set that is refused by 1 to 10 is refused,
   pub refused-before : {cause : Cause} → verdict (setChecks d (length initial) (length offsets)) ≡ Verdict.Refused cause
       → writeVerdict d initial offsets n buffer ≡ Verdict.Refused cause
   unfolding writeVerdict
-  refused-before e = rw (verdict-append, e)
+  refused-before e = verdict-append (setChecks d (length initial) (length offsets)) lineChecks ∙ rw e
 
   module _ (u : Usable d (length initial) (length offsets)) where
+    set-settles : writeVerdict d initial offsets n buffer ≡ verdict lineChecks
+    unfolding writeVerdict
+    set-settles = verdict-append (setChecks d (length initial) (length offsets)) lineChecks ∙ rw (set-passed _ _ _ u)
+
     -- a number past the set is refused by 19,
     pub past-set : lineCount d ≤ n → writeVerdict d initial offsets n buffer ≡ Verdict.Refused Cause.LineNumber
-    unfolding writeVerdict numberCheck
-    past-set h = rw (verdict-append, set-passed _ _ _ u, le-leb _ _ h)
+    unfolding numberCheck
+    past-set h = set-settles ∙ rw (le-leb _ _ h)
 
-    -- and for one within it 18 and 14 are left.
-    pub within-set : n < lineCount d
+    -- and for one within it 18 and 23 of the entry are left, and then 14.
+    within-set : n < lineCount d
         → writeVerdict d initial offsets n buffer
-        ≡ verdict (askedChecks (entryFits (slotOf d n) initial offsets) (length (lineAt d initial offsets n)) buffer)
-    unfolding writeVerdict numberCheck
-    within-set h = rw (verdict-append, set-passed _ _ _ u, lt-leb _ _ h)
+        ≡ after (verdict (askedChecks d (slotOf d n) initial offsets)) (verdict (roomCheck (length (lineAt d initial offsets n)) buffer ∷ []))
+    unfolding numberCheck
+    within-set h = set-settles ∙ rw (lt-leb _ _ h) (verdict-append (askedChecks d (slotOf d n) initial offsets) _)
 
--- What a line that passes 18 and 14 tells: its entry fits, and the line buffer is long enough.
-pub line-passed : (fits : Bool) (line buffer : ℕ) → verdict (askedChecks fits line buffer) ≡ Verdict.Passed
-    → (fits ≡ true) × (line ≤ buffer)
-unfolding askedChecks
-line-passed fits line buffer e =
-    let tests = none-fails (askedChecks fits line buffer) e in
-    (not-false fits (tests .0), ltb-false buffer line (tests .1 .0))
+    pub entry-refused : n < lineCount d → {cause : Cause} → verdict (askedChecks d (slotOf d n) initial offsets) ≡ Verdict.Refused cause
+        → writeVerdict d initial offsets n buffer ≡ Verdict.Refused cause
+    entry-refused h e = within-set h ∙ rw e
+
+    -- A line that carries its entry is written into a buffer that is long enough.
+    pub line-passes : n < lineCount d → Carried d (slotOf d n) initial offsets → length (lineAt d initial offsets n) ≤ buffer
+        → writeVerdict d initial offsets n buffer ≡ Verdict.Passed
+    line-passes h entry room = within-set h ∙ rw (carried-passes _ _ _ _ entry, le-ltb _ _ room)
 
 -- The writer gives a line only where nothing turned it down:
 module _ (d : Design) (initial : List ℕ) (offsets : List ℤ) (n buffer : ℕ) where
@@ -72,22 +111,23 @@ module _ (d : Design) (initial : List ℕ) (offsets : List ℤ) (n buffer : ℕ)
       only-passed (λ (answer : Written). answer ≡ Written.Length digits) _ _ Written.Refused
       (λ cause f. let z : _≡_ {A = ℕ} 0 1 = cc in omega arith) e
 
-  -- then the set passes 1 to 10, the line is one of its lines, and the entry fits.
+  -- then the set passes 1 to 10, the line is one of its lines, and it carries its entry.
   pub record Given : Type 0 where
     pub usable : Usable d (length initial) (length offsets)
     pub within : n < lineCount d
-    pub fits : entryFits (slotOf d n) initial offsets ≡ true
+    pub entry : Carried d (slotOf d n) initial offsets
 
   pub given : writeVerdict d initial offsets n buffer ≡ Verdict.Passed → Given
-  unfolding writeVerdict numberCheck askedChecks
+  unfolding writeVerdict numberCheck
   given e =
-      let later = numberCheck d n ∷ askedChecks (entryFits (slotOf d n) initial offsets) (length (lineAt d initial offsets n)) buffer in
-      let lists = passed-append (setChecks d (length initial) (length offsets)) later e in
-      let tests = none-fails later (lists .1) in
+      let asked = askedChecks d (slotOf d n) initial offsets in
+      let room = roomCheck (length (lineAt d initial offsets n)) buffer ∷ [] in
+      let lists = passed-append (setChecks d (length initial) (length offsets)) (lineChecks d initial offsets n buffer) e in
+      let later = passed-append (numberCheck d n ∷ []) (asked ++ room) (lists .1) in
       record {
         usable = usable _ _ _ (lists .0);
-        within = leb-false _ _ (tests .0);
-        fits = not-false _ (tests .1 .0);
+        within = leb-false _ _ (none-fails (numberCheck d n ∷ []) (later .0) .0);
+        entry = carried d (slotOf d n) initial offsets (passed-append asked room (later .1) .0);
       }
 
 -- The asked line of a set whose tables are long enough: what it holds, its frame up to the entry, and how many bytes the entry takes
@@ -121,11 +161,12 @@ module _ {d : Design} {initial : List ℕ} {offsets : List ℤ} {n : ℕ} {slot 
       (line-length (frameOf d (slotOf d n) initial offsets)
       ∙ ap (λ count. 2 * (count + 1)) (frame-length d (slotOf d n) initial offsets))
 
-  -- The writer's verdict is that of 18 and 14,
-  pub asked-verdict : (fits : Bool) (buffer : ℕ) → fits ≡ entryFits slot initial offsets
-      → writeVerdict d initial offsets n buffer ≡ verdict (askedChecks fits (2 * (head .count + width + 1)) buffer)
-  asked-verdict fits buffer fits-is =
-      rw (fits-is, ← asked-length, asked .slot-is) (within-set d initial offsets n buffer (asked .set) (asked .within))
+  -- Where the entry passes, 14 decides,
+  pub asked-room : (buffer : ℕ) (short : Bool) → verdict (askedChecks d slot initial offsets) ≡ Verdict.Passed
+      → ltb buffer (2 * (head .count + width + 1)) ≡ short
+      → writeVerdict d initial offsets n buffer ≡ verdict (short ↝ Cause.OutputShort ∷ [])
+  asked-room buffer short e room =
+      within-set d initial offsets n buffer (asked .set) (asked .within) ∙ rw (← asked .slot-is, e, asked-length, room)
 
   -- and the line is that of the frame with the entry behind what it has.
   pub asked-line : {frame : List ℕ} {number : ℕ} → frame ≡ held head ++ bigEndian width number

@@ -3,9 +3,10 @@ ghost use mathlib.Core.Path.{_≡_};
 ghost use mathlib.Core.Bool.{true};
 ghost use lib.ListN.{length};
 ghost use Rattle.refusal.specs.Checks.{verdict};
+ghost use Rattle.design.specs.Legal.{Legal};
 ghost use Rattle.lines.specs.Lines.{entryFits, entryNumber};
 ghost use Rattle.lines.specs.Inputs.{SlotIn};
-ghost use Rattle.writing.specs.Write.{askedChecks, writeAnswer, bufferAfter, toldBy, writeTold};
+ghost use Rattle.writing.specs.Write.{entryChecks, askedChecks, writeAnswer, bufferAfter, toldBy, writeTold};
 use design::Design;
 use encoding::numbers::complement;
 use encoding::numbers::fits;
@@ -14,6 +15,7 @@ use encoding::put_line;
 use lines::Slot;
 use lines::entry_width;
 use lines::head_of;
+use lines::initial_over;
 use lines::line_count;
 use lines::slot_of;
 use refusal::Cause;
@@ -26,20 +28,37 @@ pub enum Written {
     Refused(Cause),
 }
 
-// Whether the entry of a line fits its 3 bytes.
-fn entry_fits(slot: Slot, initial: &[u32], offsets: &[i32]) -> bool
+// 18, then 23, by whether an entry fits its 3 bytes and whether it is an initial entry at the limit on sums or beyond it.
+fn entry_verdict(fits: bool, over: bool) -> Verdict
+    ensures { λ r. ⌜ r ≡ verdict (entryChecks fits over) ⌝ }
+{
+    if !fits {
+        return Verdict::Refused(Cause::EntryWidth);
+    }
+    if over {
+        return Verdict::Refused(Cause::InitialRange);
+    }
+    Verdict::Passed
+}
+
+// What the entry of a line is refused for. The limit on sums is for initial entries alone.
+fn asked_verdict(d: Design, slot: Slot, initial: &[u32], offsets: &[i32]) -> Verdict
+    requires { ⌜ Legal d ⌝ }
     requires { ⌜ SlotIn slot (length (now initial)) (length (now offsets)) ⌝ }
-    ensures { λ r. ⌜ r ≡ entryFits slot (now (initial .entry)) (now (offsets .entry)) ⌝ }
+    ensures { λ r. ⌜ r ≡ verdict (askedChecks d slot (now (initial .entry)) (now (offsets .entry))) ⌝ }
 {
     match slot {
-        Slot::Design => true,
-        Slot::Initial(index) => fits(initial[index as usize]),
+        Slot::Design => Verdict::Passed,
+        Slot::Initial(index) => {
+            let entry = initial[index as usize];
+            entry_verdict(fits(entry), initial_over(d, entry))
+        }
         Slot::Offset {
             table: _,
             index: _,
             place,
-        } => fits_signed(offsets[place as usize]),
-        Slot::End(_) => true,
+        } => entry_verdict(fits_signed(offsets[place as usize]), false),
+        Slot::End(_) => Verdict::Passed,
     }
 }
 
@@ -59,19 +78,6 @@ fn entry_number(slot: Slot, initial: &[u32], offsets: &[i32]) -> u32
         } => complement(offsets[place as usize]),
         Slot::End(_) => 0,
     }
-}
-
-// inner: 18 and 14 of what is asked for, a line or a record, by its length and that of its buffer.
-pub fn line_verdict(fits: bool, line: usize, buffer: usize) -> Verdict
-    ensures { λ r. ⌜ r ≡ verdict (askedChecks fits line buffer) ⌝ }
-{
-    if !fits {
-        return Verdict::Refused(Cause::EntryWidth);
-    }
-    if buffer < line {
-        return Verdict::Refused(Cause::OutputShort);
-    }
-    Verdict::Passed
 }
 
 // Puts line `number` of the set at the start of the line buffer (document 01, "Bits, lines and the report"). Nothing is written before
@@ -97,12 +103,14 @@ pub fn write_line(
         return Written::Refused(Cause::LineNumber);
     }
     let slot = slot_of(d, number);
+    if let Verdict::Refused(cause) = asked_verdict(d, slot, initial, offsets) {
+        return Written::Refused(cause);
+    }
     let head = head_of(d, slot);
     let width = entry_width(slot);
     let digits = 2 * (head.count + width + 1);
-    let fits = entry_fits(slot, initial, offsets);
-    if let Verdict::Refused(cause) = line_verdict(fits, digits, line.len()) {
-        return Written::Refused(cause);
+    if line.len() < digits {
+        return Written::Refused(Cause::OutputShort);
     }
     let frame = head.with(width, entry_number(slot, initial, offsets));
     put_line(frame, line);

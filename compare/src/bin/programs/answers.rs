@@ -24,7 +24,7 @@ const WANTED: [Wanted; 7] = [
     },
     Wanted {
         name: "check_set",
-        answers: &["FAITHFUL", "UNFAITHFUL", "UNFINISHED"],
+        answers: &["FAITHFUL", "UNFAITHFUL", "UNFINISHED", "LINE REFUSED 23"],
         refused: "LINE REFUSED",
     },
     Wanted {
@@ -36,6 +36,7 @@ const WANTED: [Wanted; 7] = [
             "LOW",
             "HIGH",
             "UNFINISHED",
+            "LINE REFUSED 23",
         ],
         refused: "LINE REFUSED",
     },
@@ -47,17 +48,24 @@ const WANTED: [Wanted; 7] = [
             "REFUSED 13",
             "NOT A WORD",
             "UNFINISHED",
+            "LINE REFUSED 23",
         ],
         refused: "LINE REFUSED",
     },
     Wanted {
         name: "set_to_hex",
-        answers: &["record", "UNFINISHED"],
+        answers: &["record", "UNFINISHED", "LINE REFUSED 23"],
         refused: "LINE REFUSED",
     },
     Wanted {
         name: "hex_to_set",
-        answers: &["digits", "UNFINISHED", "LINE REFUSED 21", "LINE REFUSED 22"],
+        answers: &[
+            "digits",
+            "UNFINISHED",
+            "LINE REFUSED 21",
+            "LINE REFUSED 22",
+            "REFUSED 23",
+        ],
         refused: "LINE REFUSED",
     },
 ];

@@ -1,7 +1,7 @@
 //! What each program should print for an input.
 
 use compare::random::Tables;
-use compare::wide::reference::{self, Checked, Design, HexReading, Reading};
+use compare::wide::reference::{self, refusal, Checked, Design, HexReading, Reading};
 
 /// A writer, of lines or of records.
 type Write = fn(&Design, &[u32], &[i32], usize, &mut [u8]) -> Result<usize, u8>;
@@ -25,26 +25,29 @@ fn begin() -> Reading {
     Reading { design, taken: 0 }
 }
 
-/// The lines of a set, each with a newline; none from an entry on that does not fit its 3 bytes.
+/// The lines of a set, each with a newline; none from an entry on that no line carries.
 pub fn lines_of(d: &Design, tables: &Tables) -> Vec<String> {
-    written(reference::write_line, d, tables)
+    written(reference::write_line, d, tables).0
 }
 
 /// The records of a set, likewise.
 pub fn records_of(d: &Design, tables: &Tables) -> Vec<String> {
-    written(reference::write_record, d, tables)
+    written(reference::write_record, d, tables).0
 }
 
-fn written(write: Write, d: &Design, tables: &Tables) -> Vec<String> {
-    let mut buffer = [0; 43];
-    (0..)
-        .map_while(|n| {
-            let Tables { initial, offsets } = tables;
-            let length = write(d, initial, offsets, n, &mut buffer).ok()?;
-            let text = std::str::from_utf8(&buffer[..length]).expect("digits");
-            Some(format!("{text}\n"))
-        })
-        .collect()
+/// What a writer gives of a set, from its start on, and the refusal at which it ends.
+fn written(write: Write, d: &Design, tables: &Tables) -> (Vec<String>, u8) {
+    let Tables { initial, offsets } = tables;
+    let (mut texts, mut buffer) = (vec![], [0; 43]);
+    loop {
+        match write(d, initial, offsets, texts.len(), &mut buffer) {
+            Ok(length) => {
+                let text = std::str::from_utf8(&buffer[..length]).expect("digits");
+                texts.push(format!("{text}\n"));
+            }
+            Err(refusal) => return (texts, refusal),
+        }
+    }
 }
 
 /// The lines of an input: a last one without a newline counts, if it has a byte.
@@ -194,9 +197,14 @@ fn read_hex(input: &[u8]) -> Result<(Design, Tables), String> {
     Ok((d, Tables { initial, offsets }))
 }
 
+/// All lines of the set, or none where one of them is refused: the writer must end past the set.
 pub fn hex_to_set(input: &[u8]) -> String {
-    match read_hex(input) {
-        Ok((d, tables)) => lines_of(&d, &tables).concat(),
-        Err(text) => text,
+    let (d, tables) = match read_hex(input) {
+        Ok(set) => set,
+        Err(text) => return text,
+    };
+    match written(reference::write_line, &d, &tables) {
+        (lines, refusal::PAST_SET) => lines.concat(),
+        (_, refusal) => format!("REFUSED {refusal}\n"),
     }
 }

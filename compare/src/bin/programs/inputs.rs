@@ -5,8 +5,8 @@ use std::ops::RangeInclusive;
 use super::expected::lines_of;
 use super::hex_inputs::{file_of, with_ends};
 use super::Runs;
-use compare::frames::{design_line, sealed};
-use compare::random::{is_admitted, largest, lengths, Given, Tables, LARGEST};
+use compare::frames::{design_line, initial_line, sealed};
+use compare::random::{is_admitted, largest, lengths, sum_limit, Given, Tables, LARGEST};
 use compare::wide::reference::Design;
 
 /// Empty lines; G, G with (2,3) and G behind an empty line; the longest report that there is, and the
@@ -84,6 +84,22 @@ fn long_words(digits: usize) -> [String; 2] {
 /// A range of words, one a line.
 fn words(range: RangeInclusive<u32>) -> impl Iterator<Item = String> {
     range.map(|x| format!("{x}\n"))
+}
+
+/// The lines of a set as somebody may write them who knows no limit on initial entries but that of
+/// their 3 bytes.
+fn unlimited_lines(d: &Design, tables: &Tables) -> Vec<String> {
+    let mut limited = tables.clone();
+    for entry in &mut limited.initial {
+        *entry = (*entry).min(sum_limit(d) - 1);
+    }
+    let mut lines = lines_of(d, &limited);
+    let entries = tables.initial.iter().take(lengths(d).0).enumerate();
+    for (index, &entry) in entries.filter(|&(_, &entry)| entry >= sum_limit(d)) {
+        let line = String::from_utf8(initial_line(index, entry)).expect("digits");
+        lines[index + 1] = line + "\n";
+    }
+    lines
 }
 
 impl Runs {
@@ -185,7 +201,7 @@ impl Runs {
 
     /// A set alone, with words behind it, and with a damaged line.
     fn set_and_words(&mut self, d: &Design, tables: &Tables) {
-        let mut lines = lines_of(d, tables);
+        let mut lines = unlimited_lines(d, tables);
         self.all(lines[0].as_bytes());
         self.all(lines.concat().trim_end().as_bytes());
         self.file(d, tables);
@@ -219,7 +235,7 @@ impl Runs {
     fn sets_of_one_sum(&mut self) {
         let end = 1 << (FEW_ENTRIES.q + FEW_ENTRIES.g + 2);
         let (initial, offsets) = lengths(&FEW_ENTRIES);
-        for (entry, offset) in [(0, 0), (1, -1), (end - 1, 0), (end, 0)] {
+        for (entry, offset) in [(0, 0), (1, -1), (end - 1, 0), (end - 1, 1), (end, 0)] {
             let (initial, offsets) = (vec![entry; initial], vec![offset; offsets]);
             self.set_and_words(&FEW_ENTRIES, &Tables { initial, offsets });
         }
@@ -243,17 +259,19 @@ impl Runs {
         self.last_entries_changed(d, tables);
     }
 
-    /// The last entries of both sorts as far from the others as their 3 bytes allow, so that the
-    /// last words have sums out of range.
+    /// The last entries of both sorts as far from the others as lines carry them, so that the last
+    /// words have sums out of range; then with an initial entry that only records carry.
     fn last_entries_changed(&mut self, d: &Design, mut tables: Tables) {
         let (initial, offsets) = lengths(d);
-        tables.initial[initial - 1] = (1 << 24) - 1;
         tables.offsets[offsets - 1] = -(1 << 23);
         let end = 1 << d.w;
-        let mut lines = lines_of(d, &tables);
-        lines.extend(words(end - 100..=end));
-        self.set(lines.concat().as_bytes());
-        self.file(d, &tables);
+        for entry in [sum_limit(d) - 1, (1 << 24) - 1] {
+            tables.initial[initial - 1] = entry;
+            let mut lines = unlimited_lines(d, &tables);
+            lines.extend(words(end - 100..=end));
+            self.set(lines.concat().as_bytes());
+            self.file(d, &tables);
+        }
     }
 
     /// Words of all sorts.

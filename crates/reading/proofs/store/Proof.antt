@@ -13,16 +13,16 @@ enum-told c = search needs
 
 slice-write-initial : tie.Need-slice-write-initial
 slice-write-initial c =
-    let s = c .before .before .before .before .before .before in
-    rw (c .before .before .before .slot .given .1) at (s .pre .0)
+    let b = c .before in
+    rw (b .slot .given .1) at (b .before .before .before .pre .0)
 
 from-complement-requires : tie.Need-from-complement-requires
-from-complement-requires c κs = c .number-in2 .ensures .1
+from-complement-requires c κs = c .before .before .before .before .pre .1
 
 slice-set-from-offsets : tie.Need-slice-set-from-offsets
 slice-set-from-offsets c =
-    let s = c .before .before .before .before .before .before .before in
-    rw (c .before .before .before .before .slot2 .given .1) at (s .pre .0)
+    let b = c .before .before in
+    rw (b .slot2 .given .1) at (b .before .before .before .pre .0)
 
 returns : tie.Need-returns
 unfolding initialStored offsetsStored
@@ -30,14 +30,13 @@ returns c = rw (c .enum-told .given .1) (refl, refl)
 
 returns-2 : tie.Need-returns-2
 unfolding initialStored offsetsStored
-returns-2 c = rw (c .before .before .before .slot .given .1, ← c .number-in .ensures .0) (refl, refl)
+returns-2 c = rw (c .before .slot .given .1) (refl, refl)
 
 returns-3 : tie.Need-returns-3
 unfolding initialStored offsetsStored
 returns-3 c =
-    let number = rw (c .before .number-in2 .ensures .0) at (c .from-complement .ensures) in
-    let entry = toZ-ofZ w32 _ (record { sfits = c .from-complement .ok }) ∙ number in
-    let slot = c .before .before .before .before in
+    let entry = toZ-ofZ w32 _ (record { sfits = c .from-complement .ok }) ∙ c .from-complement .ensures in
+    let slot = c .before .before in
     rw (slot .slot2 .given .1) (refl, ap (set (slot .before .before .before .args .offsets .now) (slot .slot2 .given .0 .1 .1 .0)) entry)
 
 returns-4 : tie.Need-returns-4
@@ -50,12 +49,10 @@ store-spec =
     (tie.spec
     enum-told
     (λ c. search needs)
-    (λ c κs. search needs)
     (λ c. search needs)
     (λ c. search needs)
     slice-write-initial
     (λ c. search needs)
-    (λ c κs. search needs)
     from-complement-requires
     (λ c. search needs)
     (λ c. search needs)

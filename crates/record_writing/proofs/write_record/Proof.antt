@@ -1,17 +1,18 @@
 -- `record_writing::write_record` meets its contract: the verdict of the set, then 20, the number, the record's own checks, the record.
 use mathlib.Core.Path.{_≡_, sym, ap, _∙_}
-use mathlib.Core.Bool.{true}
-use mathlib.Core.List.{_++_}
+use mathlib.Core.List.{[], _∷_, _++_}
 use Prim.Native.Nat.{_+_, _-_, _*_, _≤_, _<_}
 use native.Mathlib.Omega.{arith}
 use borrow.Author.Needs.{needs}
+use borrow.Author.Tests.{lt-ltb, le-ltb, not-false}
 use lib.ListN.{length, take}
 use lib.Seq.{length-take-le}
 use Rattle.general.specs.Lists.{over}
+use Rattle.refusal.specs.Checks.{verdict}
 use Rattle.tables.specs.Inputs.{Usable}
 use Rattle.tables.proofs.SetLaws.{usable}
 use Rattle.encoding.specs.Bytes.{entryBytes}
-use Rattle.writing.proofs.WriteLaws.{line-passed}
+use Rattle.writing.specs.Write.{widthCheck, roomCheck}
 use Rattle.records.specs.IntelHex.{recordHead, dataIn, recordCount, lengthAt}
 use Rattle.records.specs.SetBytes.{entryAt, bytesBelow, byteCount, setRecord, mostBytes}
 use Rattle.records.proofs.CountLaws.{length-small, before-next}
@@ -136,40 +137,36 @@ length-is c =
     let a = c .before .before .before .before .before .before .before .before .before .before .before .before .before .before .before .args in
     omega (arith, size-is c, asked-length (a .d) (a .initial .now) (a .offsets .now) (a .number))
 
--- the writer's verdict is that of the record
-settles : (c : tie.After-line-verdict) →
-    let a = c .before .before .before .before .before .before .before .before .before .before .before .before .before .before .before .before .args in
-    hexWriteVerdict (a .d) (a .initial .now) (a .offsets .now) (a .number) (length (a .«record» .now)) ≡ c .line-verdict .result
+-- the writer's verdict is that of the record's entries and then of its room
+settles : (c : tie.After-bytes-before2) →
+    let a = c .before .before .before .before .before .before .before .before .before .before .before .before .before .before .before .args in
+    hexWriteVerdict (a .d) (a .initial .now) (a .offsets .now) (a .number) (length (a .«record» .now))
+    ≡ verdict
+    (widthCheck (c .before .before .before .put-entries .result)
+    ∷ roomCheck (11 + 2 * (c .before .bytes-before .result - c .bytes-before2 .result)) (length (a .«record» .now)) ∷ [])
 settles c =
-    let b = c .before in
-    let f = b .before .before .before in
+    let f = c .before .before .before in
     let e = f .before .before in
     let x = e .before .before .before .before in
     let a = x .before .before .before .before .before .before .args in
     let fits = f .put-entries .ensures .0 ∙ asked-fits (a .d) (a .initial .now) (a .offsets .now) (a .number) _ (x .extent-of .ensures) in
-    rw (within-records _ _ _ _ (length (a .«record» .now)) (set (x .before)) (few (e .before .before)) (within e), ← fits, length-is b)
-    (sym (c .line-verdict .ensures))
+    rw (fits, ← length-is c) (within-records _ _ _ _ (length (a .«record» .now)) (set (x .before)) (few (e .before .before)) (within e))
 
 returns-4 : tie.Need-returns-4
-returns-4 c =
-    let b = c .before in
-    refuses _ _ _ _ _ (settles (b .before .before) ∙ b .cause2 .given .1)
+returns-4 c = refuses _ _ _ _ _ (settles (c .before) ∙ rw (c .if3 .taken))
 
--- where the record's verdict passed
-good : (c : tie.After-enum-told2) →
-    let b = c .before .before .before in
-    let a = b .before .before .before .before .before .before .before .before .before .before .before .before .before .before .before .args in
-    (b .before .before .before .put-entries .result ≡ true)
-    × (11 + 2 * (b .before .bytes-before .result - b .bytes-before2 .result) ≤ length (a .«record» .now))
-good c = line-passed _ _ _ (sym (c .before .before .line-verdict .ensures) ∙ c .enum-told2 .given .1)
+returns-5 : tie.Need-returns-5
+returns-5 c =
+    let e = c .before in
+    refuses _ _ _ _ _ (settles (e .before) ∙ rw (e .if3 .left, lt-ltb _ _ (c .if4 .taken)))
 
 add-window : tie.Need-add-window
-add-window c = omega (arith, size-small (c .before .before .before .before .before .before))
+add-window c = omega (arith, size-small (c .before .before .before .before .before))
 
 array-share-prefix-window : tie.Need-array-share-prefix-window
 array-share-prefix-window c =
     let full : length (c .before .put-head .last .1 .1 .0) ≡ windowBytes = search needs in
-    omega (arith, size-small (c .before .before .before .before .before .before))
+    omega (arith, size-small (c .before .before .before .before .before))
 
 slice-aggregate-put-record : tie.Need-slice-aggregate-put-record
 slice-aggregate-put-record c = sym (length-take-le _ _ (array-share-prefix-window (c .before)))
@@ -178,22 +175,21 @@ put-record-requires : tie.Need-put-record-requires
 put-record-requires c κs =
     let w = c .before .before in
     let t = w .before .before .before in
-    let b = t .before .before .before in
-    rw (length-take-le _ _ (array-share-prefix-window w)) (omega (arith, size-small b), omega (arith, size-is b, good t .1))
+    let b = t .before .before in
+    rw (length-take-le _ _ (array-share-prefix-window w)) (omega (arith, size-small b), omega (arith, size-is b, t .if4 .left))
 
-returns-5 : tie.Need-returns-5
-returns-5 c =
+returns-6 : tie.Need-returns-6
+returns-6 c =
     let p = c .before .before in
     let h = p .before .before .before .before in
     let t = h .before .before in
-    let l = t .before .before in
-    let b = l .before in
+    let b = t .before .before in
     let f = b .before .before .before in
     let x = f .before .before .before .before .before .before in
     let a = x .before .before .before .before .before .before .args in
     let extent = x .extent-of .result in
     let number = entryAt (extent .initials) (a .initial .now) (a .offsets .now) in
-    let put = f .put-entries .ensures .1 (good t .0) in
+    let put = f .put-entries .ensures .1 (not-false _ (t .before .if3 .left)) in
     let size : b .before .bytes-before .result - b .bytes-before2 .result ≡ lengthAt (entryBytes * extent .entries) (a .number) =
     omega (arith, size-is b, ap (λ total. lengthAt total (a .number)) (total-is x)) in
     let count = 4 + (b .before .bytes-before .result - b .bytes-before2 .result) in
@@ -201,7 +197,7 @@ returns-5 c =
     let bytes : take count (h .put-head .last .1 .1 .0) ≡ recordHead (entryBytes * extent .entries) (a .number) ++ dataIn all (a .number) =
     rw (h .put-head .ensures, size) (window-record number (extent .entries) (a .number) _ put) in
     let text = asked-text (a .d) (a .initial .now) (a .offsets .now) (a .number) extent (x .extent-of .ensures) bytes in
-    writes _ _ _ _ _ (settles l ∙ t .enum-told2 .given .1) (length-is b) (p .put-record .ensures ∙ ap (over _ 0) text)
+    writes _ _ _ _ _ (settles b ∙ rw (t .before .if3 .left, le-ltb _ _ (t .if4 .left))) (length-is b) (p .put-record .ensures ∙ ap (over _ 0) text)
 
 pub write-record-spec : {M : Type 1} → statement M
 write-record-spec =
@@ -224,10 +220,8 @@ write-record-spec =
     sub-size
     mul-characters
     add-characters
-    (λ c κs. search needs)
-    (λ c. search needs)
     returns-4
-    (λ c. search needs)
+    returns-5
     (λ c. search needs)
     (λ c κs. search needs)
     add-window
@@ -235,4 +229,4 @@ write-record-spec =
     slice-aggregate-put-record
     put-record-requires
     (λ c. search needs)
-    returns-5)
+    returns-6)

@@ -1,58 +1,67 @@
--- `writing::entry_fits` meets its contract: it is `entryFits`, case by case.
-use mathlib.Core.Path.{ap, _∙_}
+-- `writing::asked_verdict` meets its contract: it is the verdict of `askedChecks`, case by case.
+use mathlib.Core.Path.{_≡_, ap, _∙_}
+use mathlib.Core.Bool.{Bool, false}
 use borrow.Author.Needs.{needs}
 use mir.Syntax.{w32}
 use mir.ValLaws.{toZ-ofZ}
+use Rattle.refusal.specs.Checks.{verdict}
 use Rattle.encoding.specs.Bytes.{entryBytes, fitsSigned}
-use Rattle.lines.specs.Lines.{entryFits}
-use Rattle.writing.proofs.entry_fits.Statement.{statement}
-use Rattle.writing.proofs.entry_fits.Tie as tie
+use Rattle.lines.specs.Lines.{entryNumber, entryFits, entryOver}
+use Rattle.writing.specs.Write.{entryChecks, askedChecks}
+use Rattle.writing.proofs.asked_verdict.Statement.{statement}
+use Rattle.writing.proofs.asked_verdict.Tie as tie
 
 enum-told : tie.Need-enum-told
 enum-told c = search needs
 
-shared-slice-read-fits : tie.Need-shared-slice-read-fits
-shared-slice-read-fits c =
+shared-slice-read-entry : tie.Need-shared-slice-read-entry
+shared-slice-read-entry c =
     let b = c .before .before in
-    rw (b .slot .given .1) at (b .before .before .before .pre)
+    rw (b .slot .given .1) at (b .before .before .before .pre .1)
 
 shared-slice-copy-out-fits-signed : tie.Need-shared-slice-copy-out-fits-signed
 shared-slice-copy-out-fits-signed c =
     let b = c .before in
-    rw (b .slot2 .given .1) at (b .before .before .before .pre)
+    rw (b .slot2 .given .1) at (b .before .before .before .pre .1)
 
 returns : tie.Need-returns
-unfolding entryFits
+unfolding askedChecks entryChecks entryFits entryOver
 returns c = rw (c .enum-told .given .1)
 
 returns-2 : tie.Need-returns-2
-unfolding entryFits
-returns-2 c = rw (c .before .before .before .slot .given .1) (c .fits2 .ensures)
+unfolding askedChecks entryFits entryOver entryNumber
+returns-2 c =
+    let over = c .before in
+    rw (over .before .before .before .before .slot .given .1, c .entry-verdict .ensures, over .before .fits2 .ensures, over .initial-over .ensures)
 
 returns-3 : tie.Need-returns-3
-unfolding entryFits
+unfolding askedChecks entryFits entryOver
 returns-3 c =
-    let read = toZ-ofZ w32 _ (record { sfits = c .before .fits-signed-arg .given }) in
-    rw (c .before .before .before .slot2 .given .1) (c .fits-signed .ensures ∙ ap (fitsSigned entryBytes) read)
+    let read = toZ-ofZ w32 _ (record { sfits = c .before .before .fits-signed-arg .given }) in
+    rw (c .before .before .before .before .slot2 .given .1)
+    (c .entry-verdict2 .ensures ∙ ap (λ fits. verdict (entryChecks fits false)) (c .before .fits-signed .ensures ∙ ap (fitsSigned entryBytes) read))
 
 returns-4 : tie.Need-returns-4
-unfolding entryFits
+unfolding askedChecks entryChecks entryFits entryOver
 returns-4 c = rw (c .enum-told2 .given .1)
 
-pub entry-fits-spec : {M : Type 1} → statement M
-entry-fits-spec =
+pub asked-verdict-spec : {M : Type 1} → statement M
+asked-verdict-spec =
     tie.close
     (tie.spec
     enum-told
     (λ c. search needs)
     (λ c. search needs)
     (λ c. search needs)
-    shared-slice-read-fits
+    shared-slice-read-entry
+    (λ c κs. search needs)
+    (λ c κs. search needs)
     (λ c κs. search needs)
     (λ c. search needs)
     (λ c. search needs)
     (λ c. search needs)
     shared-slice-copy-out-fits-signed
+    (λ c κs. search needs)
     (λ c κs. search needs)
     (λ c. search needs)
     returns

@@ -1,25 +1,29 @@
--- `writing::write_line` meets its contract: the verdict of the set, then the number, then the line's own checks, then the line.
+-- `writing::write_line` meets its contract: the verdict of the set, then the number, the entry, the room, the line.
 use mathlib.Core.Path.{_≡_, sym, ap, _∙_}
-use mathlib.Core.Bool.{true}
-use Prim.Native.Nat.{_+_, _*_, _≤_, _<_}
+use Prim.Native.Nat.{_<_}
 use native.Mathlib.Omega.{arith}
 use borrow.Author.Needs.{needs}
+use borrow.Author.Tests.{lt-ltb, le-ltb}
 use lib.ListN.{length}
 use Rattle.general.specs.Lists.{over}
+use Rattle.refusal.specs.declared.Verdict.{Verdict}
+use Rattle.refusal.specs.Checks.{verdict}
 use Rattle.tables.specs.Inputs.{Usable}
 use Rattle.tables.proofs.SetLaws.{usable}
 use Rattle.lines.specs.Slots.{lineCount}
-use Rattle.writing.specs.Write.{writeVerdict}
+use Rattle.lines.proofs.SlotLaws.{slot-in}
+use Rattle.writing.specs.Write.{askedChecks}
 use Rattle.writing.proofs.WriteLaws.{
+  carried,
   refused-before,
   past-set,
-  line-passed,
+  entry-refused,
   Asked,
   asked-in,
   asked-narrow,
   asked-short,
   asked-length,
-  asked-verdict,
+  asked-room,
   asked-line,
   refuses,
   writes,
@@ -56,17 +60,37 @@ within c = omega (arith, c .before .line-count .ensures, c .if1 .left)
 slot-of-requires : tie.Need-slot-of-requires
 slot-of-requires c κs = record { legal = set (c .before .before) .legal; within = within c }
 
+asked-verdict-requires : tie.Need-asked-verdict-requires
+asked-verdict-requires c κs =
+    let u = set (c .before .before .before) in
+    (u .legal, rw (c .slot-of .ensures) (slot-in _ _ _ _ u (within (c .before))))
+
+returns-3 : tie.Need-returns-3
+returns-3 c =
+    let v = c .before .before .before in
+    let s = v .before in
+    refuses _ _ _ _ _ (entry-refused _ _ _ _ _ (set (s .before .before .before)) (within (s .before))
+    (rw (← s .slot-of .ensures) (sym (v .asked-verdict .ensures) ∙ c .before .cause2 .given .1)))
+
+-- where the entry's verdict passed
+entry-passed : (c : tie.After-enum-told2) →
+    let s = c .before .before .before in
+    let a = s .before .before .before .before .before .before .before .before .args in
+    verdict (askedChecks (a .d) (s .slot-of .result) (a .initial .now) (a .offsets .now)) ≡ Verdict.Passed
+entry-passed c = sym (c .before .before .asked-verdict .ensures) ∙ c .enum-told2 .given .1
+
 head-of-requires : tie.Need-head-of-requires
-head-of-requires c κs = set (c .before .before .before) .legal
+head-of-requires c κs = set (c .before .before .before .before .before .before) .legal
 
 -- what is known of the asked line
 asked : (c : tie.After-entry-width) →
     let h = c .before in
-    let a = h .before .before .before .before .before .before .before .before .before .args in
-    Asked (a .d) (a .initial .now) (a .offsets .now) (a .number) (h .before .slot-of .result) (h .head-of .result) (c .entry-width .result)
+    let s = h .before .before .before .before in
+    let a = s .before .before .before .before .before .before .before .before .args in
+    Asked (a .d) (a .initial .now) (a .offsets .now) (a .number) (s .slot-of .result) (h .head-of .result) (c .entry-width .result)
 asked c =
     let h = c .before in
-    let s = h .before in
+    let s = h .before .before .before .before in
     record {
       set = set (s .before .before .before);
       within = within (s .before);
@@ -85,55 +109,38 @@ add-digits-2 c = omega (arith, asked-short (asked (c .before)))
 mul-digits : tie.Need-mul-digits
 mul-digits c = omega (arith, asked-short (asked (c .before)))
 
-entry-fits-requires : tie.Need-entry-fits-requires
-entry-fits-requires c κs = asked-in (asked (c .before))
-
--- the writer's verdict is that of the line
-line-settles : (c : tie.After-line-verdict) →
-    let a = c .before .before .before .before .before .before .before .before .before .before .before .before .before .args in
-    writeVerdict (a .d) (a .initial .now) (a .offsets .now) (a .number) (length (a .line .now)) ≡ c .line-verdict .result
-line-settles c =
-    let e = c .before in
-    asked-verdict (asked (e .before .before)) _ _ (e .entry-fits .ensures) ∙ sym (c .line-verdict .ensures)
-
-returns-3 : tie.Need-returns-3
-returns-3 c =
-    let b = c .before in
-    refuses _ _ _ _ _ (line-settles (b .before .before) ∙ b .cause2 .given .1)
-
--- where the line's verdict passed
-line-good : (c : tie.After-enum-told2) →
-    let e = c .before .before .before in
-    let w = e .before .before in
-    (e .entry-fits .result ≡ true)
-    × (2 * (w .before .head-of .result .count + w .entry-width .result + 1)
-    ≤ length (w .before .before .before .before .before .before .before .before .before .before .args .line .now))
-line-good c = line-passed _ _ _ (sym (c .before .before .line-verdict .ensures) ∙ c .enum-told2 .given .1)
+returns-4 : tie.Need-returns-4
+returns-4 c =
+    let w = c .before .before in
+    refuses _ _ _ _ _ (asked-room (asked w) _ _ (entry-passed (w .before .before)) (lt-ltb _ _ (c .if2 .taken)))
 
 entry-number-requires : tie.Need-entry-number-requires
 entry-number-requires c κs =
-    let e = c .before .before .before in
-    (asked-in (asked (e .before .before)), sym (e .entry-fits .ensures) ∙ line-good c .0)
+    let w = c .before .before in
+    (asked-in (asked w), carried _ _ _ _ (entry-passed (w .before .before)) .fits)
 
 with-requires : tie.Need-with-requires
 with-requires c κs =
-    let a = asked (c .before .before .before .before .before .before) in
+    let a = asked (c .before .before .before) in
     record { narrow = omega (arith, asked-narrow a); room = omega (arith, asked-short a) }
 
 put-line-requires : tie.Need-put-line-requires
 put-line-requires c κs =
     let w = c .before in
-    let told = w .before .before in
-    let a = asked (told .before .before .before .before .before) in
-    record { short = omega (arith, w .with .ensures .1, asked-short a); long = omega (arith, w .with .ensures .1, line-good told .1) }
+    let e = w .before .before in
+    record {
+      short = omega (arith, w .with .ensures .1, asked-short (asked (e .before .before)));
+      long = omega (arith, w .with .ensures .1, e .if2 .left);
+    }
 
-returns-4 : tie.Need-returns-4
-returns-4 c =
+returns-5 : tie.Need-returns-5
+returns-5 c =
     let p = c .before .before in
     let w = p .before .before in
-    let l = w .before .before .before .before in
-    let a = asked (l .before .before .before) in
-    writes _ _ _ _ _ (line-settles l ∙ w .before .before .enum-told2 .given .1) (asked-length a)
+    let e = w .before .before in
+    let k = e .before .before in
+    let a = asked k in
+    writes _ _ _ _ _ (asked-room a _ _ (entry-passed (k .before .before)) (le-ltb _ _ (e .if2 .left))) (asked-length a)
     (p .put-line .ensures ∙ ap (over _ 0) (asked-line a (w .with .ensures .0) (w .before .entry-number .ensures)))
 
 pub write-line-spec : {M : Type 1} → statement M
@@ -147,18 +154,18 @@ write-line-spec =
     line-count-requires
     returns-2
     slot-of-requires
+    asked-verdict-requires
+    (λ c. search needs)
+    returns-3
+    (λ c. search needs)
     head-of-requires
     (λ c κs. search needs)
     add-digits
     add-digits-2
     mul-digits
-    entry-fits-requires
-    (λ c κs. search needs)
-    (λ c. search needs)
-    returns-3
-    (λ c. search needs)
+    returns-4
     entry-number-requires
     with-requires
     put-line-requires
     (λ c. search needs)
-    returns-4)
+    returns-5)
