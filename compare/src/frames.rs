@@ -18,7 +18,7 @@ pub fn design_line(d: &Design, pairs: usize) -> Vec<u8> {
     sealed(&numbers.map(|number| number as u8).collect::<Vec<_>>())
 }
 
-/// An 02 line of any initial entry that fits its 3 bytes.
+/// An 02 line of the last 3 bytes of any initial entry.
 pub fn initial_line(index: usize, entry: u32) -> Vec<u8> {
     let [i1, i0] = (index as u16).to_be_bytes();
     let [_, entry @ ..] = entry.to_be_bytes();

@@ -1,7 +1,7 @@
 //! Words on both sides of where one class of the counts ends and the next begins.
 
 use super::Comparison;
-use crate::random::{Given, Tables};
+use crate::random::{sum_limit, Given, Tables};
 use crate::tables::{lone_class, lone_word};
 use crate::wide::reference::{self, Design};
 
@@ -154,7 +154,7 @@ impl Comparison {
 
     /// Sums at both ends of the range and at both ends of word 0.
     fn ends_of_range(&mut self, d: &Design, x: u32) {
-        let (unit, end) = (1 << d.g, 1 << (d.q + d.g + 2));
+        let (unit, end) = (1 << d.g, i64::from(sum_limit(d)));
         for (sum, name) in [
             (-1, "of sum -1"),
             (0, "of sum 0"),

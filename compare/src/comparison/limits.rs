@@ -45,7 +45,8 @@ impl Comparison {
             .note(&format!("{entry}, {what}: {refusal}"));
     }
 
-    /// Its line, also into a buffer that is too short, the lines around it, and its records.
+    /// Its line, also into a buffer that is too short, the lines around it, and the record in which
+    /// it begins.
     fn entry_written(&mut self, d: &Design, mut tables: Tables, index: usize, entry: u32) {
         tables.initial[index] = entry;
         let name = format!("initial entry {}", named(d, entry));
@@ -82,13 +83,16 @@ impl Comparison {
         tables.offsets[place] = offset;
         let number = initial + 1 + place;
         let line = self.calls.write(d, &tables, number, &[b'.'; 16]);
+        self.note(
+            "offset at the limit",
+            "line written",
+            line.as_ref().map(|_| ()).map_err(|&n| n),
+        );
         let state = Reading {
             design: *d,
             taken: number,
         };
-        if let Ok(line) = &line {
-            let _ = self.calls.read(state, tables, line);
-        }
-        self.note("offset at the limit", "line written", line.map(|_| ()));
+        let answer = self.calls.read(state, tables, &line.unwrap_or_default()).0;
+        self.note("offset at the limit", "line read", answer);
     }
 }

@@ -51,7 +51,7 @@ pub const CALLS: [Call; 15] = [
 const PLAIN: [Call; 2] = [call("is_finished", &[0]), call("records_finished", &[0])];
 
 /// Things that must come up, and how often at the least.
-const WANTED: [(&str, u64); 94] = [
+const WANTED: [(&str, u64); 95] = [
     ("budget equal to the limit", 5),
     ("budget one below the limit", 5),
     ("budget of 2^32 or more", 100),
@@ -148,6 +148,7 @@ const WANTED: [(&str, u64); 94] = [
     ("initial entry at the limit, at another index: 16", 1000),
     ("initial entry at the limit, record written: 0", 1000),
     ("offset at the limit, line written: 0", 1000),
+    ("offset at the limit, line read: 0", 1000),
     ("set that lines do not carry, restored from records", 900),
 ];
 

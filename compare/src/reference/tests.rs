@@ -1,4 +1,4 @@
-//! The document's examples, starred or not, and its traps; then those of requests A1 and A2.
+//! The document's examples, starred or not, and its traps; then those of requests A1, A2 and A4.
 
 use super::design::Legal;
 use super::function::Function;

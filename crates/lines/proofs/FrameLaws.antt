@@ -18,9 +18,7 @@ use Rattle.encoding.proofs.NumberBack.{big-endian-length, big-endian-bytes}
 use Rattle.encoding.proofs.ComplementBack.{complement-lt}
 use Rattle.encoding.proofs.DesignBack.{design-length, design-small}
 use Rattle.lines.specs.declared.Slot.{Slot}
-use Rattle.lines.specs.Slots.{lineCount, slotOf, offsetSlot}
 use Rattle.lines.specs.Lines.{frameHead, entryWidth, entryNumber, entryFits, frameOf}
-use Rattle.lines.proofs.SlotLaws.{line-is, first-line, initial-line, offset-line, last-line, slot-initial, slot-offset, slot-last}
 
 -- A line that holds no design
 abbrev pub Later : Slot → Type 0
@@ -28,16 +26,6 @@ Later Slot.Design = ⊥
 Later (Slot.Initial index) = Unit {0}
 Later (Slot.Offset table index place) = Unit {0}
 Later (Slot.End before) = Unit {0}
-
-pub later : (d : Design) (n : ℕ) → 0 < n → n < lineCount d → Later (slotOf d n)
-unfolding offsetSlot
-later d n some h =
-    elim (line-is d n h) [
-      | first-line e ↦ absurd (omega arith)
-      | initial-line index e k ↦ rw (slot-initial d n index e k) tt
-      | offset-line place e k ↦ rw (slot-offset d n place e k) tt
-      | last-line e ↦ rw (slot-last d n e) tt
-    ]
 
 -- The bytes before an entry are at most 4,
 pub head-short : (d : Design) (slot : Slot) → Later slot → length (frameHead d slot) ≤ 4

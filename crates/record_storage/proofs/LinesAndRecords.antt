@@ -103,4 +103,9 @@ module _ (t : TableSet) (index entry : ℕ) (ok : Recordable t) (small : entry <
 
 pub lines-and-records : LinesAndRecords
 lines-and-records =
-    record { to-records = storable-recordable; to-lines = recordable-storable; still-carried = changed-recordable }
+    record {
+      to-records = storable-recordable;
+      to-lines = recordable-storable;
+      still-carried = changed-recordable;
+      not-in-lines = λ t index within over ok. omega (arith, ok .below index within);
+    }

@@ -19,5 +19,8 @@ pub record LinesAndRecords : Type 0 where
   -- and lines hold every set that records hold, if none of its initial entries is 2^(P+2) or more;
   pub to-lines : (t : TableSet) → Recordable t
       → ((index : ℕ) → index < initialCount (t .design) → getD (t .initial) index 0 < sumLimit (t .design)) → Storable t
-  -- but in records any initial entry may be changed to any that fits its 3 bytes.
+  -- in records any initial entry may be changed to any that fits its 3 bytes,
   pub still-carried : (t : TableSet) (index entry : ℕ) → Recordable t → entry < 2 ^ (8 * entryBytes) → Recordable (withEntry t index entry)
+  -- and lines hold no set with one that is 2^(P+2) or more.
+  pub not-in-lines : (t : TableSet) (index : ℕ) → index < initialCount (t .design) → sumLimit (t .design) ≤ getD (t .initial) index 0
+      → Storable t → ⊥

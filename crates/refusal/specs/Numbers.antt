@@ -1,4 +1,5 @@
--- Document 01, "What is turned down, by place": the number of each cause. No other definition gives a cause its number.
+-- Document 01, "What is turned down, by place", and the new numbers of document 02: the number of each cause. No other definition gives a
+-- cause its number.
 use Prim.Native.Nat.{ℕ}
 use Rattle.refusal.specs.declared.Cause.{Cause}
 use Rattle.refusal.specs.declared.Verdict.{Verdict}

@@ -35,7 +35,7 @@ pub enum Verdict {
     Refused(Cause),
 }
 
-// The number that document 01 gives a cause.
+// The number that documents 01 and 02 give a cause.
 pub fn number(cause: Cause) -> u8
     ensures { λ r. ⌜ r ≡ numberOf cause ⌝ }
 {

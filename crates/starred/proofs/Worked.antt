@@ -165,6 +165,10 @@ entry-5-changed n = hexWriteAnswer G (set (initialEntries G) 5 (2 ^ 24)) (offset
 abbrev entry-0-changed : ℕ → ℕ → ℕ → Written
 entry-0-changed entry n buffer = writeAnswer G (set (initialEntries G) 0 entry) (offsetEntries G) n buffer
 
+-- Record 0 with this entry as 16384
+abbrev G-record-0-over : String
+G-record-0-over = ":10000000004000000F59000EE7000E7B000E1600A6"
+
 -- What a reading of G's lines with so many taken answers to a line: into tables of zeros, and into tables of no entries
 abbrev number-in : ℕ → String → ℕ
 number-in taken line =
@@ -302,10 +306,11 @@ pub record Worked : Type 0 where
       × (hexWriteAnswer G (initialEntries G) (offsetEntries G) 18 10 ≡ Written.Refused Cause.OutputShort)
       × (hexWriteAnswer G (initialEntries G) (offsetEntries G) 18 11 ≡ Written.Length 11)
   -- Document 02, A4: G's limit is 2^14. 16383 is written, 16384 and 2^24 - 1 are refused with 23, and 2^24 with 18, which is tried before;
-  -- 23 is tried before 14.
+  -- 23 is tried before 14 and after 10.
   pub limit-written : (map (λ entry. entry-0-changed entry 1 14) (16383 ∷ 16384 ∷ 16777215 ∷ 16777216 ∷ [])
       ≡ Written.Length 14 ∷ Written.Refused Cause.InitialRange ∷ Written.Refused Cause.InitialRange ∷ Written.Refused Cause.EntryWidth ∷ [])
       × (entry-0-changed 16384 1 0 ≡ Written.Refused Cause.InitialRange)
+      × (writeAnswer G (set (initialEntries G) 0 16384) [] 1 14 ≡ Written.Refused Cause.TablesShort)
   -- The other lines of such a set are given, and an offset of 16384 is
   pub other-lines : (map (λ n. entry-0-changed 16384 n 20) (0 ∷ 2 ∷ 33 ∷ []) ≡ Written.Length 20 ∷ Written.Length 14 ∷ Written.Length 16 ∷ [])
       × (writeAnswer G (initialEntries G) (set (offsetEntries G) 0 (pos 16384)) 33 16 ≡ Written.Length 16)
@@ -316,7 +321,9 @@ pub record Worked : Type 0 where
   pub limit-before-tables : map (number-in-none 1) ("020000003FFFC0" ∷ "020000004000BE" ∷ []) ≡ 10 ∷ 23 ∷ []
   -- "the Intel HEX records still carry it": written, and read
   pub still-carried : (hexWriteAnswer G (set (initialEntries G) 0 16384) (offsetEntries G) 0 43 ≡ Written.Length 43)
-      × (number-on (held 0 0 0) ":10000000004000000F59000EE7000E7B000E1600A6" ≡ 0)
+      × (setRecord G (set (initialEntries G) 0 16384) (offsetEntries G) 0 ≡ ascii G-record-0-over)
+      × (number-on (held 0 0 0) G-record-0-over ≡ 0)
+      × (take 2 (hexAfter G (into-zeros (held 0 0 0)) (ascii G-record-0-over) .initial) ≡ 16384 ∷ 3929 ∷ [])
   -- Input words in decimal: leading zeros, and the greatest
   pub decimal-words : map (λ line. wordIn (ascii line)) ("007" ∷ "4294967295" ∷ []) ≡ ReadWord.Word 7 ∷ ReadWord.Word 4294967295 ∷ []
   -- No input words: an empty line, the character before 0, the one after 9, 2^32
@@ -393,11 +400,11 @@ worked =
       end-once = (refl, refl);
       both-halves = refl;
       number-before-room = (refl, refl, refl);
-      limit-written = (refl, refl);
+      limit-written = (refl, refl, refl);
       other-lines = (refl, refl);
       limit-read = (refl, refl);
       limit-before-tables = refl;
-      still-carried = (refl, refl);
+      still-carried = (refl, refl, refl, refl);
       decimal-words = refl;
       no-words = refl;
     }

@@ -13,7 +13,7 @@ use Rattle.storage.specs.Sets.{TableSet, Storable}
 use Rattle.storage.specs.Storage.{Gives, Storage}
 use Rattle.storage.proofs.InOrder.{in-order}
 use Rattle.storage.proofs.ReadingBack.{read-back}
-use Rattle.storage.proofs.Uniqueness.{unique, refused-skipped}
+use Rattle.storage.proofs.Uniqueness.{unique, no-form, refused-skipped}
 use Rattle.storage.proofs.Fitting.{storable-lines, lines-storable}
 use Rattle.storage.proofs.FilledFits.{filled-storable, fill-storable}
 
@@ -45,6 +45,7 @@ storage =
       written = all-given;
       reads-back = λ t s ok begins initial offsets. read-back t ok s begins initial offsets;
       unique = unique;
+      no-form = no-form;
       refused = λ s lines. let n = refused-skipped s lines in record { comes-to = n .0; accepts = n .1 };
       filled = λ t admitted. filled-storable t (admitted .legal);
       fills = fill-storable;

@@ -1,17 +1,19 @@
 -- A finished reading came from exactly the lines the writer gives.
 use mathlib.Core.Path.{_≡_, refl, sym, ap, ap₂, _∙_}
 use mathlib.Core.List.{List, [], _∷_, _++_, append-nil}
-use Prim.Native.Nat.{ℕ, _+_, _<_}
+use Prim.Native.Nat.{ℕ, _+_, _≤_, _<_}
 use native.Mathlib.Decide.{decLt}
 use native.Mathlib.Numerals.{add-one}
 use native.Mathlib.Omega.{arith}
-use lib.ListN.{length, length-set}
-use lib.Seq.{append-snoc}
+use lib.ListN.{length, getD, take, length-set}
+use lib.Seq.{append-snoc, getD-take}
 use lib.IntN.{ℤ}
 use Rattle.general.specs.Below.{listBelow}
 use Rattle.general.proofs.ListLaws.{list-congruence}
 use Rattle.refusal.specs.declared.Cause.{Cause}
 use Rattle.refusal.specs.declared.Verdict.{Verdict}
+use Rattle.design.specs.Cut.{sumLimit}
+use Rattle.design.specs.Stored.{initialCount}
 use Rattle.tables.specs.Inputs.{Usable}
 use Rattle.encoding.specs.Bytes.{entryBytes, fromComplement}
 use Rattle.lines.specs.declared.Slot.{Slot}
@@ -21,7 +23,9 @@ use Rattle.writing.proofs.WriteLaws.{Carried}
 use Rattle.reading.specs.ReadLine.{Session, session, initialStored, offsetsStored, verdictOn, after}
 use Rattle.reading.proofs.ReadLaws.{all-taken}
 use Rattle.storage.specs.Feeding.{Begins, Finished, feed, keptIf, accepted}
+use Rattle.storage.specs.Sets.{TableSet, SameSet}
 use Rattle.storage.specs.Storage.{CameFrom, setIn}
+use Rattle.storage.proofs.SameDesigns.{initial-count-same}
 use Rattle.storage.proofs.Fitting.{lines-storable}
 use Rattle.storage.proofs.Accepting.{SomeAccepted, accepted-line}
 use Rattle.storage.proofs.Standing.{earlier-line, earlier-entry}
@@ -160,3 +164,19 @@ module _ (s : Session) (came : List (List ℕ)) (so-far : SoFar s came) (at-end 
 
 pub unique : (s : Session) (lines : List (List ℕ)) → Begins s → Finished (feed s lines) → CameFrom (setIn (feed s lines)) (accepted s lines)
 unique s lines begins finished = came-from (feed s lines) (accepted s lines) (follows lines s [] (none-taken s begins)) finished
+
+-- So a set with an initial entry at the limit on sums or beyond it is none that a reading is finished with.
+module _ (t : TableSet) (index : ℕ) (within : index < initialCount (t .design)) where
+  front : (a b : List ℕ) → take (initialCount (t .design)) a ≡ take (initialCount (t .design)) b → getD a index 0 ≡ getD b index 0
+  front a b e =
+      sym (getD-take (initialCount (t .design)) a index 0 within) ∙ ap (λ (l : List ℕ). getD l index 0) e
+      ∙ getD-take (initialCount (t .design)) b index 0 within
+
+  pub no-form : sumLimit (t .design) ≤ getD (t .initial) index 0 → (s : Session) (lines : List (List ℕ)) → Begins s
+      → Finished (feed s lines) → SameSet (setIn (feed s lines)) t → ⊥
+  no-form over s lines begins finished same =
+      let ok = unique s lines begins finished .storable in
+      let below : getD (t .initial) index 0 < sumLimit (t .design) =
+      rw (← front _ _ (same .initial), ← same .design .q, ← same .design .g)
+      (ok .below index (rw (initial-count-same _ _ (same .design)) within)) in
+      omega arith

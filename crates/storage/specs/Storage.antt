@@ -1,11 +1,14 @@
--- Demand 2: "Written lines read back to the same set, and a finished reading came from exactly the lines the writer gives."
+-- Demand 2: "Written lines read back to the same set, and a finished reading came from exactly the lines the writer gives." Document 02, A4,
+-- of an initial entry that is 2^(P+2) or more: "A set with such an entry no longer has a stored form, so reading back and writing match over
+-- the remaining sets."
 use mathlib.Core.Path.{_≡_}
 use mathlib.Core.List.{List, _++_}
 use Prim.Native.Nat.{ℕ, _≤_, _<_}
-use lib.ListN.{length, drop}
+use lib.ListN.{length, getD, drop}
 use lib.IntN.{ℤ}
 use Rattle.refusal.specs.declared.Verdict.{Verdict}
 use Rattle.design.specs.declared.Design.{Design}
+use Rattle.design.specs.Cut.{sumLimit}
 use Rattle.design.specs.Stored.{initialCount, offsetTotal}
 use Rattle.design.specs.Budget.{Admitted}
 use Rattle.filling.specs.Fill.{fillVerdict, initialAfter, offsetsAfter, Filled}
@@ -61,10 +64,13 @@ pub record Storage : Type 0 where
   -- and a reading that is finished, whatever lines were fed, took the writer's lines
   pub unique : (s : Session) (lines : List (List ℕ)) → Begins s → Finished (feed s lines)
       → CameFrom (setIn (feed s lines)) (accepted s lines)
+  -- whatever lines were fed, no reading is finished with a set that has "such an entry"
+  pub no-form : (t : TableSet) (index : ℕ) → index < initialCount (t .design) → sumLimit (t .design) ≤ getD (t .initial) index 0
+      → (s : Session) (lines : List (List ℕ)) → Begins s → Finished (feed s lines) → SameSet (setIn (feed s lines)) t → ⊥
   -- refused lines change nothing
   pub refused : (s : Session) (lines : List (List ℕ)) → RefusedSkipped s lines
   -- what the fill writes can be stored: of an admitted design, all tables that begin with the entries the fill writes for it can be
-  -- written, so that 18 never turns one of its lines down,
+  -- written, so that neither 18 nor 23 turns one of its lines down,
   pub filled : (t : TableSet) → Admitted (t .design) → Filled (t .design) (t .initial) (t .offsets) → Storable t
   -- and so can what an accepted fill leaves
   pub fills : (d : Design) (initial : List ℕ) (offsets : List ℤ) → fillVerdict d (length initial) (length offsets) ≡ Verdict.Passed

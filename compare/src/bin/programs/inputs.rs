@@ -86,8 +86,8 @@ fn words(range: RangeInclusive<u32>) -> impl Iterator<Item = String> {
     range.map(|x| format!("{x}\n"))
 }
 
-/// The lines of a set as somebody may write them who knows no limit on initial entries but that of
-/// their 3 bytes.
+/// The lines of a set as somebody may write them who knows no limit on initial entries: of one that
+/// does not fit, its last 3 bytes.
 fn unlimited_lines(d: &Design, tables: &Tables) -> Vec<String> {
     let mut limited = tables.clone();
     for entry in &mut limited.initial {
@@ -231,9 +231,9 @@ impl Runs {
     }
 
     /// Sets of 16 bits with the same sum for all words, at the ends of the range and beyond, so
-    /// that all words land in one class.
+    /// that all words land in one class; the initial entries of the last are those that lines refuse.
     fn sets_of_one_sum(&mut self) {
-        let end = 1 << (FEW_ENTRIES.q + FEW_ENTRIES.g + 2);
+        let end = sum_limit(&FEW_ENTRIES);
         let (initial, offsets) = lengths(&FEW_ENTRIES);
         for (entry, offset) in [(0, 0), (1, -1), (end - 1, 0), (end - 1, 1), (end, 0)] {
             let (initial, offsets) = (vec![entry; initial], vec![offset; offsets]);

@@ -1,13 +1,16 @@
 -- `record_writing::write_record` meets its contract: the verdict of the set, then 20, the number, the record's own checks, the record.
 use mathlib.Core.Path.{_≡_, sym, ap, _∙_}
+use mathlib.Core.Bool.{Bool, true, false, not}
 use mathlib.Core.List.{[], _∷_, _++_}
-use Prim.Native.Nat.{_+_, _-_, _*_, _≤_, _<_}
+use Prim.Native.Nat.{ℕ, _+_, _-_, _*_, _≤_, _<_}
 use native.Mathlib.Omega.{arith}
 use borrow.Author.Needs.{needs}
 use borrow.Author.Tests.{lt-ltb, le-ltb, not-false}
 use lib.ListN.{length, take}
 use lib.Seq.{length-take-le}
 use Rattle.general.specs.Lists.{over}
+use Rattle.refusal.specs.declared.Cause.{Cause}
+use Rattle.refusal.specs.declared.Verdict.{Verdict}
 use Rattle.refusal.specs.Checks.{verdict}
 use Rattle.tables.specs.Inputs.{Usable}
 use Rattle.tables.proofs.SetLaws.{usable}
@@ -137,13 +140,25 @@ length-is c =
     let a = c .before .before .before .before .before .before .before .before .before .before .before .before .before .before .before .args in
     omega (arith, size-is c, asked-length (a .d) (a .initial .now) (a .offsets .now) (a .number))
 
--- the writer's verdict is that of the record's entries and then of its room
-settles : (c : tie.After-bytes-before2) →
+-- the writer's verdict, whether all entries in the record fit, the record's length and the buffer's
+abbrev answer : tie.After-bytes-before2 → Verdict
+answer c =
     let a = c .before .before .before .before .before .before .before .before .before .before .before .before .before .before .before .args in
     hexWriteVerdict (a .d) (a .initial .now) (a .offsets .now) (a .number) (length (a .«record» .now))
-    ≡ verdict
-    (widthCheck (c .before .before .before .put-entries .result)
-    ∷ roomCheck (11 + 2 * (c .before .bytes-before .result - c .bytes-before2 .result)) (length (a .«record» .now)) ∷ [])
+
+abbrev fit : tie.After-bytes-before2 → Bool
+fit c = c .before .before .before .put-entries .result
+
+abbrev text : tie.After-bytes-before2 → ℕ
+text c = 11 + 2 * (c .before .bytes-before .result - c .bytes-before2 .result)
+
+abbrev room : tie.After-bytes-before2 → ℕ
+room c =
+    let a = c .before .before .before .before .before .before .before .before .before .before .before .before .before .before .before .args in
+    length (a .«record» .now)
+
+-- the verdict is that of the entries and then of the room,
+settles : (c : tie.After-bytes-before2) → answer c ≡ verdict (widthCheck (fit c) ∷ roomCheck (text c) (room c) ∷ [])
 settles c =
     let f = c .before .before .before in
     let e = f .before .before in
@@ -152,13 +167,21 @@ settles c =
     let fits = f .put-entries .ensures .0 ∙ asked-fits (a .d) (a .initial .now) (a .offsets .now) (a .number) _ (x .extent-of .ensures) in
     rw (fits, ← length-is c) (within-records _ _ _ _ (length (a .«record» .now)) (set (x .before)) (few (e .before .before)) (within e))
 
+-- 18, then 14, or none of them
+too-wide : (c : tie.After-bytes-before2) → not (fit c) ≡ true → answer c ≡ Verdict.Refused Cause.EntryWidth
+too-wide c wide = settles c ∙ rw wide
+
+no-room : (c : tie.After-bytes-before2) → not (fit c) ≡ false → room c < text c → answer c ≡ Verdict.Refused Cause.OutputShort
+no-room c narrow short = settles c ∙ rw (narrow, lt-ltb _ _ short)
+
+writable : (c : tie.After-bytes-before2) → not (fit c) ≡ false → text c ≤ room c → answer c ≡ Verdict.Passed
+writable c narrow long = settles c ∙ rw (narrow, le-ltb _ _ long)
+
 returns-4 : tie.Need-returns-4
-returns-4 c = refuses _ _ _ _ _ (settles (c .before) ∙ rw (c .if3 .taken))
+returns-4 c = refuses _ _ _ _ _ (too-wide (c .before) (c .if3 .taken))
 
 returns-5 : tie.Need-returns-5
-returns-5 c =
-    let e = c .before in
-    refuses _ _ _ _ _ (settles (e .before) ∙ rw (e .if3 .left, lt-ltb _ _ (c .if4 .taken)))
+returns-5 c = refuses _ _ _ _ _ (no-room (c .before .before) (c .before .if3 .left) (c .if4 .taken))
 
 add-window : tie.Need-add-window
 add-window c = omega (arith, size-small (c .before .before .before .before .before))
@@ -197,7 +220,7 @@ returns-6 c =
     let bytes : take count (h .put-head .last .1 .1 .0) ≡ recordHead (entryBytes * extent .entries) (a .number) ++ dataIn all (a .number) =
     rw (h .put-head .ensures, size) (window-record number (extent .entries) (a .number) _ put) in
     let text = asked-text (a .d) (a .initial .now) (a .offsets .now) (a .number) extent (x .extent-of .ensures) bytes in
-    writes _ _ _ _ _ (settles b ∙ rw (t .before .if3 .left, le-ltb _ _ (t .if4 .left))) (length-is b) (p .put-record .ensures ∙ ap (over _ 0) text)
+    writes _ _ _ _ _ (writable b (t .before .if3 .left) (t .if4 .left)) (length-is b) (p .put-record .ensures ∙ ap (over _ 0) text)
 
 pub write-record-spec : {M : Type 1} → statement M
 write-record-spec =
