@@ -115,7 +115,8 @@ pub fn some_over(d: Design, initial: &[u32]) -> bool
     false
 }
 
-// inner: whether a line's entry, which is given as the number in its bytes, is such an initial entry. Offsets have no limit but their 3 bytes.
+// inner: whether a line's entry, which is given as the number in its bytes, is such an initial entry. Offsets have no limit but that of
+// their 3 bytes.
 pub fn entry_over(d: Design, slot: Slot, number: u32) -> bool
     requires { ⌜ Legal d ⌝ }
     ensures { λ r. ⌜ r ≡ entryOver d slot number ⌝ }

@@ -1,5 +1,5 @@
--- What the call `read_line` answers, "reader 17, 15, 16, on an 01 line 1 to 9, then 10", with document 02's 23 "in the reader after 16", and
--- what it leaves in the state and the tables.
+-- What the call `read_line` answers, "reader 17, 15, 16, on an 01 line 1 to 9, then 10", with document 02's 23 "in the reader after 16",
+-- and what it leaves in the state and the tables.
 use mathlib.Core.Bool.{Bool, true, false, cond, not, _||_, _&&_}
 use mathlib.Core.List.{List, [], _∷_, _++_}
 use Prim.Native.Nat.{ℕ, _+_}
@@ -56,11 +56,11 @@ laterFails state bytes =
     let slot = slotOf d (state .taken) in
     leb (lineCount d) (state .taken) || headFails (frameHead d slot) (entryWidth slot) bytes (length bytes)
 
--- The number in the entry's bytes
+-- The number in the bytes of a line's entry
 unfoldable pub entryIn : Design → Slot → List ℕ → ℕ
 entryIn d slot bytes = numberIn (take (entryWidth slot) (drop (length (frameHead d slot)) bytes))
 
--- What is tried on such a line: 16, and on an 02 line 23, "an initial entry is 2^(P+2) or more"
+-- What is tried on a line with others taken before it: 16, and on an 02 line 23, "an initial entry is 2^(P+2) or more"
 unfoldable pub laterChecks : Reading → List ℕ → List Check
 laterChecks state bytes =
     let d = state .design in

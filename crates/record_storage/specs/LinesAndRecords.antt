@@ -1,5 +1,5 @@
--- Document 02, A4, of an initial entry that is 2^(P+2) or more: "Reader and writer of lines refuse it where it occurs; the Intel HEX records
--- still carry it." Apart from such entries, and from sets whose bytes have no addresses (20), lines and records hold the same sets.
+-- Document 02, A4, of an initial entry that is 2^(P+2) or more: "Reader and writer of lines refuse it where it occurs; the Intel HEX
+-- records still carry it." Apart from such entries, and from sets whose bytes have no addresses (20), lines and records hold the same sets.
 use Prim.Native.Nat.{ℕ, _*_, _^_, _≤_, _<_}
 use lib.ListN.{getD, set}
 use Rattle.design.specs.Cut.{sumLimit}

@@ -35,7 +35,8 @@ recordFits entries initials initial offsets n =
 unfoldable pub hexWriteVerdict : Design → List ℕ → List ℤ → ℕ → ℕ → Verdict
 hexWriteVerdict d initial offsets n buffer =
     verdict (recordSetChecks d (length initial) (length offsets) ++ hexNumberCheck d n
-    ∷ widthCheck (recordFits (entryCount d) (initialCount d) initial offsets n) ∷ roomCheck (length (setRecord d initial offsets n)) buffer ∷ [])
+    ∷ widthCheck (recordFits (entryCount d) (initialCount d) initial offsets n)
+    ∷ roomCheck (length (setRecord d initial offsets n)) buffer ∷ [])
 
 -- The record's length, as the writer of lines answers with the line's
 unfoldable pub hexWriteAnswer : Design → List ℕ → List ℤ → ℕ → ℕ → Written

@@ -312,7 +312,8 @@ pub record Worked : Type 0 where
       × (entry-0-changed 16384 1 0 ≡ Written.Refused Cause.InitialRange)
       × (writeAnswer G (set (initialEntries G) 0 16384) [] 1 14 ≡ Written.Refused Cause.TablesShort)
   -- The other lines of such a set are given, and an offset of 16384 is
-  pub other-lines : (map (λ n. entry-0-changed 16384 n 20) (0 ∷ 2 ∷ 33 ∷ []) ≡ Written.Length 20 ∷ Written.Length 14 ∷ Written.Length 16 ∷ [])
+  pub other-lines : (map (λ n. entry-0-changed 16384 n 20) (0 ∷ 2 ∷ 33 ∷ [])
+      ≡ Written.Length 20 ∷ Written.Length 14 ∷ Written.Length 16 ∷ [])
       × (writeAnswer G (initialEntries G) (set (offsetEntries G) 0 (pos 16384)) 33 16 ≡ Written.Length 16)
   -- The reader, with one line taken: 16383 is taken, 16384 refused with 23, and with 16 at another index; an offset of 16384 is taken
   pub limit-read : (map (number-in 1) ("020000003FFFC0" ∷ "020000004000BE" ∷ "020001004000BD" ∷ []) ≡ 0 ∷ 23 ∷ 16 ∷ [])
@@ -337,9 +338,9 @@ unfolding
     Bytes.bigEndian Bytes.complement Bytes.fits
     Encode.digitOf Encode.hexOf Encode.sumByte Encode.withSum Encode.lineOf DesignBytes.pairBytes DesignBytes.designBytes
     Slots.lineCount Slots.tableOf Slots.offsetSlot Slots.slotOf Lines.frameHead Lines.entryWidth Lines.entryNumber Lines.entryFits
-    Lines.entryOver Lines.frameOf Lines.lineAt Write.numberCheck Write.entryChecks Write.askedChecks Write.writeVerdict Write.writeAnswer ReadLine.possible
-    ReadLine.stateCheck ReadLine.designAfter ReadLine.laterFails ReadLine.entryIn ReadLine.laterChecks ReadLine.dueChecks ReadLine.readVerdict ReadLine.verdictOn
-    ReadLine.after ReadLine.readAnswer
+    Lines.entryOver Lines.frameOf Lines.lineAt Write.numberCheck Write.entryChecks Write.askedChecks Write.writeVerdict Write.writeAnswer
+    ReadLine.possible ReadLine.stateCheck ReadLine.designAfter ReadLine.laterFails ReadLine.entryIn ReadLine.laterChecks
+    ReadLine.dueChecks ReadLine.readVerdict ReadLine.verdictOn ReadLine.after ReadLine.readAnswer
     ReadLine.begins ReadLine.headFails Bytes.numberIn Bytes.fromComplement Bytes.fitsSigned
     IntelHex.dataCount IntelHex.recordCount IntelHex.bytesBefore IntelHex.lengthAt IntelHex.headOf IntelHex.recordHead IntelHex.recordText
     IntelHex.dataIn IntelHex.recordOf SetBytes.entryCount SetBytes.byteCount SetBytes.entryAt SetBytes.entryFits SetBytes.bytesBelow

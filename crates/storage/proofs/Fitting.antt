@@ -1,5 +1,5 @@
 -- Each line of a set carries its entry where each entry fits and each initial entry is below the limit on sums, and the other way round.
-use mathlib.Core.Path.{_≡_, sym}
+use mathlib.Core.Path.{_≡_}
 use mathlib.Core.Bool.{true}
 use mathlib.Core.List.{List}
 use Prim.Native.Nat.{ℕ, _+_, _<_}
@@ -8,7 +8,6 @@ use lib.ListN.{length, getD}
 use lib.IntN.{ℤ, pos}
 use borrow.Author.Tests.{lt-leb, leb-false}
 use Rattle.design.specs.declared.Design.{Design}
-use Rattle.design.specs.Cut.{sumLimit}
 use Rattle.design.specs.Stored.{initialCount, offsetTotal}
 use Rattle.tables.specs.Inputs.{Usable}
 use Rattle.encoding.specs.Bytes.{fits, fitsSigned, entryBytes}
@@ -43,7 +42,8 @@ lines-fit d initial offsets initial-fits offset-fits n h =
 
 module _ (t : TableSet) where
   -- A set that can be written: each of its lines carries its entry,
-  pub storable-lines : Storable t → (n : ℕ) → n < lineCount (t .design) → Carried (t .design) (slotOf (t .design) n) (t .initial) (t .offsets)
+  pub storable-lines : Storable t → (n : ℕ) → n < lineCount (t .design)
+      → Carried (t .design) (slotOf (t .design) n) (t .initial) (t .offsets)
   unfolding entryOver entryNumber offsetSlot
   storable-lines ok n h =
       let d = t .design in
@@ -67,5 +67,6 @@ module _ (t : TableSet) where
       record {
         usable = usable;
         fits = λ n h. entries n h .fits;
-        below = λ index h. leb-false _ _ (rw (slot-initial d (index + 1) index (omega arith) h) at (entries (index + 1) (omega arith) .below));
+        below = λ index h.
+            leb-false _ _ (rw (slot-initial d (index + 1) index (omega arith) h) at (entries (index + 1) (omega arith) .below));
       }

@@ -1,6 +1,6 @@
--- Demand 2: "Written lines read back to the same set, and a finished reading came from exactly the lines the writer gives." Document 02, A4,
--- of an initial entry that is 2^(P+2) or more: "A set with such an entry no longer has a stored form, so reading back and writing match over
--- the remaining sets."
+-- Demand 2: "Written lines read back to the same set, and a finished reading came from exactly the lines the writer gives." Document 02,
+-- A4, of an initial entry that is 2^(P+2) or more: "A set with such an entry no longer has a stored form, so reading back and writing match
+-- over the remaining sets."
 use mathlib.Core.Path.{_≡_}
 use mathlib.Core.List.{List, _++_}
 use Prim.Native.Nat.{ℕ, _≤_, _<_}

@@ -89,7 +89,8 @@ module _ (d : Design) (initial : List ℕ) (offsets : List ℤ) (n buffer : ℕ)
     -- and for one within it 18 and 23 of the entry are left, and then 14.
     within-set : n < lineCount d
         → writeVerdict d initial offsets n buffer
-        ≡ after (verdict (askedChecks d (slotOf d n) initial offsets)) (verdict (roomCheck (length (lineAt d initial offsets n)) buffer ∷ []))
+        ≡ after (verdict (askedChecks d (slotOf d n) initial offsets))
+        (verdict (roomCheck (length (lineAt d initial offsets n)) buffer ∷ []))
     unfolding numberCheck
     within-set h = set-settles ∙ rw (lt-leb _ _ h) (verdict-append (askedChecks d (slotOf d n) initial offsets) _)
 

@@ -1,6 +1,6 @@
 -- `writing::asked_verdict` meets its contract: it is the verdict of `askedChecks`, case by case.
-use mathlib.Core.Path.{_≡_, ap, _∙_}
-use mathlib.Core.Bool.{Bool, false}
+use mathlib.Core.Path.{ap, _∙_}
+use mathlib.Core.Bool.{false}
 use borrow.Author.Needs.{needs}
 use mir.Syntax.{w32}
 use mir.ValLaws.{toZ-ofZ}
@@ -32,14 +32,20 @@ returns-2 : tie.Need-returns-2
 unfolding askedChecks entryFits entryOver entryNumber
 returns-2 c =
     let over = c .before in
-    rw (over .before .before .before .before .slot .given .1, c .entry-verdict .ensures, over .before .fits2 .ensures, over .initial-over .ensures)
+    rw (
+      over .before .before .before .before .slot .given .1,
+      c .entry-verdict .ensures,
+      over .before .fits2 .ensures,
+      over .initial-over .ensures,
+    )
 
 returns-3 : tie.Need-returns-3
 unfolding askedChecks entryFits entryOver
 returns-3 c =
     let read = toZ-ofZ w32 _ (record { sfits = c .before .before .fits-signed-arg .given }) in
+    let fits = c .before .fits-signed .ensures ∙ ap (fitsSigned entryBytes) read in
     rw (c .before .before .before .before .slot2 .given .1)
-    (c .entry-verdict2 .ensures ∙ ap (λ fits. verdict (entryChecks fits false)) (c .before .fits-signed .ensures ∙ ap (fitsSigned entryBytes) read))
+    (c .entry-verdict2 .ensures ∙ ap (λ fits. verdict (entryChecks fits false)) fits)
 
 returns-4 : tie.Need-returns-4
 unfolding askedChecks entryChecks entryFits entryOver
