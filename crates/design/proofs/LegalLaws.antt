@@ -1,18 +1,20 @@
 -- What legality tells of a design.
-use mathlib.Core.Path.{_≡_}
+use mathlib.Core.Path.{_≡_, _∙_}
 use mathlib.Core.Bool.{false}
 use Prim.Native.Nat.{ℕ, _+_, _-_, _≤_, _<_}
 use native.Mathlib.Omega.{arith}
 use lib.Pow.{pow-mono}
-use borrow.Author.Tests.{ltb-false, leb-false, eqb-true, not-false}
+use borrow.Author.Tests.{ltb-false, leb-false, le-ltb, lt-leb, eqb-true, eq-eqb, not-false}
 use Rattle.general.proofs.Tests.{neither}
-use Rattle.general.proofs.Sums.{none-below, sum-step}
-use Rattle.refusal.proofs.Checks.{passed-append, none-fails, inside}
+use Rattle.general.proofs.Sums.{none-below, none-of, sum-step}
+use Rattle.refusal.proofs.Checks.{verdict-append, passed-append, none-fails, inside, not-outside}
+use Rattle.refusal.specs.declared.Verdict.{Verdict}
+use Rattle.refusal.specs.Checks.{verdict}
 use Rattle.values.specs.Rows.{Lawful}
 use Rattle.values.specs.Room.{Room, finestUnit, entryBound}
 use Rattle.values.specs.Inputs.{SlopeInput}
 use Rattle.values.specs.Widths.{limitsOf, widthChecks}
-use Rattle.values.proofs.WidthLaws.{Widths, widths-of}
+use Rattle.values.proofs.WidthLaws.{Widths, widths-of, within-passes}
 use Rattle.design.specs.declared.Design.{Design}
 use Rattle.design.specs.declared.legal.TableRule.{TableRule}
 use Rattle.design.specs.Limits.{leastInitialBits, mostInitialBits, mostTables, mostOffsetBits, mostTableBits}
@@ -69,6 +71,32 @@ module _ (d : Design) where
             (none-below (d .m) (tableBreaks TableRule.OffsetBits d) (p .1 .1 .1 .0) i h);
         cut = eqb-true _ _ (not-false _ (p .1 .1 .1 .1 .0));
       }
+
+  -- and the other way round
+  keeps : (i : ℕ) → Within d i → (tableBreaks TableRule.SegmentBits d i ≡ false) × (tableBreaks TableRule.OffsetBits d i ≡ false)
+  unfolding tableBreaks breaks
+  keeps i t = (
+    not-outside 1 (d .alpha) (aOf d i) (t .a-low) (t .a-high),
+    rw (not-outside 1 mostOffsetBits (bOf d i) (t .b-low) (t .b-high), le-ltb mostTableBits (aOf d i + bOf d i) (t .sum-high)),
+  )
+
+  cut-passes : Limits d → verdict (cutChecks d) ≡ Verdict.Passed
+  unfolding cutChecks
+  cut-passes l =
+      rw (
+        not-outside leastInitialBits mostInitialBits (d .alpha) (l .alpha-low) (l .alpha-high),
+        lt-leb (d .w) (d .alpha) (l .alpha-below),
+        not-outside 1 mostTables (d .m) (l .m-low) (l .m-high),
+        none-of (d .m) (tableBreaks TableRule.SegmentBits d) (λ i h. keeps i (l .table i h) .0),
+        none-of (d .m) (tableBreaks TableRule.OffsetBits d) (λ i h. keeps i (l .table i h) .1),
+        eq-eqb _ _ (l .cut),
+      )
+
+  pub legal-of : Limits d → Legal d
+  unfolding designVerdict designChecks
+  legal-of l =
+      verdict-append (widthChecks (limitsOf (d .kind)) (d .kind) (d .w) (d .q) (d .g)) (cutChecks d)
+      ∙ rw (within-passes (limitsOf (d .kind)) (d .kind) (d .w) (d .q) (d .g) (l .widths .within)) (cut-passes l)
 
 -- What the calls of the values ask, at a legal design
 module _ (d : Design) (l : Limits d) where

@@ -3,4 +3,5 @@ pub mod LegalLaws
 pub mod CutLaws
 pub mod StoredLaws
 pub mod BudgetLaws
+pub mod SameLaws
 pub mod Opened

@@ -32,6 +32,9 @@ pub record Admitted (d : Design) : Type 0 where
   pub legal : Legal d
   pub within : budget d < limit d
 
--- "The size in bits is 24 times the number of entries."
+-- "The size in bits is 24 times the number of entries.": of so many entries, and of all
+abbrev pub bitsOf : ℕ → ℕ
+bitsOf entries = 24 * entries
+
 unfoldable pub size : Design → ℕ
-size d = 24 * (initialCount d + offsetTotal d)
+size d = bitsOf (initialCount d + offsetTotal d)

@@ -4,7 +4,7 @@ use mathlib.Core.Bool.{Bool, true, false}
 use mathlib.Core.List.{List, [], _∷_, _++_}
 use Prim.Native.Nat.{ℕ, _≤_}
 use native.Mathlib.Omega.{arith}
-use borrow.Author.Tests.{ltb-false}
+use borrow.Author.Tests.{ltb-false, le-ltb}
 use lib.Dec.{ltb}
 use Rattle.general.proofs.Tests.{neither}
 use Rattle.refusal.specs.declared.Cause.{Cause}
@@ -55,3 +55,7 @@ passed-append first second e = both-passed (verdict first) (verdict second) (sym
 -- A number that is not outside lies between the two ends.
 pub inside : (low high n : ℕ) → outside low high n ≡ false → (low ≤ n) × (n ≤ high)
 inside low high n e = let b = neither (ltb n low) (ltb high n) e in (ltb-false n low (b .0), ltb-false high n (b .1))
+
+-- and the other way round
+pub not-outside : (low high n : ℕ) → low ≤ n → n ≤ high → outside low high n ≡ false
+not-outside low high n from to = rw (le-ltb n low from, le-ltb high n to)

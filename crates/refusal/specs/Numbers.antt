@@ -31,6 +31,8 @@ numberOf Cause.Record = 21
 numberOf Cause.RecordDue = 22
 -- document 02, A4
 numberOf Cause.InitialRange = 23
+-- document 02, A5
+numberOf Cause.NoneAdmitted = 24
 
 -- The number of a verdict; 0 where nothing is turned down.
 abbrev pub verdictNumber : Verdict → ℕ

@@ -27,6 +27,7 @@ pub enum Cause {
     Record,
     RecordDue,
     InitialRange,
+    NoneAdmitted,
 }
 
 // What a list of checks comes to: nothing turned the input down, or the first check that did.
@@ -63,6 +64,7 @@ pub fn number(cause: Cause) -> u8
         Cause::Record => 21,
         Cause::RecordDue => 22,
         Cause::InitialRange => 23,
+        Cause::NoneAdmitted => 24,
     }
 }
 

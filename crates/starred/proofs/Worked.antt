@@ -94,7 +94,7 @@ causes =
     Cause.Kind ∷ Cause.InputWidth ∷ Cause.OutputWidth ∷ Cause.GuardBits ∷ Cause.InitialBits ∷ Cause.TableCount ∷ Cause.SegmentBits
     ∷ Cause.OffsetBits ∷ Cause.CutSum ∷ Cause.TablesShort ∷ Cause.NotAdmitted ∷ Cause.WordRange ∷ Cause.SumRange ∷ Cause.OutputShort
     ∷ Cause.Line ∷ Cause.Frame ∷ Cause.State ∷ Cause.EntryWidth ∷ Cause.LineNumber ∷ Cause.AddressRange ∷ Cause.Record ∷ Cause.RecordDue
-    ∷ Cause.InitialRange ∷ []
+    ∷ Cause.InitialRange ∷ Cause.NoneAdmitted ∷ []
 
 -- G's first line
 abbrev G-line : String
@@ -180,7 +180,7 @@ number-in-none taken line = verdictNumber (verdictOn (session (record { design =
 pub record Worked : Type 0 where
   -- Every cause's number
   pub numbers : map numberOf causes
-      ≡ 1 ∷ 2 ∷ 3 ∷ 4 ∷ 5 ∷ 6 ∷ 7 ∷ 8 ∷ 9 ∷ 10 ∷ 11 ∷ 12 ∷ 13 ∷ 14 ∷ 15 ∷ 16 ∷ 17 ∷ 18 ∷ 19 ∷ 20 ∷ 21 ∷ 22 ∷ 23 ∷ []
+      ≡ 1 ∷ 2 ∷ 3 ∷ 4 ∷ 5 ∷ 6 ∷ 7 ∷ 8 ∷ 9 ∷ 10 ∷ 11 ∷ 12 ∷ 13 ∷ 14 ∷ 15 ∷ 16 ∷ 17 ∷ 18 ∷ 19 ∷ 20 ∷ 21 ∷ 22 ∷ 23 ∷ 24 ∷ []
   -- L for g 4, q 8, w 8: kind 2, x 0, and kind 3, x 255
   pub other-kinds : (valueOf 2 8 8 4 0 ≡ Valued.Value (record { 0 = pos 5792 }))
       × (valueOf 3 8 8 4 255 ≡ Valued.Value (record { 0 = pos 2899 }))

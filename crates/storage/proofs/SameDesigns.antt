@@ -22,6 +22,7 @@ use Rattle.design.specs.Same.{Same}
 use Rattle.design.specs.Legal.{tableBreaks, cutChecks, designChecks, designVerdict}
 use Rattle.design.specs.Budget.{reach, tableBudget, budget, limit, withinLimit, size}
 use Rattle.design.specs.Answers.{budgetAnswer, sizeAnswer, budgetTold, sizeTold}
+use Rattle.design.proofs.SameLaws.{with-pairs, only-pairs}
 use Rattle.entries.specs.Entries.{valueAt, endValues, initialAt, hiAt, loAt, offsetAt}
 use Rattle.tables.specs.Sum.{offsetFor, sumAt, sumOutside, wordOf, wordAt}
 use Rattle.tables.specs.Set.{tablesCheck, setChecks}
@@ -82,17 +83,6 @@ ruleset insides = (
   classAt,
   slotOf,
 )
-
--- The design with other pairs
-abbrev with-pairs : Design → List Pair → Design
-with-pairs d pairs = record { kind = d .kind; w = d .w; q = d .q; g = d .g; alpha = d .alpha; m = d .m; pairs = pairs }
-
--- Designs of which the same is read differ in their pairs alone.
-only-pairs : (P : Design → Type 0) (d e : Design) → Same d e
-    → ((pairs : List Pair) → tables d ≡ tables (with-pairs d pairs) → P (with-pairs d pairs)) → P e
-unfolding tables
-only-pairs P d e s p =
-    rw (← s .kind, ← s .w, ← s .q, ← s .g, ← s .alpha, ← s .m) (p (e .pairs) (s .tables ∙ rw (s .m)))
 
 module _ (d e : Design) (s : Same d e) where
   -- how many entries and lines there are

@@ -6,12 +6,12 @@ use Prim.Native.Nat.{ℕ, zero, suc, _+_, _*_, _^_, _≤_, _<_}
 use native.Mathlib.Nat.{le-trans, not-suc-le-zero}
 use native.Mathlib.Decide.{decLt}
 use native.Mathlib.Omega.{arith}
-use borrow.Author.Tests.{leb-true, ltb-false}
+use borrow.Author.Tests.{leb-true, ltb-false, le-ltb}
 use lib.Dec.{leb}
 use Rattle.general.proofs.Tests.{both, neither}
 use Rattle.refusal.specs.declared.Verdict.{Verdict}
 use Rattle.refusal.specs.Checks.{verdict}
-use Rattle.refusal.proofs.Checks.{none-fails, inside}
+use Rattle.refusal.proofs.Checks.{none-fails, inside, not-outside}
 use Rattle.values.specs.declared.widths.Limits.{Limits}
 use Rattle.values.specs.Rows.{rows, kinds, rowOf, Lawful}
 use Rattle.values.specs.Room.{Room, highestDegree, widestWord, finestUnit}
@@ -116,6 +116,18 @@ within-of limits kind w q g e =
       g-high = g-in .1;
       sum-high = ltb-false (limits .sum) (q + g) (g-and-sum .1);
     }
+
+-- and the other way round
+pub within-passes : (limits : Limits) (kind w q g : ℕ) → Within limits kind w q g → verdict (widthChecks limits kind w q g) ≡ Verdict.Passed
+unfolding widthChecks
+within-passes limits kind w q g i =
+    rw (
+      not-outside 0 (limits .kind) kind (omega arith) (i .kind-high),
+      not-outside (limits .w .0) (limits .w .1) w (i .w-low) (i .w-high),
+      not-outside (limits .q .0) (limits .q .1) q (i .q-low) (i .q-high),
+      not-outside (limits .g .0) (limits .g .1) g (i .g-low) (i .g-high),
+      le-ltb (limits .sum) (q + g) (i .sum-high),
+    )
 
 -- No limit lets a kind through that has no row, and a kind fits a byte.
 known : (kind : ℕ) → kind ≤ limitsOf kind .kind → (kind < kinds) × (kinds ≤ 256)

@@ -1,6 +1,6 @@
 -- Document 01, "What is turned down, by place", 1 to 4: the limits of kind and widths, for every call that takes them.
 use mathlib.Core.Bool.{_||_}
-use mathlib.Core.List.{List, [], _∷_}
+use mathlib.Core.List.{List, [], _∷_, _++_}
 use Prim.Native.Nat.{ℕ, _+_}
 use lib.Dec.{ltb}
 use Rattle.refusal.specs.declared.Cause.{Cause}
@@ -18,9 +18,15 @@ limitsOf kind =
       sum = 20;
     }
 
-unfoldable pub widthChecks : Limits → ℕ → ℕ → ℕ → ℕ → List Check
-widthChecks limits kind w q g =
+-- 1 to 3, for every call; and 4, where guard bits are given
+abbrev pub functionChecks : Limits → ℕ → ℕ → ℕ → List Check
+functionChecks limits kind w q =
     outside 0 (limits .kind) kind ↝ Cause.Kind ∷
     outside (limits .w .0) (limits .w .1) w ↝ Cause.InputWidth ∷
-    outside (limits .q .0) (limits .q .1) q ↝ Cause.OutputWidth ∷
-    (outside (limits .g .0) (limits .g .1) g || ltb (limits .sum) (q + g)) ↝ Cause.GuardBits ∷ []
+    outside (limits .q .0) (limits .q .1) q ↝ Cause.OutputWidth ∷ []
+
+abbrev pub guardCheck : Limits → ℕ → ℕ → Check
+guardCheck limits q g = (outside (limits .g .0) (limits .g .1) g || ltb (limits .sum) (q + g)) ↝ Cause.GuardBits
+
+unfoldable pub widthChecks : Limits → ℕ → ℕ → ℕ → ℕ → List Check
+widthChecks limits kind w q g = functionChecks limits kind w q ++ guardCheck limits q g ∷ []

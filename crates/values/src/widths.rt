@@ -1,7 +1,7 @@
 // Refusals 1 to 4, the limits of kind and widths, for every call that takes them.
 ghost use mathlib.Core.Path.{_≡_};
 ghost use Rattle.refusal.specs.Checks.{verdict};
-ghost use Rattle.values.specs.Widths.{limitsOf, widthChecks};
+ghost use Rattle.values.specs.Widths.{limitsOf, functionChecks, widthChecks};
 use refusal::Cause;
 use refusal::Verdict;
 use refusal::outside;
@@ -31,9 +31,9 @@ pub fn limits_of(kind: u32) -> Limits
     }
 }
 
-// The refusals 1 to 4, by the limits. q + g is formed in 64 bits, so that it cannot wrap into legality, whatever the limits.
-pub fn width_verdict(limits: Limits, kind: u32, w: u32, q: u32, g: u32) -> Verdict
-    ensures { λ r. ⌜ r ≡ verdict (widthChecks limits kind w q g) ⌝ }
+// The refusals 1 to 3, by the limits.
+pub fn function_verdict(limits: Limits, kind: u32, w: u32, q: u32) -> Verdict
+    ensures { λ r. ⌜ r ≡ verdict (functionChecks limits kind w q) ⌝ }
 {
     if outside(0, limits.kind, kind) {
         return Verdict::Refused(Cause::Kind);
@@ -43,6 +43,16 @@ pub fn width_verdict(limits: Limits, kind: u32, w: u32, q: u32, g: u32) -> Verdi
     }
     if outside(limits.q.0, limits.q.1, q) {
         return Verdict::Refused(Cause::OutputWidth);
+    }
+    Verdict::Passed
+}
+
+// The refusals 1 to 4, by the limits. q + g is formed in 64 bits, so that it cannot wrap into legality, whatever the limits.
+pub fn width_verdict(limits: Limits, kind: u32, w: u32, q: u32, g: u32) -> Verdict
+    ensures { λ r. ⌜ r ≡ verdict (widthChecks limits kind w q g) ⌝ }
+{
+    if let Verdict::Refused(cause) = function_verdict(limits, kind, w, q) {
+        return Verdict::Refused(cause);
     }
     if outside(limits.g.0, limits.g.1, g) {
         return Verdict::Refused(Cause::GuardBits);

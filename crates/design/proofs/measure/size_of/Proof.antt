@@ -17,7 +17,7 @@ offset-total-requires c κs = c .before .pre
 
 returns : tie.Need-returns
 unfolding size initialCount
-returns c = rw (c .before .pow2 .ensures, c .offset-total .ensures)
+returns c = rw (c .bits-of .ensures, c .before .before .pow2 .ensures, c .before .offset-total .ensures)
 
 -- at most so many initial entries and offsets
 few : (c : tie.After-offset-total) → (c .before .pow2 .result ≤ mostInitial) × (c .offset-total .result ≤ mostOffsets)
@@ -26,11 +26,11 @@ few c =
     let l = limits _ (c .before .before .pre) in
     (rw (c .before .pow2 .ensures) (initial-count-small _ l), rw (c .offset-total .ensures) (offset-total-small _ l))
 
-add-result : tie.Need-add-result
-add-result c = omega (arith, few c)
+add-bits-of : tie.Need-add-bits-of
+add-bits-of c = omega (arith, few c)
 
-mul-result : tie.Need-mul-result
-mul-result c = omega (arith, few c)
+bits-of-requires : tie.Need-bits-of-requires
+bits-of-requires c κs = omega (arith, few c)
 
 pub size-of-spec : {M : Type 1} → statement M
-size-of-spec = tie.close (tie.spec pow2-requires offset-total-requires add-result mul-result returns)
+size-of-spec = tie.close (tie.spec pow2-requires offset-total-requires add-bits-of bits-of-requires returns)
