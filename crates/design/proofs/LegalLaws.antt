@@ -40,7 +40,7 @@ pub record Limits (d : Design) : Type 0 where
   pub cut : position d (d .m) ≡ d .w - d .alpha
 
 module _ (d : Design) where
-  within : (i : ℕ) → tableBreaks TableRule.SegmentBits d i ≡ false → tableBreaks TableRule.OffsetBits d i ≡ false → Within d i
+  pub within : (i : ℕ) → tableBreaks TableRule.SegmentBits d i ≡ false → tableBreaks TableRule.OffsetBits d i ≡ false → Within d i
   unfolding tableBreaks breaks
   within i segment offset =
       let a = inside 1 (d .alpha) (aOf d i) segment in
@@ -73,7 +73,7 @@ module _ (d : Design) where
       }
 
   -- and the other way round
-  keeps : (i : ℕ) → Within d i → (tableBreaks TableRule.SegmentBits d i ≡ false) × (tableBreaks TableRule.OffsetBits d i ≡ false)
+  pub keeps : (i : ℕ) → Within d i → (tableBreaks TableRule.SegmentBits d i ≡ false) × (tableBreaks TableRule.OffsetBits d i ≡ false)
   unfolding tableBreaks breaks
   keeps i t = (
     not-outside 1 (d .alpha) (aOf d i) (t .a-low) (t .a-high),
@@ -106,7 +106,11 @@ module _ (d : Design) (l : Limits d) where
   pub room : Room (row d) (d .w) (fractionBits d)
   room = l .widths .room
 
-  -- The limit on sums is one that the machine has room for.
+  -- g is at most P, so the budget's limit fits,
+  pub guard-small : d .g ≤ finestUnit
+  guard-small = omega (arith, room .s-small)
+
+  -- and the limit on sums is one that the machine has room for.
   pub sum-limit-small : sumLimit d ≤ entryBound
   sum-limit-small = pow-mono {j = finestUnit + 2} (omega (arith, room .s-small))
 

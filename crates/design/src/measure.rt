@@ -1,6 +1,7 @@
 // Budget, limit and size of a legal design.
 ghost use mathlib.Core.Path.{_≡_};
-ghost use Prim.Native.Nat.{_^_, _<_};
+ghost use Prim.Native.Nat.{_^_, _≤_, _<_};
+ghost use Rattle.values.specs.Room.{finestUnit};
 ghost use Rattle.design.specs.Stored.{offsetCount, offsetTotal};
 ghost use Rattle.design.specs.Cut as Cut;
 ghost use Rattle.design.specs.Legal.{Legal};
@@ -37,9 +38,9 @@ pub fn budget_of(d: Design) -> u64
     sum + (m as u64 + 2) * (1 << 17)
 }
 
-// inner: 2^(g+17).
+// inner: 2^(g+17), also of a design whose tables are not chosen yet.
 pub fn limit_of(d: Design) -> u64
-    requires { ⌜ Legal d ⌝ }
+    requires { ⌜ d .g ≤ finestUnit ⌝ }
     ensures { λ r. ⌜ r ≡ limit d ⌝ }
 {
     pow2(d.g + 17)

@@ -2,5 +2,6 @@
 pub mod Tests
 pub mod Sums
 pub mod ListLaws
+pub mod JoinedLaws
 pub mod WritingLaws
 pub mod SignedLaws

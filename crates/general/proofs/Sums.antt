@@ -62,6 +62,12 @@ unfolding sumBelow
 sum-bounded zero B f h = omega arith
 sum-bounded (suc n) B f h = omega (arith, sum-bounded n B f (λ i g. h i (le-step g)), h n (le-refl _))
 
+-- and goes by what its parts are
+pub sum-congruence : (n : ℕ) (f g : ℕ → ℕ) → ((i : ℕ) → i < n → f i ≡ g i) → sumBelow n f ≡ sumBelow n g
+unfolding sumBelow
+sum-congruence zero f g same = refl
+sum-congruence (suc n) f g same = ap₂ _+_ (sum-congruence n f g (λ i h. same i (le-step h))) (same n (le-refl _))
+
 -- One number more: a test that fails there leaves the answer, one that holds settles it.
 pub some-here : (n : ℕ) (test : ℕ → Bool) → test n ≡ true → someBelow (n + 1) test ≡ true
 unfolding someBelow

@@ -1,7 +1,8 @@
 -- Over the numbers below n, from 0 upwards: a sum, a sum of signed numbers, the largest, whether some pass a test, how many do, the list.
+-- And over the numbers from one to another: the lists that they give.
 use mathlib.Core.Bool.{Bool, false, cond, _||_}
 use mathlib.Core.List.{List, [], _∷_, _++_}
-use Prim.Native.Nat.{ℕ, zero, suc, _+_, max}
+use Prim.Native.Nat.{ℕ, zero, suc, _+_, _-_, max}
 use lib.IntN.{ℤ, pos, _+ℤ_}
 
 unfoldable pub sumBelow : ℕ → (ℕ → ℕ) → ℕ
@@ -30,3 +31,12 @@ countBelow (suc n) test = countBelow n test + cond (test n) 1 0
 unfoldable pub listBelow : {A : Type 0} → ℕ → (ℕ → A) → List A
 listBelow zero f = []
 listBelow (suc n) f = listBelow n f ++ (f n ∷ [])
+
+-- What f gives for n numbers from `low` on, one list after another
+unfoldable pub joined : {A : Type 0} → ℕ → ℕ → (ℕ → List A) → List A
+joined low zero f = []
+joined low (suc n) f = joined low n f ++ f (low + n)
+
+-- The same for each number from `low` to `high`
+abbrev pub forEach : {A : Type 0} → ℕ → ℕ → (ℕ → List A) → List A
+forEach low high f = joined low (high + 1 - low) f

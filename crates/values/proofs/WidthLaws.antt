@@ -1,5 +1,5 @@
 -- What the checks of kind and widths leave, and the laws of the rows, computed over their table once.
-use mathlib.Core.Path.{_≡_, refl}
+use mathlib.Core.Path.{_≡_, refl, _∙_}
 use mathlib.Core.Bool.{Bool, true, _&&_, cond}
 use mathlib.Core.List.{List, [], _∷_}
 use Prim.Native.Nat.{ℕ, zero, suc, _+_, _*_, _^_, _≤_, _<_}
@@ -11,11 +11,11 @@ use lib.Dec.{leb}
 use Rattle.general.proofs.Tests.{both, neither}
 use Rattle.refusal.specs.declared.Verdict.{Verdict}
 use Rattle.refusal.specs.Checks.{verdict}
-use Rattle.refusal.proofs.Checks.{none-fails, inside, not-outside}
+use Rattle.refusal.proofs.Checks.{verdict-append, none-fails, inside, not-outside}
 use Rattle.values.specs.declared.widths.Limits.{Limits}
 use Rattle.values.specs.Rows.{rows, kinds, rowOf, Lawful}
 use Rattle.values.specs.Room.{Room, highestDegree, widestWord, finestUnit}
-use Rattle.values.specs.Widths.{limitsOf, widthChecks}
+use Rattle.values.specs.Widths.{limitsOf, functionChecks, guardCheck, widthChecks}
 use Rattle.values.proofs.Bounds.{coarser, narrower}
 
 -- Every first number of a list is at most its second, as a test and as a fact.
@@ -128,6 +128,20 @@ within-passes limits kind w q g i =
       not-outside (limits .g .0) (limits .g .1) g (i .g-low) (i .g-high),
       le-ltb (limits .sum) (q + g) (i .sum-high),
     )
+
+-- Kind, w and q that pass, with guard bits within the limits
+pub guard-passes : (limits : Limits) (kind w q g : ℕ) → verdict (functionChecks limits kind w q) ≡ Verdict.Passed → limits .g .0 ≤ g
+    → g ≤ limits .g .1 → q + g ≤ limits .sum → verdict (widthChecks limits kind w q g) ≡ Verdict.Passed
+unfolding widthChecks
+guard-passes limits kind w q g passed low high few =
+    verdict-append (functionChecks limits kind w q) (guardCheck limits q g ∷ [])
+    ∙ rw (passed, not-outside (limits .g .0) (limits .g .1) g low high, le-ltb (limits .sum) (q + g) few)
+
+pub function-within : (limits : Limits) (kind w q : ℕ) → verdict (functionChecks limits kind w q) ≡ Verdict.Passed
+    → (w ≤ limits .w .1) × (q ≤ limits .q .1)
+function-within limits kind w q passed =
+    let p = none-fails (functionChecks limits kind w q) passed in
+    (inside (limits .w .0) (limits .w .1) w (p .1 .0) .1, inside (limits .q .0) (limits .q .1) q (p .1 .1 .0) .1)
 
 -- No limit lets a kind through that has no row, and a kind fits a byte.
 known : (kind : ℕ) → kind ≤ limitsOf kind .kind → (kind < kinds) × (kinds ≤ 256)

@@ -5,6 +5,7 @@ use borrow.Author.Needs.{needs}
 use lib.ListN.{length}
 use Rattle.refusal.specs.declared.Verdict.{Verdict}
 use Rattle.refusal.specs.Checks.{verdict}
+use Rattle.design.proofs.LegalLaws.{limits, guard-small}
 use Rattle.tables.specs.Inputs.{Usable}
 use Rattle.tables.specs.Set.{setChecks}
 use Rattle.tables.proofs.SetLaws.{usable}
@@ -29,7 +30,7 @@ set : (c : tie.After-enum-told) → let a = c .before .before .before .before .a
 set c = usable _ _ _ (passed c)
 
 limit-of-requires : tie.Need-limit-of-requires
-limit-of-requires c κs = set c .legal
+limit-of-requires c κs = guard-small _ (limits _ (set c .legal))
 
 budget-of-requires : tie.Need-budget-of-requires
 budget-of-requires c κs = set (c .before) .legal

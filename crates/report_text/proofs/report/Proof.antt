@@ -9,6 +9,7 @@ use Rattle.design.specs.Legal.{Legal}
 use lib.Dec.{ltb}
 use lib.ListN.{length}
 use Rattle.design.specs.Budget.{budget, limit, withinLimit, size}
+use Rattle.design.proofs.LegalLaws.{limits, guard-small}
 use Rattle.frames.specs.Hex.{bytesOf}
 use Rattle.frames.specs.Line.{lineChecks}
 use Rattle.frames.specs.DesignFrame.{frameDesign, firstChecks}
@@ -73,7 +74,7 @@ budget-of-requires : tie.Need-budget-of-requires
 budget-of-requires c κs = legal c
 
 limit-of-requires : tie.Need-limit-of-requires
-limit-of-requires c κs = legal (c .before)
+limit-of-requires c κs = guard-small _ (limits _ (legal (c .before)))
 
 size-of-requires : tie.Need-size-of-requires
 size-of-requires c κs = legal (c .before .before)

@@ -1,15 +1,14 @@
--- `design::measure::limit_of` meets its contract: g is at most P, which is small.
+-- `design::measure::limit_of` meets its contract.
 use native.Mathlib.Omega.{arith}
 use Rattle.design.specs.Budget.{limit}
-use Rattle.design.proofs.LegalLaws.{limits}
 use Rattle.design.proofs.measure.limit_of.Statement.{statement}
 use Rattle.design.proofs.measure.limit_of.Tie as tie
 
 add-pow2 : tie.Need-add-pow2
-add-pow2 c = omega (arith, limits _ (c .before .pre) .widths)
+add-pow2 c = omega (arith, c .before .pre)
 
 pow2-requires : tie.Need-pow2-requires
-pow2-requires c κs = omega (arith, limits _ (c .before .pre) .widths)
+pow2-requires c κs = omega (arith, c .before .pre)
 
 returns : tie.Need-returns
 unfolding limit

@@ -1,0 +1,124 @@
+-- `searching::widths::each_initial_bits` meets its contract: before the turn of alpha, the best is that of all alpha before it.
+use mathlib.Core.Path.{_≡_, refl, sym, _∙_}
+use mathlib.Core.List.{List}
+use Prim.Native.Nat.{ℕ, _+_, _-_, _≤_, _<_, min}
+use borrow.Author.Count.{falls}
+use borrow.Author.Needs.{needs}
+use native.Mathlib.Omega.{arith}
+use Rattle.general.specs.Below.{joined, forEach}
+use Rattle.refusal.specs.declared.Verdict.{Verdict}
+use Rattle.refusal.specs.Checks.{verdict}
+use Rattle.values.specs.Widths.{limitsOf, widthChecks}
+use Rattle.values.proofs.WidthLaws.{widths-of}
+use Rattle.design.specs.declared.Design.{Design}
+use Rattle.design.specs.Limits.{leastInitialBits, mostInitialBits, mostTables}
+use Rattle.searching.specs.declared.Sized.{Sized}
+use Rattle.searching.specs.Designs.{bare, continued}
+use Rattle.searching.specs.Best.{bestOf}
+use Rattle.searching.specs.Search.{Unbegun, SpreadsFor, SpreadsOf, withTables}
+use Rattle.searching.proofs.BestLaws.{best-first, best-one, best-rest}
+use Rattle.searching.proofs.BeginLaws.{by-alpha, no-alpha}
+use Rattle.searching.proofs.widths.each_initial_bits.Statement.{statement}
+use Rattle.searching.proofs.widths.each_initial_bits.Tie as tie
+
+record Inv (kind w q g : ℕ) (spreads : List ℕ) (best found : Sized) (alpha : ℕ) : Type 0 where
+  low : leastInitialBits ≤ alpha
+  high : alpha ≤ mostInitialBits + 1
+  known : SpreadsOf kind w (q + g) spreads
+  so-far : bestOf best (joined leastInitialBits (alpha - leastInitialBits) (by-alpha kind w q g)) ≡ found
+
+module _ (kind w q g end : ℕ) (passed : verdict (widthChecks (limitsOf kind) kind w q g) ≡ Verdict.Passed)
+    (end-is : end ≡ min w (mostInitialBits + 1)) where
+  begin : (spreads : List ℕ) (best : Sized) → SpreadsOf kind w (q + g) spreads → Inv kind w q g spreads best best leastInitialBits
+  begin spreads best known =
+      record { low = omega arith; high = omega arith; known = known; so-far = best-first leastInitialBits (by-alpha kind w q g) best }
+
+  -- the design of which alpha is chosen
+  module _ (alpha : ℕ) (low : leastInitialBits ≤ alpha) (below : alpha < end) (made : Design) (is : made ≡ bare kind w q g alpha 0) where
+    unbegun : Unbegun made
+    unfolding bare
+    unbegun =
+        rw is
+        (record { widths = passed; alpha-low = low; alpha-high = omega (arith, end-is, below); alpha-below = omega (arith, end-is, below) })
+
+    spreads-kept : (spreads : List ℕ) → SpreadsOf kind w (q + g) spreads → SpreadsFor made spreads
+    unfolding bare
+    spreads-kept spreads known = rw is known
+
+    turn : (spreads : List ℕ) (best found now : Sized) → Inv kind w q g spreads best found alpha
+        → now ≡ bestOf found (forEach 1 mostTables (λ m. continued m (withTables made m) 0)) → Inv kind w q g spreads best now (alpha + 1)
+    unfolding bare
+    turn spreads best found now inv e =
+        record {
+          low = omega arith;
+          high = omega (arith, end-is, below);
+          known = inv .known;
+          so-far = best-one leastInitialBits (by-alpha kind w q g) best found alpha low (inv .so-far) ∙ sym (rw is at e);
+        }
+
+  done : (spreads : List ℕ) (best found : Sized) (alpha : ℕ) → Inv kind w q g spreads best found alpha → end ≤ alpha
+      → bestOf best (forEach leastInitialBits mostInitialBits (by-alpha kind w q g)) ≡ found
+  done spreads best found alpha inv ended =
+      best-rest leastInitialBits (by-alpha kind w q g) best found alpha (mostInitialBits + 1) (inv .low) (inv .high)
+      (inv .so-far) (λ other from to. no-alpha kind w q g found other (omega (arith, end-is, ended, from, to)))
+
+abbrev Inv-loop : tie.InvT-loop
+Inv-loop kind w q g spreads end found₀ alpha₀ found alpha = Inv kind w q g spreads found₀ found alpha
+
+abbrev μ-loop : tie.MeasureT-loop
+μ-loop kind w q g spreads end found₀ alpha₀ found alpha = end - alpha
+
+returns : tie.Need-returns Inv-loop μ-loop
+returns c =
+    let smaller = c .before .before in
+    sym (done _ _ _ _ _ (smaller .before .before .pre) (smaller .smaller .ensures) _ _ _ _ (c .before .loop .inv) (c .loop-test .left))
+
+loop-again : tie.Need-loop-again Inv-loop μ-loop
+loop-again c =
+    let loop = c .before .before .before in
+    let smaller = loop .before .before in
+    turn _ _ _ _ _ (smaller .before .before .pre) (smaller .smaller .ensures) _ (loop .before .loop .inv .low) (loop .loop-test .taken) _
+    (c .before .bare .ensures) _ _ _ _ (loop .before .loop .inv) (c .each-table-count .ensures)
+
+spreads-of-requires : tie.Need-spreads-of-requires Inv-loop μ-loop
+spreads-of-requires c κs = c .pre
+
+loop-holds : tie.Need-loop-holds Inv-loop μ-loop
+loop-holds c = begin _ _ _ _ _ (c .before .before .pre) (c .smaller .ensures) _ _ (c .before .spreads-of .ensures)
+
+slice-aggregate-each-table-count : tie.Need-slice-aggregate-each-table-count Inv-loop μ-loop
+slice-aggregate-each-table-count c = sym (c .before .before .loop .inv .known .long)
+
+each-table-count-requires : tie.Need-each-table-count-requires Inv-loop μ-loop
+each-table-count-requires c κs =
+    let loop = c .before .before in
+    let smaller = loop .before .before in
+    let inv = loop .before .loop .inv in (
+      unbegun _ _ _ _ _ (smaller .before .before .pre) (smaller .smaller .ensures) _ (inv .low) (loop .loop-test .taken) _ (c .bare .ensures),
+      spreads-kept _ _ _ _ _ (smaller .before .before .pre) (smaller .smaller .ensures) _ (inv .low) (loop .loop-test .taken) _ (c .bare .ensures) _
+          (inv .known),
+    )
+
+add-alpha : tie.Need-add-alpha Inv-loop μ-loop
+add-alpha c = omega (arith, c .before .before .before .before .loop .inv .high)
+
+loop-less : tie.Need-loop-less Inv-loop μ-loop
+loop-less c = falls _ _ (c .before .before .before .loop-test .taken)
+
+pub each-initial-bits-spec : {M : Type 1} → statement M
+each-initial-bits-spec =
+    tie.close
+    (tie.spec
+    Inv-loop
+    μ-loop
+    spreads-of-requires
+    (λ c. search needs)
+    (λ c κs. search needs)
+    loop-holds
+    slice-aggregate-each-table-count
+    (λ c κs. search needs)
+    each-table-count-requires
+    add-alpha
+    loop-less
+    loop-again
+    returns)

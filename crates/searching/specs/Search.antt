@@ -1,0 +1,98 @@
+-- What inner calls of the search promise each other, and may count on.
+use mathlib.Core.Bool.{false}
+use mathlib.Core.List.{List}
+use mathlib.Core.Path.{_≡_}
+use Prim.Native.Nat.{ℕ, _+_, _-_, _*_, _^_, _≤_, _<_}
+use lib.ListN.{length, getD}
+use Rattle.general.specs.Below.{sumBelow}
+use Rattle.refusal.specs.declared.Verdict.{Verdict}
+use Rattle.refusal.specs.Checks.{verdict}
+use Rattle.values.specs.Rows.{rowOf}
+use Rattle.values.specs.Slopes.{largestSpread}
+use Rattle.values.specs.Widths.{limitsOf, widthChecks}
+use Rattle.design.specs.declared.Design.{Design}
+use Rattle.design.specs.declared.legal.TableRule.{TableRule}
+use Rattle.design.specs.Limits.{leastInitialBits, mostInitialBits, mostTables, mostOffsetBits, mostTableBits}
+use Rattle.design.specs.Cut.{row, fractionBits, position}
+use Rattle.design.specs.Stored.{initialCount, tableStart}
+use Rattle.design.specs.Legal.{tableBreaks}
+use Rattle.design.specs.Budget.{tableBudget, limit, bitsOf}
+use Rattle.searching.specs.declared.prefix.Prefix.{Prefix}
+use Rattle.searching.specs.Designs.{bare}
+
+-- The size and the budget of a design's first i tables, with all that is not a table's: at i = m its size and its budget
+unfoldable pub sizeBefore : Design → ℕ → ℕ
+sizeBefore d i = bitsOf (initialCount d + tableStart d i)
+
+unfoldable pub budgetBefore : Design → ℕ → ℕ
+budgetBefore d i = sumBelow i (tableBudget d) + (d .m + 2) * 2 ^ 17
+
+-- What is kept of a design whose first i pairs are chosen
+abbrev pub prefixOf : Design → ℕ → Prefix
+prefixOf d i = record { design = d; tables = i; position = position d i; bits = sizeBefore d i; budget = budgetBefore d i }
+
+-- A design with an initial table, and so many tables as are still to be chosen
+pub record Begun (d : Design) : Type 0 where
+  pub widths : verdict (widthChecks (limitsOf (d .kind)) (d .kind) (d .w) (d .q) (d .g)) ≡ Verdict.Passed
+  pub alpha-low : leastInitialBits ≤ d .alpha
+  pub alpha-high : d .alpha ≤ mostInitialBits
+  pub alpha-below : d .alpha < d .w
+  pub m-low : 1 ≤ d .m
+  pub m-high : d .m ≤ mostTables
+  pub places : length (d .pairs) ≡ mostTables
+
+-- A design whose first i tables break no rule, leave bits for the others, and not too many, and are within the limit
+pub record Open (d : Design) (i : ℕ) : Type 0 where
+  pub begun : Begun d
+  pub chosen : i ≤ d .m
+  pub tables : (rule : TableRule) (j : ℕ) → j < i → tableBreaks rule d j ≡ false
+  pub left-low : position d i + (d .m - i) ≤ d .w - d .alpha
+  pub left-high : d .w - d .alpha ≤ position d i + (d .m - i) * mostOffsetBits
+  pub within : budgetBefore d i < limit d
+
+-- A pair for table i that keeps the rules, leaves bits for the later tables, and not too many
+pub record Fitting (d : Design) (i a b : ℕ) : Type 0 where
+  pub a-low : 1 ≤ a
+  pub a-high : a ≤ d .alpha
+  pub b-low : 1 ≤ b
+  pub b-high : b ≤ mostOffsetBits
+  pub sum-high : a + b ≤ mostTableBits
+  pub left-low : position d i + b + (d .m - (i + 1)) ≤ d .w - d .alpha
+  pub left-high : d .w - d .alpha ≤ position d i + b + (d .m - (i + 1)) * mostOffsetBits
+
+-- What is kept is that of a design with a table to choose.
+pub record Next (prefix : Prefix) : Type 0 where
+  pub is : prefix ≡ prefixOf (prefix .design) (prefix .tables)
+  pub so-far : Open (prefix .design) (prefix .tables)
+  pub more : prefix .tables < prefix .design .m
+
+-- "the largest Hi - Lo over all A_i" by a: a table has at least one bit of B, so a is below the highest a + b.
+pub record SpreadsOf (kind w P : ℕ) (spreads : List ℕ) : Type 0 where
+  pub long : length spreads ≡ mostTableBits
+  pub at : (a : ℕ) → 1 ≤ a → a < mostTableBits → a < w → getD spreads a 0 ≡ largestSpread (rowOf kind) w P a
+
+abbrev pub SpreadsFor : Design → List ℕ → Type 0
+SpreadsFor d spreads = SpreadsOf (d .kind) (d .w) (fractionBits d) spreads
+
+-- A number that the largest Hi - Lo of no table is below
+abbrev pub Least : Design → ℕ → Type 0
+Least d least = (a : ℕ) → 1 ≤ a → a ≤ d .alpha → a < mostTableBits → least ≤ largestSpread (row d) (d .w) (fractionBits d) a
+
+-- What all tables from position p on add to the budget at least: their D_i add up to 2^(w-alpha) - 2^p.
+unfoldable pub restFrom : Design → ℕ → ℕ → ℕ
+restFrom d least p = (2 ^ (d .w - d .alpha) - 2 ^ p) * least
+
+-- The same of the spreads in a list, by a up to alpha
+abbrev pub LeastOf : List ℕ → ℕ → ℕ → Type 0
+LeastOf spreads alpha least = (a : ℕ) → 1 ≤ a → a ≤ alpha → a < mostTableBits → least ≤ getD spreads a 0
+
+-- A design of which neither the tables nor their number is chosen
+pub record Unbegun (d : Design) : Type 0 where
+  pub widths : verdict (widthChecks (limitsOf (d .kind)) (d .kind) (d .w) (d .q) (d .g)) ≡ Verdict.Passed
+  pub alpha-low : leastInitialBits ≤ d .alpha
+  pub alpha-high : d .alpha ≤ mostInitialBits
+  pub alpha-below : d .alpha < d .w
+
+-- and with so many tables
+abbrev pub withTables : Design → ℕ → Design
+withTables d m = bare (d .kind) (d .w) (d .q) (d .g) (d .alpha) m
