@@ -26,6 +26,10 @@ pub all-weaker : {A : Type 0} {P Q : A → Type 0} → ((x : A) → P x → Q x)
 all-weaker f [] all = tt
 all-weaker f (x ∷ xs) all = (f x (all .0), all-weaker f xs (all .1))
 
+pub some-weaker : {A : Type 0} {P Q : A → Type 0} → ((x : A) → P x → Q x) → (xs : List A) → Some P xs → Some Q xs
+some-weaker f [] some = some
+some-weaker f (x ∷ xs) some = ⊎-elim (λ here. inl (f x here)) (λ there. inr (some-weaker f xs there)) some
+
 module _ {A : Type 0} (P : A → Type 0) where
   pub all-append : (xs ys : List A) → All P xs → All P ys → All P (xs ++ ys)
   all-append [] ys left right = right

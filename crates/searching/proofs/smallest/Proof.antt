@@ -1,28 +1,23 @@
 -- `searching::smallest` meets its contract: a refusal of kind, w or q stands, and then the best design tells whether there is one.
-use mathlib.Core.Path.{_≡_, refl, sym, ap, _∙_}
-use mathlib.Core.Bool.{not}
-use mathlib.Core.List.{[], _∷_}
+use mathlib.Core.Path.{_≡_, sym, _∙_}
 use Prim.Native.Nat.{ℕ, _≤_, _<_}
 use borrow.Author.Needs.{needs}
-use borrow.Author.Tests.{lt-ltb, le-ltb}
-use lib.Dec.{ltb}
 use Rattle.refusal.specs.declared.Cause.{Cause}
 use Rattle.refusal.specs.declared.Verdict.{Verdict}
-use Rattle.refusal.specs.Checks.{_↝_, verdict}
-use Rattle.refusal.proofs.Checks.{verdict-append}
+use Rattle.refusal.specs.Checks.{verdict}
 use Rattle.values.specs.Widths.{limitsOf, functionChecks}
 use Rattle.searching.specs.declared.Sized.{Sized}
 use Rattle.searching.specs.declared.Found.{Found}
 use Rattle.searching.specs.Best.{
   noBits,
   smallestOf,
-  smallestChecks,
   smallestVerdict,
   refusedWith,
   smallestAnswer,
   toldBy,
   smallestTold,
 }
+use Rattle.searching.proofs.VerdictLaws.{first-refused, none-admitted, some-admitted}
 use Rattle.searching.proofs.smallest.Statement.{statement}
 use Rattle.searching.proofs.smallest.Tie as tie
 
@@ -39,25 +34,6 @@ module _ (kind w q : ℕ) where
       → Promised r
   unfolding smallestAnswer smallestTold
   finds r v is = (is ∙ rw v, rw (is, v))
-
-  first-refused : (cause : Cause) → verdict (functionChecks (limitsOf kind) kind w q) ≡ Verdict.Refused cause
-      → smallestVerdict kind w q ≡ Verdict.Refused cause
-  unfolding smallestVerdict smallestChecks
-  first-refused cause e =
-      verdict-append (functionChecks (limitsOf kind) kind w q) (not (ltb (smallestOf kind w q .bits) noBits) ↝ Cause.NoneAdmitted ∷ []) ∙ rw e
-
-  module _ (passed : verdict (functionChecks (limitsOf kind) kind w q) ≡ Verdict.Passed) where
-    none-admitted : noBits ≤ smallestOf kind w q .bits → smallestVerdict kind w q ≡ Verdict.Refused Cause.NoneAdmitted
-    unfolding smallestVerdict smallestChecks
-    none-admitted many =
-        verdict-append (functionChecks (limitsOf kind) kind w q) (not (ltb (smallestOf kind w q .bits) noBits) ↝ Cause.NoneAdmitted ∷ [])
-        ∙ rw (passed, le-ltb _ _ many)
-
-    some-admitted : smallestOf kind w q .bits < noBits → smallestVerdict kind w q ≡ Verdict.Passed
-    unfolding smallestVerdict smallestChecks
-    some-admitted few =
-        verdict-append (functionChecks (limitsOf kind) kind w q) (not (ltb (smallestOf kind w q .bits) noBits) ↝ Cause.NoneAdmitted ∷ [])
-        ∙ rw (passed, lt-ltb _ _ few)
 
 -- the bits that were found, as those of what was found
 no-fewer : {best found : Sized} → best ≡ found → noBits ≤ best .bits → noBits ≤ found .bits

@@ -1,0 +1,5 @@
+-- The proof that the design that is handed back is the first of the smallest.
+pub mod BestIs
+pub mod Listed
+pub mod Sorted
+pub mod Optimal
