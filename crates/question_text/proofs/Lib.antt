@@ -1,0 +1,3 @@
+-- Laws of the text of a question, and examples.
+pub mod QuestionLaws
+pub mod Examples
