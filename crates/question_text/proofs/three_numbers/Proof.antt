@@ -3,8 +3,6 @@ use borrow.Author.Needs.{needs}
 use Rattle.question_text.specs.Question.{threeNumbers}
 use Rattle.question_text.proofs.three_numbers.Statement.{statement}
 use Rattle.question_text.proofs.three_numbers.Tie as tie
-use Rattle.question_text.proofs.three_numbers.Reads as reads
-use Rattle.question_text.proofs.three_numbers.Lts as lts
 
 returns : tie.Need-returns
 unfolding threeNumbers
