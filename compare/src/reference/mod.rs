@@ -1,5 +1,5 @@
-//! Document 01: multipartite tables for reciprocal, root and reciprocal root; and requests A1, A2
-//! and A4.
+//! Document 01: multipartite tables for reciprocal, root and reciprocal root; and requests A1, A2,
+//! A4 and A5.
 //!
 //! Names are the document's: kind, w, q, g, alpha, m, a, b, P, hi, lo, budget. `Int` is the type
 //! of every intermediate product, `Signed` that of sums; both come from the module that includes this
@@ -22,6 +22,7 @@ mod records;
 pub mod refusal;
 mod report;
 mod slopes;
+mod smallest;
 #[cfg(test)]
 mod tests;
 
@@ -35,6 +36,7 @@ pub use lines::{write_line, Reading};
 pub use records::{write_record, HexReading};
 pub use report::report;
 pub use slopes::budget;
+pub use smallest::smallest;
 
 /// The same number in a narrower type. Document 01's numbers fit; if one did not, nothing should
 /// go on as if it did.

@@ -1,4 +1,4 @@
-//! The numbers of the table "What is turned down, by place", and those of requests A2 and A4.
+//! The numbers of the table "What is turned down, by place", and those of requests A2, A4 and A5.
 
 pub const KIND: u8 = 1;
 pub const W: u8 = 2;
@@ -23,3 +23,4 @@ pub const ADDRESSES: u8 = 20;
 pub const RECORD: u8 = 21;
 pub const RECORD_NOT_DUE: u8 = 22;
 pub const INITIAL: u8 = 23;
+pub const NONE_ADMITTED: u8 = 24;

@@ -1,7 +1,9 @@
-//! The document's examples, starred or not, and its traps; then those of requests A1, A2 and A4.
+//! The document's examples, starred or not, and its traps; then those of requests A1, A2, A4 and
+//! A5.
 
 use super::design::Legal;
 use super::function::Function;
+use super::smallest::every_legal;
 use super::*;
 use crate::frames::record;
 use crate::random::{Random, Tables};
@@ -934,4 +936,91 @@ fn addresses_of_two_bytes() {
         [write(3839), write(3840), write(3841)],
         [Ok(43), Ok(11), Err(19)]
     );
+}
+
+/// "Among equals take the first": two admitted designs with kind 0, w 8 and q 8 have 1632 bits,
+/// none has fewer, and the second has a larger m.
+#[test]
+fn first_of_two_smallest() {
+    let first = Design {
+        g: 6,
+        m: 2,
+        pairs: [(1, 1), (3, 2), (0, 0), (0, 0)],
+        ..example()
+    };
+    let second = Design {
+        m: 3,
+        pairs: [(1, 1), (3, 1), (3, 1), (0, 0)],
+        ..first
+    };
+    let mut at_most = vec![];
+    every_legal(0, 8, 8, |d, legal| {
+        if legal.budget() < legal.limit() && legal.size() <= 1632 {
+            at_most.push((*d, legal.size()));
+        }
+    });
+    assert_eq!(at_most, [(first, 1632), (second, 1632)]);
+    assert_eq!(smallest(0, 8, 8), Ok((first, 1632)));
+}
+
+/// n over k.
+fn binomial(n: u32, k: u32) -> u32 {
+    (0..k).fold(1, |ways, i| ways * n.saturating_sub(i) / (i + 1))
+}
+
+/// Each legal design comes up once, in the order of the request. Up to w 10 each a may be anything
+/// up to alpha and the b any m parts of w-alpha: no b is over 8 and no a+b over 12.
+#[test]
+fn every_legal_design() {
+    for (w, q, guards) in [(6, 6, 5), (7, 15, 4), (8, 14, 5), (10, 16, 3)] {
+        let mut keys = vec![];
+        every_legal(0, w, q, |d, _| {
+            assert_eq!(legal(d), Ok(()));
+            assert_eq!(d.pairs[d.m as usize..], [(0, 0); 4][d.m as usize..]);
+            keys.push((d.g, d.alpha, d.m, d.pairs));
+        });
+        assert!(keys.is_sorted_by(|left, right| left < right));
+        let cuts = |alpha: u32, m| alpha.pow(m) * binomial(w - alpha - 1, m - 1);
+        let of_alpha = |alpha| (1..=4).map(|m| cuts(alpha, m)).sum::<u32>();
+        let all: u32 = (2..w).map(of_alpha).sum();
+        assert_eq!(keys.len() as u32, guards * all, "w {w}, q {q}");
+    }
+}
+
+/// The refusal of a search, 0 if there is none.
+fn refused_search(kind: u32, w: u32, q: u32) -> u8 {
+    smallest(kind, w, q).err().unwrap_or(0)
+}
+
+/// The first of 1, 2 and 3 that is wrong.
+#[test]
+fn searches_refused() {
+    for kind in [5, 6, 256, u32::MAX] {
+        assert_eq!(refused_search(kind, 8, 8), 1);
+        assert_eq!(refused_search(kind, 5, 8), 1);
+        assert_eq!(refused_search(kind, 8, 17), 1);
+        assert_eq!(refused_search(kind, 17, 0), 1);
+    }
+    for width in [0, 5, 17, 256, u32::MAX] {
+        assert_eq!(refused_search(0, width, 8), 2);
+        assert_eq!(refused_search(4, width, width), 2);
+        assert_eq!(refused_search(0, 8, width), 3);
+        assert_eq!(refused_search(4, 6, width), 3);
+    }
+}
+
+/// 24 comes up where x has few bits for the precision: the greatest q without it, by kind, for w 6
+/// to 8. From w 9 on it never does.
+#[test]
+fn widths_with_no_admitted_design() {
+    for (w, greatest) in (6..).zip([
+        [11, 14, 14, 13, 13],
+        [13, 16, 16, 15, 15],
+        [15, 16, 16, 16, 16],
+    ]) {
+        for (kind, q) in (0..5).flat_map(|kind| (6..=16).map(move |q| (kind, q))) {
+            let refusal = if q > greatest[kind] { 24 } else { 0 };
+            assert_eq!(refused_search(kind as u32, w, q), refusal, "{kind} {w} {q}");
+        }
+    }
 }
