@@ -105,3 +105,13 @@ fn greatest_words() {
         assert_eq!(counts_narrow(&same(&d), &tables), high, "kind {kind}");
     }
 }
+
+#[test]
+fn smallest_cuts() {
+    for kind in 0..=4 {
+        for (w, q) in (6..=16).flat_map(|w| (6..=16).map(move |q| (w, q))) {
+            let found = wide::quick_smallest(kind, w, q).map(|(d, bits)| (same(&d), bits));
+            assert_eq!(found, narrow::quick_smallest(kind, w, q), "{kind} {w} {q}");
+        }
+    }
+}

@@ -961,6 +961,21 @@ fn first_of_two_smallest() {
     });
     assert_eq!(at_most, [(first, 1632), (second, 1632)]);
     assert_eq!(smallest(0, 8, 8), Ok((first, 1632)));
+    assert_eq!(quick_smallest(0, 8, 8), Ok((first, 1632)));
+}
+
+/// The smallest cut of the widest reciprocal.
+#[test]
+fn smallest_of_sixteen_bits() {
+    let d = Design {
+        w: 16,
+        q: 16,
+        alpha: 10,
+        m: 3,
+        pairs: [(5, 2), (6, 2), (7, 2), (0, 0)],
+        ..example()
+    };
+    assert_eq!(quick_smallest(0, 16, 16), Ok((d, 46080)));
 }
 
 /// n over k.
@@ -987,9 +1002,11 @@ fn every_legal_design() {
     }
 }
 
-/// The refusal of a search, 0 if there is none.
+/// The refusal of a search, 0 if there is none. Both versions give the same answer.
 fn refused_search(kind: u32, w: u32, q: u32) -> u8 {
-    smallest(kind, w, q).err().unwrap_or(0)
+    let answer = smallest(kind, w, q);
+    assert_eq!(quick_smallest(kind, w, q), answer, "{kind} {w} {q}");
+    answer.err().unwrap_or(0)
 }
 
 /// The first of 1, 2 and 3 that is wrong.
@@ -1010,7 +1027,7 @@ fn searches_refused() {
 }
 
 /// 24 comes up where x has few bits for the precision: the greatest q without it, by kind, for w 6
-/// to 8. From w 9 on it never does.
+/// to 8. From w 9 on every precision has an admitted design.
 #[test]
 fn widths_with_no_admitted_design() {
     for (w, greatest) in (6..).zip([
@@ -1018,9 +1035,26 @@ fn widths_with_no_admitted_design() {
         [13, 16, 16, 15, 15],
         [15, 16, 16, 16, 16],
     ]) {
-        for (kind, q) in (0..5).flat_map(|kind| (6..=16).map(move |q| (kind, q))) {
-            let refusal = if q > greatest[kind] { 24 } else { 0 };
-            assert_eq!(refused_search(kind as u32, w, q), refusal, "{kind} {w} {q}");
+        for (kind, q) in kinds_and_precisions() {
+            let refusal = if q > greatest[kind as usize] { 24 } else { 0 };
+            assert_eq!(refused_search(kind, w, q), refusal, "{kind} {w} {q}");
         }
+    }
+    for w in 9..=16 {
+        for (kind, q) in kinds_and_precisions() {
+            assert!(quick_smallest(kind, w, q).is_ok(), "{kind} {w} {q}");
+        }
+    }
+}
+
+fn kinds_and_precisions() -> impl Iterator<Item = (u32, u32)> {
+    (0..5).flat_map(|kind| (6..=16).map(move |q| (kind, q)))
+}
+
+/// With w 11 one table is not enough for alpha 2.
+#[test]
+fn both_searches_of_wider_words() {
+    for (kind, w, q) in [(0, 9, 16), (1, 9, 6), (2, 10, 11), (3, 10, 15), (0, 11, 16)] {
+        assert_eq!(smallest(kind, w, q), quick_smallest(kind, w, q));
     }
 }
