@@ -110,6 +110,13 @@ mod c {
             held: *const u8,
         ) -> bool;
         pub fn dorykleth_report(line: *const u8, line_len: usize, text: *mut u8) -> usize;
+        pub fn dorykleth_smallest(
+            kind: u32,
+            w: u32,
+            q: u32,
+            design: *mut u32,
+            bits: *mut u64,
+        ) -> u8;
     }
 }
 
@@ -440,4 +447,13 @@ pub fn report(line: &[u8]) -> String {
         }
         _ => format!("length {length}, and all 96 bytes: {text:?}"),
     }
+}
+
+pub fn smallest(kind: u32, w: u32, q: u32) -> Result<(Design, u64), u8> {
+    let before = ([UNTOUCHED as u32; 14], UNTOUCHED);
+    let (mut numbers, mut bits) = before;
+    // SAFETY: 14 numbers and a live variable to write.
+    let refusal = unsafe { c::dorykleth_smallest(kind, w, q, numbers.as_mut_ptr(), &mut bits) };
+    let (numbers, bits) = settled(refusal, (numbers, bits), before)?;
+    Ok((design(&numbers), bits))
 }

@@ -13,6 +13,9 @@ type Batch = fn(&Design, &[u32], &[i32], &[u32], &mut [u32]) -> Result<usize, (u
 type Write = fn(&Design, &[u32], &[i32], usize, &mut [u8]) -> Result<usize, u8>;
 type Read = fn(HexReading, &Design, &mut [u32], &mut [i32], &[u8]) -> (Result<(), u8>, HexReading);
 
+/// A version of the smallest cut.
+pub type Search = fn(u32, u32, u32) -> Result<(Design, u64), u8>;
+
 /// What a call leaves: its answer and the whole contents of the buffers lent for writing.
 #[derive(PartialEq)]
 struct Outcome<A> {
@@ -422,5 +425,18 @@ impl Calls {
         let outcomes = (&Outcome::of(reference), &Outcome::of(library));
         let shown = || format!("line {:?}\n", String::from_utf8_lossy(line));
         self.same("report", refusal, outcomes, shown);
+    }
+
+    /// The smallest cut, by one of the reference's versions of it.
+    pub fn smallest(
+        &mut self,
+        search: Search,
+        kind: u32,
+        w: u32,
+        q: u32,
+    ) -> Result<(Design, u64), u8> {
+        let answers = (search(kind, w, q), library::smallest(kind, w, q));
+        let shown = || format!("kind {kind}, w {w}, q {q}\n");
+        self.same_answer("smallest", answers, shown)
     }
 }

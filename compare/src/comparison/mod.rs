@@ -6,6 +6,7 @@ mod limits;
 mod lines;
 mod records;
 mod sets;
+mod smallest;
 mod spoilt_records;
 mod tally;
 
@@ -22,7 +23,7 @@ pub struct Comparison {
 type Part = fn(&mut Comparison);
 
 /// The parts of the comparison, each with a seed of its own.
-const PARTS: [(&str, Part); 24] = [
+const PARTS: [(&str, Part); 27] = [
     ("values", Comparison::values),
     ("designs", Comparison::designs),
     ("fills", Comparison::fills),
@@ -53,6 +54,12 @@ const PARTS: [(&str, Part); 24] = [
         "initial entries at the limit on sums",
         Comparison::entries_at_limit,
     ),
+    ("smallest cuts", Comparison::smallest_cuts),
+    (
+        "smallest cuts of all widths",
+        Comparison::smallest_cuts_of_all_widths,
+    ),
+    ("searches refused", Comparison::searches_refused),
 ];
 
 /// Ends the program at the first difference. Returns whether all that should come up did.

@@ -13,8 +13,9 @@ const fn call(name: &'static str, refusals: &'static [u8]) -> Call {
 }
 
 /// The document's "Checks in order"; the count "refuses as the check does", and the calls of
-/// records as request A2 says, but for 20: no legal set is that large. 23 is request A4's.
-pub const CALLS: [Call; 15] = [
+/// records as request A2 says, but for 20: no legal set is that large. 23 is request A4's, and 24
+/// A5's.
+pub const CALLS: [Call; 16] = [
     call("value", &[0, 1, 2, 3, 4, 12]),
     call("legal", &[0, 1, 2, 3, 4, 5, 6, 7, 8, 9]),
     call("budget", &[0, 1, 2, 3, 4, 5, 6, 7, 8, 9]),
@@ -45,13 +46,14 @@ pub const CALLS: [Call; 15] = [
         &[0, 1, 2, 3, 4, 5, 6, 7, 8, 9, 10, 17, 21, 22],
     ),
     call("report", &[0, 15, 16, 1, 2, 3, 4, 5, 6, 7, 8, 9]),
+    call("smallest", &[0, 1, 2, 3, 24]),
 ];
 
 /// The calls without refusals.
 const PLAIN: [Call; 2] = [call("is_finished", &[0]), call("records_finished", &[0])];
 
 /// Things that must come up, and how often at the least.
-const WANTED: [(&str, u64); 95] = [
+const WANTED: [(&str, u64); 125] = [
     ("budget equal to the limit", 5),
     ("budget one below the limit", 5),
     ("budget of 2^32 or more", 100),
@@ -150,6 +152,36 @@ const WANTED: [(&str, u64); 95] = [
     ("offset at the limit, line written: 0", 1000),
     ("offset at the limit, line read: 0", 1000),
     ("set that lines do not carry, restored from records", 900),
+    ("smallest cut by trial: kind 0", 40),
+    ("smallest cut by trial: kind 1", 40),
+    ("smallest cut by trial: kind 2", 40),
+    ("smallest cut by trial: kind 3", 40),
+    ("smallest cut by trial: kind 4", 40),
+    ("smallest cut by trial: m 1", 100),
+    ("smallest cut by trial: m 2", 70),
+    ("smallest cut by trial: m 3", 30),
+    ("smallest cut by trial: m 4", 8),
+    ("smallest cut by trial: refused 24", 21),
+    ("smallest cut by search: kind 0", 110),
+    ("smallest cut by search: kind 1", 110),
+    ("smallest cut by search: kind 2", 110),
+    ("smallest cut by search: kind 3", 110),
+    ("smallest cut by search: kind 4", 110),
+    ("smallest cut by search: g 3", 40),
+    ("smallest cut by search: g 4", 140),
+    ("smallest cut by search: g 5", 170),
+    ("smallest cut by search: g 6", 200),
+    ("smallest cut by search: m 1", 110),
+    ("smallest cut by search: m 2", 110),
+    ("smallest cut by search: m 3", 110),
+    ("smallest cut by search: m 4", 200),
+    ("smallest cut by search: refused 24", 21),
+    ("smallest cut with 1 wrong: 1", 12),
+    ("smallest cut with 1 wrong: 2", 14),
+    ("smallest cut with 1 wrong: 3", 14),
+    ("smallest cut with 2 wrong: 1", 150),
+    ("smallest cut with 2 wrong: 2", 90),
+    ("smallest cut with 3 wrong: 1", 500),
 ];
 
 #[derive(Default)]
