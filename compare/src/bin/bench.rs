@@ -10,7 +10,7 @@ use compare::random::{is_admitted, lengths, Random, Tables};
 use compare::wide::reference::{Design, HexReading};
 
 /// The sets that are timed: w 16, q 16, g 4, for each of the three forms of function the admitted
-/// design with 2 or 3 tables that has the fewest entries.
+/// design that has the fewest entries, with 2 tables for the reciprocal and 3 for the others.
 const DESIGNS: [Design; 3] = [
     design(0, 10, 2, [(5, 3), (7, 3), (0, 0), (0, 0)]),
     design(2, 9, 3, [(3, 3), (4, 2), (6, 2), (0, 0)]),
