@@ -29,6 +29,9 @@ const fn design(kind: u32, alpha: u32, m: u32, pairs: [(u32, u32); 4]) -> Design
     }
 }
 
+/// The smallest cuts that are timed, by kind, w and q.
+const CUTS: [(u32, u32, u32); 4] = [(0, 16, 16), (1, 16, 16), (3, 16, 16), (0, 16, 12)];
+
 /// Room for the longest record, and more than the longest line takes.
 const ROOM: usize = 43;
 
@@ -42,6 +45,11 @@ fn main() {
     for d in DESIGNS {
         assert!(is_admitted(&d), "not admitted: {d:?}");
         time_design(&d);
+    }
+    print_head("smallest cut");
+    for (kind, w, q) in CUTS {
+        let name = format!("kind {kind}, w {w}, q {q}");
+        print_row(&name, time_smallest(kind, w, q));
     }
 }
 
@@ -58,12 +66,9 @@ fn time_design(d: &Design) {
     let pairs = &pairs[..*m as usize];
     let (initial, offsets) = lengths(d);
     let entries = initial + offsets;
-    println!();
-    println!("kind {kind}, w {w}, q {q}, g {g}, alpha {alpha}, pairs {pairs:?}, {entries} entries");
-    println!(
-        "{:34} {:>9} {:>9} {:>12}",
-        "", "Rattle", "Rust", "Rattle/Rust"
-    );
+    print_head(&format!(
+        "kind {kind}, w {w}, q {q}, g {g}, alpha {alpha}, pairs {pairs:?}, {entries} entries"
+    ));
     let mut set = Set::new(d);
     let [rattle, rust, bare] = time_batch(&mut set);
     print_row("evaluate a batch", [rattle, rust]);
@@ -355,6 +360,16 @@ fn time_read_records(set: &mut Set) -> [f64; 2] {
     ])
 }
 
+/// The search for the smallest cut, which both must find.
+fn time_smallest(kind: u32, w: u32, q: u32) -> [f64; 2] {
+    let found = library::smallest(kind, w, q).map(|(d, bits)| (narrow(&d), bits));
+    assert_eq!(found, rust::quick_smallest(kind, w, q));
+    medians([
+        &mut || ignore(black_box(library::smallest(black_box(kind), w, q))),
+        &mut || ignore(black_box(rust::quick_smallest(black_box(kind), w, q))),
+    ])
+}
+
 fn ignore<T>(_: T) {}
 
 /// The seconds of one call, from enough calls in a row to be measured.
@@ -405,6 +420,16 @@ fn microseconds(seconds: f64) -> String {
     }
     let unit = 10f64.powi(digits - 3);
     format!("{:.0}", (time / unit).round() * unit)
+}
+
+/// What the rows below are about, and what stands in their columns.
+fn print_head(name: &str) {
+    println!();
+    println!("{name}");
+    println!(
+        "{:34} {:>9} {:>9} {:>12}",
+        "", "Rattle", "Rust", "Rattle/Rust"
+    );
 }
 
 fn print_row(name: &str, [rattle, rust]: [f64; 2]) {
