@@ -2,30 +2,34 @@
 
 use std::collections::BTreeMap;
 
-/// A program with answers it must give: those of its own, and how it prints the refusal of a
-/// design's line.
+/// A program with answers it must give: those of its own, and its refusals, for most of them those
+/// of a design's line, with how they are printed.
 struct Wanted {
     name: &'static str,
     answers: &'static [&'static str],
     refused: &'static str,
+    refusals: &'static [u8],
 }
 
 /// Refusal 10 is none of them: the programs' tables are long enough for every set.
-const WANTED: [Wanted; 7] = [
+const WANTED: [Wanted; 8] = [
     Wanted {
         name: "report",
         answers: &["ADMITTED", "NOT ADMITTED"],
         refused: "REFUSED",
+        refusals: &REFUSALS,
     },
     Wanted {
         name: "make_set",
         answers: &["digits", "REFUSED 11"],
         refused: "REFUSED",
+        refusals: &REFUSALS,
     },
     Wanted {
         name: "check_set",
         answers: &["FAITHFUL", "UNFAITHFUL", "UNFINISHED", "LINE REFUSED 23"],
         refused: "LINE REFUSED",
+        refusals: &REFUSALS,
     },
     Wanted {
         name: "count_set",
@@ -39,6 +43,7 @@ const WANTED: [Wanted; 7] = [
             "LINE REFUSED 23",
         ],
         refused: "LINE REFUSED",
+        refusals: &REFUSALS,
     },
     Wanted {
         name: "evaluate_set",
@@ -51,11 +56,13 @@ const WANTED: [Wanted; 7] = [
             "LINE REFUSED 23",
         ],
         refused: "LINE REFUSED",
+        refusals: &REFUSALS,
     },
     Wanted {
         name: "set_to_hex",
         answers: &["record", "UNFINISHED", "LINE REFUSED 23"],
         refused: "LINE REFUSED",
+        refusals: &REFUSALS,
     },
     Wanted {
         name: "hex_to_set",
@@ -67,6 +74,13 @@ const WANTED: [Wanted; 7] = [
             "REFUSED 23",
         ],
         refused: "LINE REFUSED",
+        refusals: &REFUSALS,
+    },
+    Wanted {
+        name: "smallest_design",
+        answers: &["digits", "ADMITTED", "NOT THREE NUMBERS"],
+        refused: "REFUSED",
+        refusals: &[1, 2, 3, 24],
     },
 ];
 
@@ -75,7 +89,8 @@ const REFUSALS: [u8; 11] = [15, 16, 1, 2, 3, 4, 5, 6, 7, 8, 9];
 
 impl Wanted {
     fn all(&self) -> impl Iterator<Item = String> + '_ {
-        let refused = REFUSALS.iter().map(|n| format!("{} {n}", self.refused));
+        let refusals = self.refusals.iter();
+        let refused = refusals.map(|n| format!("{} {n}", self.refused));
         let answers = self.answers.iter().map(|answer| answer.to_string());
         answers.chain(refused)
     }
@@ -122,12 +137,12 @@ impl Answers {
     }
 
     pub fn print(&self) {
-        println!("program        times each answer came up");
+        println!("program         times each answer came up");
         for wanted in &WANTED {
             let each = wanted
                 .all()
                 .map(|answer| format!("{answer}: {}", self.count(wanted.name, &answer)));
-            println!("{:14} {}", wanted.name, each.collect::<Vec<_>>().join("  "));
+            println!("{:15} {}", wanted.name, each.collect::<Vec<_>>().join("  "));
         }
     }
 

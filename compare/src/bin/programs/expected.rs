@@ -1,5 +1,6 @@
 //! What each program should print for an input.
 
+use compare::frames::design_line;
 use compare::random::Tables;
 use compare::wide::reference::{self, refusal, Checked, Design, HexReading, Reading};
 
@@ -206,5 +207,27 @@ pub fn hex_to_set(input: &[u8]) -> String {
     match written(reference::write_line, &d, &tables) {
         (lines, refusal::PAST_SET) => lines.concat(),
         (_, refusal) => format!("REFUSED {refusal}\n"),
+    }
+}
+
+/// Three decimal numbers with exactly one space between them.
+fn three_numbers(line: &[u8]) -> Option<[u32; 3]> {
+    let mut numbers = line.split(|&byte| byte == b' ').map(decimal);
+    let three = [numbers.next()??, numbers.next()??, numbers.next()??];
+    numbers.next().is_none().then_some(three)
+}
+
+/// The smallest design for a kind and two widths, as its line, and the report on it.
+pub fn smallest_design(input: &[u8]) -> String {
+    let Some([kind, w, q]) = three_numbers(first_line(input)) else {
+        return "NOT THREE NUMBERS\n".into();
+    };
+    match reference::quick_smallest(kind, w, q) {
+        Ok((d, _)) => {
+            let line = design_line(&d, d.m as usize);
+            let report = reference::report(&line);
+            String::from_utf8(line).expect("digits") + "\n" + &report
+        }
+        Err(refusal) => format!("REFUSED {refusal}\n"),
     }
 }

@@ -117,6 +117,7 @@ impl Runs {
         for (kind, cut) in [0, 2].into_iter().zip(LARGEST) {
             self.largest_set(&largest(kind, (14, 6), cut));
         }
+        self.width_inputs();
     }
 
     /// Sets of a kind: filled ones, one that nobody filled, and one with four tables.

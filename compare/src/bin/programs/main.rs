@@ -5,6 +5,7 @@ mod answers;
 mod expected;
 mod hex_inputs;
 mod inputs;
+mod width_inputs;
 
 use std::fs::File;
 use std::io::{Seek, Write};
@@ -17,7 +18,8 @@ use compare::random::Random;
 /// A program by its name, and what it should print for an input.
 type Program = (&'static str, fn(&[u8]) -> String);
 
-/// The programs that read a line, those that read a set, and the one that reads records.
+/// The programs that read a line, those that read a set, the one that reads records, and the one
+/// that reads a kind and two widths.
 const LINE_PROGRAMS: [Program; 2] = [
     ("report", expected::report),
     ("make_set", expected::make_set),
@@ -29,6 +31,7 @@ const SET_PROGRAMS: [Program; 4] = [
     ("set_to_hex", expected::set_to_hex),
 ];
 const HEX_PROGRAM: Program = ("hex_to_set", expected::hex_to_set);
+const WIDTHS_PROGRAM: Program = ("smallest_design", expected::smallest_design);
 
 struct Runs {
     directory: PathBuf,
@@ -50,8 +53,9 @@ impl Runs {
     /// The programs that are not there.
     fn missing(&self) -> Vec<&'static str> {
         let programs = LINE_PROGRAMS.iter().chain(&SET_PROGRAMS);
-        let names = programs.chain([&HEX_PROGRAM]).map(|program| program.0);
-        names
+        let programs = programs.chain([&HEX_PROGRAM, &WIDTHS_PROGRAM]);
+        programs
+            .map(|program| program.0)
             .filter(|name| !self.directory.join(name).is_file())
             .collect()
     }
@@ -61,6 +65,7 @@ impl Runs {
         self.line(input);
         self.set(input);
         self.hex(input);
+        self.widths(input);
     }
 
     /// The programs that read a line.
@@ -82,8 +87,14 @@ impl Runs {
         self.compare(HEX_PROGRAM, input);
     }
 
-    /// Ends everything at a difference. A program ends with status 0 whatever it prints.
-    fn compare(&mut self, (name, expected): Program, input: &[u8]) {
+    /// The program that reads a kind and two widths.
+    fn widths(&mut self, input: &[u8]) {
+        self.compare(WIDTHS_PROGRAM, input);
+    }
+
+    /// Returns what the program prints, and ends everything at a difference. A program ends with
+    /// status 0 whatever it prints.
+    fn compare(&mut self, (name, expected): Program, input: &[u8]) -> String {
         let output = run(&self.directory.join(name), input);
         let expected = expected(input);
         if output.stdout != expected.as_bytes() || !output.status.success() {
@@ -92,6 +103,7 @@ impl Runs {
         }
         self.count += 1;
         self.answers.note(name, &expected);
+        expected
     }
 
     /// Ends everything if a program does not read exactly what it is asked to.
