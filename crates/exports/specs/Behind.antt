@@ -13,6 +13,8 @@ use Rattle.tables.specs.Set.{setChecks}
 use Rattle.tables.specs.Sum.{sumAt}
 use Rattle.checking.specs.Check.{Finding, all-faithful, lowest-unfaithful}
 use Rattle.counting.specs.declared.Counts.{Counts}
+use Rattle.searching.specs.declared.Sized.{Sized}
+use Rattle.exports.specs.Numbers.{numbersOf}
 
 -- A value, a budget or a size, a word, a sum, the length of a line
 abbrev pub behind : {Value : Type 0} → Told Value → Value → Value
@@ -35,6 +37,15 @@ abbrev pub countsAfter : Told Counts → List ℕ → List ℕ
 countsAfter (accepted counts) before =
     counts .outside ∷ counts .nearest ∷ counts .faithful ∷ counts .low ∷ counts .high ∷ []
 countsAfter (refused number place) before = before
+
+-- The smallest design as its numbers, and its size in bits
+abbrev pub designAfter : Told Sized → List ℕ → List ℕ
+designAfter (accepted best) before = numbersOf (best .design)
+designAfter (refused number place) before = before
+
+abbrev pub bitsAfter : Told Sized → ℕ → ℕ
+bitsAfter (accepted best) before = best .bits
+bitsAfter (refused number place) before = before
 
 -- Y itself is asked for, whether or not it is in range: 1 to 10, then 12, "x ≥ 2^w"
 unfoldable pub sumVerdict : Design → List ℕ → List ℤ → ℕ → Verdict

@@ -12,8 +12,9 @@ ghost use Rattle.evaluating.specs.Evaluate.{evaluateTold};
 ghost use Rattle.evaluating.specs.Batch.{batchTold, outputAfter};
 ghost use Rattle.checking.specs.Check.{checkTold};
 ghost use Rattle.counting.specs.Count.{countTold};
+ghost use Rattle.searching.specs.Best.{smallestTold};
 ghost use Rattle.exports.specs.Numbers.{designOf};
-ghost use Rattle.exports.specs.Behind.{behind, placeAfter, firstAfter, countsAfter, sumTold};
+ghost use Rattle.exports.specs.Behind.{behind, placeAfter, firstAfter, countsAfter, designAfter, bitsAfter, sumTold};
 
 mod design_numbers;
 mod line_calls;
@@ -26,6 +27,7 @@ use counting::count;
 use design::Design;
 use design::Measured;
 use design_numbers::design_of;
+use design_numbers::put_design;
 use design_numbers::verdict_number;
 use evaluating::Batched;
 use evaluating::Evaluated;
@@ -36,6 +38,7 @@ use general::pow2;
 use refusal::Cause;
 use refusal::Verdict;
 use refusal::number;
+use searching::smallest;
 use tables::lookups::lookups_of;
 use tables::set_verdict;
 use tables::sums::sum_of;
@@ -86,6 +89,30 @@ pub extern "C" fn dorykleth_size(design: &[u32; 14], bits: &mut u64) -> u8
     ensures bits { λ _. ⌜ now (bits .exit) ≡ behind (sizeTold (designOf (now (design .entry)))) (now (bits .entry)) ⌝ }
 {
     put_measure(design::size(design_of(design)), bits)
+}
+
+// The smallest design of a kind, w and q as its numbers, and its size in bits.
+#[no_mangle]
+pub extern "C" fn dorykleth_smallest(
+    kind: u32,
+    w: u32,
+    q: u32,
+    design: &mut [u32; 14],
+    bits: &mut u64,
+) -> u8
+    ensures number { λ r. ⌜ r ≡ numberTold (smallestTold kind w q) ⌝ }
+    ensures design { λ _. ⌜ now (design .exit) ≡ designAfter (smallestTold kind w q) (now (design .entry)) ⌝ }
+    ensures bits { λ _. ⌜ now (bits .exit) ≡ bitsAfter (smallestTold kind w q) (now (bits .entry)) ⌝ }
+{
+    let found = smallest(kind, w, q);
+    let verdict = found.verdict;
+    if let Verdict::Refused(cause) = verdict {
+        return number(cause);
+    }
+    let best = found.best;
+    put_design(best.design, design);
+    *bits = best.bits;
+    0
 }
 
 #[no_mangle]
