@@ -3,3 +3,4 @@ pub mod BestIs
 pub mod Listed
 pub mod Sorted
 pub mod Optimal
+pub mod Examples

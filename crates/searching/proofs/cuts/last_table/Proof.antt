@@ -166,14 +166,19 @@ abbrev μ-loop : tie.MeasureT-loop
 asked : (c : tie.Start Inv-loop μ-loop) → let a = c .args in Next (a .prefix) × (a .prefix .tables + 1 ≡ a .prefix .design .m)
 asked c = c .pre .1
 
+-- and where the loop ends
+end-is : (c : tie.After-smaller Inv-loop μ-loop) → let d = c .before .before .before .before .before .before .before .args .prefix in
+    c .smaller .result ≡ min (d .design .alpha + 1) (mostTableBits + 1 - (d .design .w - d .design .alpha - d .position))
+end-is c = c .smaller .ensures
+
 returns : tie.Need-returns Inv-loop μ-loop
 returns c =
     let size = c .before .before in
     let loop = size .before in
     let smaller = loop .before .before in
     let e = asked (smaller .before .before .before .before .before .before .before) in
-    stops _ (e .0) (e .1) _ refl _ (smaller .smaller .ensures) _ _ (loop .before .loop .inv) (loop .loop-test .taken) _ (size .size-with .ensures)
-    (c .if1 .taken)
+    stops _ (e .0) (e .1) _ refl _ (end-is smaller) _ _ (loop .before .loop .inv) (loop .loop-test .taken) _ (size .size-with .ensures)
+    (omega (arith, c .if1 .taken))
 
 returns-2 : tie.Need-returns-2 Inv-loop μ-loop
 returns-2 c =
@@ -182,15 +187,15 @@ returns-2 c =
     let loop = size .before in
     let smaller = loop .before .before in
     let e = asked (smaller .before .before .before .before .before .before .before) in
-    taken _ (e .0) (e .1) _ refl _ (smaller .smaller .ensures) _ _ (loop .before .loop .inv) (loop .loop-test .taken) _ (size .size-with .ensures)
-    _ _ (budget .budget-with .ensures) (smaller .before .before .limit-of .ensures) _ (c .with-pair .ensures) (budget .before .if1 .left)
-    (c .before .if2 .taken)
+    taken _ (e .0) (e .1) _ refl _ (end-is smaller) _ _ (loop .before .loop .inv) (loop .loop-test .taken) _ (size .size-with .ensures)
+    _ _ (budget .budget-with .ensures) (smaller .before .before .limit-of .ensures) _ (c .with-pair .ensures)
+    (omega (arith, budget .before .if1 .left)) (omega (arith, c .before .if2 .taken))
 
 returns-3 : tie.Need-returns-3 Inv-loop μ-loop
 returns-3 c =
     let smaller = c .before .before in
     let e = asked (smaller .before .before .before .before .before .before .before) in
-    done _ (e .0) (e .1) _ refl _ (smaller .smaller .ensures) _ _ (c .before .loop .inv) (c .loop-test .left)
+    done _ (e .0) (e .1) _ refl _ (end-is smaller) _ _ (c .before .loop .inv) (c .loop-test .left)
 
 loop-again : tie.Need-loop-again Inv-loop μ-loop
 loop-again c =
@@ -199,7 +204,7 @@ loop-again c =
     let loop = size .before in
     let smaller = loop .before .before in
     let e = asked (smaller .before .before .before .before .before .before .before) in
-    left _ (e .0) (e .1) _ refl _ (smaller .smaller .ensures) _ _ (loop .before .loop .inv) (loop .loop-test .taken) _ (size .size-with .ensures)
+    left _ (e .0) (e .1) _ refl _ (end-is smaller) _ _ (loop .before .loop .inv) (loop .loop-test .taken) _ (size .size-with .ensures)
     _ _ (budget .budget-with .ensures) (smaller .before .before .limit-of .ensures) (c .if2 .left)
 
 sub-b : tie.Need-sub-b Inv-loop μ-loop
@@ -224,7 +229,7 @@ sub-smaller c =
 loop-holds : tie.Need-loop-holds Inv-loop μ-loop
 loop-holds c =
     let e = asked (c .before .before .before .before .before .before .before) in
-    begin _ (e .0) (e .1) _ refl _ (c .smaller .ensures) _
+    begin _ (e .0) (e .1) _ refl _ (end-is c) _
 
 -- the pair of this turn fits
 next-fits : (c : tie.In-loop Inv-loop μ-loop) → let a = c .before .before .before .before .before .before .before .before .before .args in
@@ -233,7 +238,7 @@ next-fits : (c : tie.In-loop Inv-loop μ-loop) → let a = c .before .before .be
 next-fits c =
     let smaller = c .before .before in
     let e = asked (smaller .before .before .before .before .before .before .before) in
-    (e .0, fits _ (e .0) (e .1) _ refl _ (smaller .smaller .ensures) _ (c .before .loop .inv .low) (c .loop-test .taken))
+    (e .0, fits _ (e .0) (e .1) _ refl _ (end-is smaller) _ (c .before .loop .inv .low) (c .loop-test .taken))
 
 size-with-requires : tie.Need-size-with-requires Inv-loop μ-loop
 size-with-requires c κs = next-fits c
@@ -253,7 +258,7 @@ add-a : tie.Need-add-a Inv-loop μ-loop
 add-a c =
     let smaller = c .before .before .before .before .before .before .before in
     let begun = asked (smaller .before .before .before .before .before .before .before) .0 .so-far .begun in
-    end-small _ _ _ _ (smaller .smaller .ensures) (c .before .before .before .before .before .loop-test .taken) (begun .alpha-high)
+    end-small _ _ _ _ (end-is smaller) (c .before .before .before .before .before .loop-test .taken) (begun .alpha-high)
 
 loop-less : tie.Need-loop-less Inv-loop μ-loop
 loop-less c = falls _ _ (c .before .before .before .before .before .loop-test .taken)

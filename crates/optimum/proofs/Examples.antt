@@ -1,0 +1,86 @@
+-- Worked examples of the search, computed from the definitions. The numbers are those of the requests, or were worked out from the documents
+-- apart from the definitions.
+use mathlib.Core.Path.{_≡_, refl}
+use mathlib.Core.Bool.{true, false}
+use mathlib.Core.List.{List, [], _∷_, map}
+use Prim.Native.Nat.{ℕ}
+use native.Mathlib.Omega.{arith}
+use lib.ListN.{length, take}
+use Rattle.general.specs.Below.{joined}
+use Rattle.refusal.specs.declared.Cause.{Cause}
+use Rattle.refusal.specs.declared.Verdict.{Verdict}
+use Rattle.refusal.specs.Checks.{verdict}
+use Rattle.values.specs.Widths.{limitsOf, functionChecks}
+use Rattle.design.specs.declared.Pair.{Pair}
+use Rattle.design.specs.declared.Design.{Design}
+use Rattle.design.specs.Cut.{noPair}
+use Rattle.design.specs.Budget.{budget, size}
+use Rattle.design.proofs.Opened.{design-opened}
+use Rattle.searching.specs.declared.Sized.{Sized}
+use Rattle.searching.specs.Designs.{bare, withPair, continued}
+use Rattle.searching.specs.Best.{isAdmitted, nothing, better, bestOf}
+use Rattle.optimum.specs.Order.{Before, by-m}
+
+abbrev pair : ℕ → ℕ → Pair
+pair a b = record { a = a; b = b }
+
+abbrev design : ℕ → ℕ → ℕ → ℕ → ℕ → Pair → Pair → Pair → Design
+design w q g alpha m first second third =
+    record { kind = 0; w = w; q = q; g = g; alpha = alpha; m = m; pairs = first ∷ second ∷ third ∷ noPair ∷ [] }
+
+-- "kind 0, w 8, q 8: 1632 bits, g 6, alpha 5, (1,1) (3,2); two designs have 1632 bits, and m decides"; the other one; and document 01's G
+abbrev two : Design
+two = design 8 8 6 5 2 (pair 1 1) (pair 3 2) noPair
+
+abbrev three : Design
+three = design 8 8 6 5 3 (pair 1 1) (pair 3 1) (pair 3 1)
+
+abbrev G : Design
+G = design 8 8 4 5 1 (pair 3 3) noPair noPair
+
+-- G with (2,3), which has fewer bits and is not admitted
+abbrev cheaper : Design
+cheaper = design 8 8 4 5 1 (pair 2 3) noPair noPair
+
+-- "Kind 0, w 16, q 16: 46080 bits, g 4, alpha 10, (5,2) (6,2) (7,2)."
+abbrev widest : Design
+widest = design 16 16 4 10 3 (pair 5 2) (pair 6 2) (pair 7 2)
+
+abbrev measured : Design → ℕ × ℕ
+measured d = (budget d, size d)
+
+abbrev with-size : Design → ℕ → Sized
+with-size d bits = record { design = d; bits = bits }
+
+pub record Examples : Type 0 where
+  pub both : (measured two ≡ (7989867, 1632)) × (measured three ≡ (8120939, 1632))
+  pub admitted : map isAdmitted (two ∷ three ∷ widest ∷ cheaper ∷ []) ≡ true ∷ true ∷ true ∷ false ∷ []
+  pub wide : measured widest ≡ (2002819, 46080)
+  -- "m decides"
+  pub decided : Before two three
+  -- the first of equals, whichever that is, and none that is not admitted
+  pub best : map (bestOf nothing) ((G ∷ cheaper ∷ two ∷ three ∷ []) ∷ (three ∷ two ∷ G ∷ []) ∷ (cheaper ∷ []) ∷ [])
+      ≡ with-size two 1632 ∷ with-size three 1632 ∷ nothing ∷ []
+  -- "a_i before b_i, smaller first": 2·8 pairs for alpha 2 and one table, and 16·16 for two
+  pub first-pairs : map (λ d. d .pairs) (take 3 (continued 1 (bare 0 6 6 2 2 1) 0))
+      ≡ (pair 1 1 ∷ noPair ∷ noPair ∷ noPair ∷ []) ∷ (pair 1 2 ∷ noPair ∷ noPair ∷ noPair ∷ [])
+      ∷ (pair 1 3 ∷ noPair ∷ noPair ∷ noPair ∷ []) ∷ []
+  pub how-many : map (λ m. length (continued m (bare 0 6 6 2 2 m) 0)) (1 ∷ 2 ∷ []) ≡ 16 ∷ 256 ∷ []
+  -- 1, 2, 3 in this order
+  pub checks : (verdict (functionChecks (limitsOf 5) 5 5 5) ≡ Verdict.Refused Cause.Kind)
+      × (verdict (functionChecks (limitsOf 0) 0 5 5) ≡ Verdict.Refused Cause.InputWidth)
+      × (verdict (functionChecks (limitsOf 0) 0 6 5) ≡ Verdict.Refused Cause.OutputWidth)
+
+pub examples : Examples
+unfolding design-opened joined bare withPair continued isAdmitted nothing better bestOf
+examples =
+    record {
+      both = (refl, refl);
+      admitted = refl;
+      wide = refl;
+      decided = by-m refl refl (omega arith);
+      best = refl;
+      first-pairs = refl;
+      how-many = refl;
+      checks = (refl, refl, refl);
+    }
