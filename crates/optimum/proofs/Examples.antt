@@ -46,6 +46,19 @@ cheaper = design 8 8 4 5 1 (pair 2 3) noPair noPair
 abbrev widest : Design
 widest = design 16 16 4 10 3 (pair 5 2) (pair 6 2) (pair 7 2)
 
+-- One whose budget is the limit 2^21
+abbrev at-limit : Design
+at-limit =
+    record {
+      kind = 4;
+      w = 11;
+      q = 13;
+      g = 4;
+      alpha = 7;
+      m = 4;
+      pairs = pair 3 1 ∷ pair 7 1 ∷ pair 4 1 ∷ pair 5 1 ∷ [];
+    }
+
 abbrev measured : Design → ℕ × ℕ
 measured d = (budget d, size d)
 
@@ -56,6 +69,8 @@ pub record Examples : Type 0 where
   pub both : (measured two ≡ (7989867, 1632)) × (measured three ≡ (8120939, 1632))
   pub admitted : map isAdmitted (two ∷ three ∷ widest ∷ cheaper ∷ []) ≡ true ∷ true ∷ true ∷ false ∷ []
   pub wide : measured widest ≡ (2002819, 46080)
+  -- "less than 2^(g+17)"
+  pub limit : (budget at-limit ≡ 2097152) × (isAdmitted at-limit ≡ false)
   -- "m decides"
   pub decided : Before two three
   -- the first of equals, whichever that is, and none that is not admitted
@@ -78,6 +93,7 @@ examples =
       both = (refl, refl);
       admitted = refl;
       wide = refl;
+      limit = (refl, refl);
       decided = by-m refl refl (omega arith);
       best = refl;
       first-pairs = refl;
