@@ -1,5 +1,5 @@
 -- Designs of which the same is read differ in their pairs alone, and are measured alike.
-use mathlib.Core.Path.{_≡_, refl, _∙_}
+use mathlib.Core.Path.{_≡_, _∙_}
 use mathlib.Core.List.{List}
 use Prim.Native.Nat.{ℕ}
 use Rattle.design.specs.declared.Pair.{Pair}

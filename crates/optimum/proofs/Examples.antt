@@ -1,8 +1,9 @@
--- Worked examples of the search, computed from the definitions. The numbers are those of the requests, or were worked out from the documents
+-- Worked examples of the search, computed from the definitions. The numbers are those of the requests, or were worked out from the
+-- documents
 -- apart from the definitions.
 use mathlib.Core.Path.{_≡_, refl}
 use mathlib.Core.Bool.{true, false}
-use mathlib.Core.List.{List, [], _∷_, map}
+use mathlib.Core.List.{[], _∷_, map}
 use Prim.Native.Nat.{ℕ}
 use native.Mathlib.Omega.{arith}
 use lib.ListN.{length, take}

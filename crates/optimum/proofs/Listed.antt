@@ -57,7 +57,8 @@ unfolding continued
 continued-from zero d i = (from-itself d (i + zero), tt)
 continued-from (suc n) d i =
     let more : i + 1 + n ≡ i + suc n = omega arith in
-    all-joined (λ e. From d e (i + suc n)) 1 (λ a. forEach 1 mostOffsetBits (λ b. continued n (withPair d i a b) (i + 1))) (d .alpha + 1 - 1)
+    all-joined (λ e. From d e (i + suc n)) 1 (λ a. forEach 1 mostOffsetBits (λ b. continued n (withPair d i a b) (i + 1)))
+    (d .alpha + 1 - 1)
     (λ j h. all-joined (λ e. From d e (i + suc n)) 1 (λ b. continued n (withPair d i (1 + j) b) (i + 1)) mostOffsetBits
     (λ k h'. all-weaker (λ e f. from-next d i (1 + j) (1 + k) e (i + suc n) (omega arith) (rw more at f))
     (continued n (withPair d i (1 + j) (1 + k)) (i + 1)) (continued-from n (withPair d i (1 + j) (1 + k)) (i + 1))))
@@ -199,10 +200,13 @@ module _ (e : Design) (l : Limits e) where
       let g-place : low + (e .g - low) ≡ e .g = omega (arith, within .g-low) in
       let alpha-place : leastInitialBits + (e .alpha - leastInitialBits) ≡ e .alpha = omega (arith, l .alpha-low) in
       let m-place : 1 + (e .m - 1) ≡ e .m = omega (arith, l .m-low) in
-      some-joined (λ c. Same c e) low (by-g kind w q) (limitsOf kind .g .1 + 1 - low) (e .g - low) (omega (arith, within .g-low, within .g-high))
+      some-joined (λ c. Same c e) low (by-g kind w q) (limitsOf kind .g .1 + 1 - low) (e .g - low) (omega
+      (arith, within .g-low, within .g-high))
       (some-joined (λ c. Same c e) leastInitialBits (by-alpha kind w q (low + (e .g - low))) (mostInitialBits + 1 - leastInitialBits)
       (e .alpha - leastInitialBits) (omega (arith, l .alpha-low, l .alpha-high))
-      (some-joined (λ c. Same c e) 1 (by-m kind w q (low + (e .g - low)) (leastInitialBits + (e .alpha - leastInitialBits))) mostTables (e .m - 1)
+      (some-joined (λ c. Same c e) 1 (by-m kind w q (low + (e .g - low)) (leastInitialBits + (e .alpha - leastInitialBits))) mostTables
+      (e .m - 1)
       (omega (arith, l .m-low, l .m-high))
       (rw (g-place, alpha-place, m-place)
-      (some-weaker found (by-m kind w q (e .g) (e .alpha) (e .m)) (reached (e .m) (bare kind w q (e .g) (e .alpha) (e .m)) 0 (begun kind w q of) (omega arith))))))
+      (some-weaker found (by-m kind w q (e .g) (e .alpha) (e .m)) (reached (e .m) (bare kind w q (e .g) (e .alpha) (e .m)) 0
+      (begun kind w q of) (omega arith))))))

@@ -1,37 +1,35 @@
 -- The statement of Optimum.antt holds.
-use mathlib.Core.Path.{_≡_, refl, sym, ap, _∙_}
-use mathlib.Core.Bool.{Bool, true, false, not, true≢false}
-use mathlib.Core.Logic.{_⊎_, _↔_, inl, inr, ⊎-elim}
-use mathlib.Core.List.{List, [], _∷_}
-use Prim.Native.Nat.{ℕ, _+_, _≤_, _<_}
-use native.Mathlib.Nat.{le-refl, le-trans, lt-of-le-of-lt, not-le-of-lt}
+use mathlib.Core.Path.{_≡_, sym, ap, _∙_}
+use mathlib.Core.Bool.{true, not}
+use mathlib.Core.Logic.{_⊎_, inl, inr, ⊎-elim}
+use mathlib.Core.List.{[], _∷_}
+use Prim.Native.Nat.{ℕ, _≤_, _<_}
+use native.Mathlib.Nat.{le-refl, lt-of-le-of-lt, not-le-of-lt}
 use native.Mathlib.Decide.{decLt}
 use native.Mathlib.Omega.{arith}
-use borrow.Author.Tests.{ltb-true, ltb-false, lt-ltb, le-ltb, not-false}
+use borrow.Author.Tests.{ltb-true, not-false}
 use lib.Dec.{ltb}
 use Rattle.general.proofs.JoinedLaws.{Some, some-weaker}
 use Rattle.refusal.specs.declared.Cause.{Cause}
 use Rattle.refusal.specs.declared.Verdict.{Verdict}
 use Rattle.refusal.specs.Checks.{_↝_, verdict}
-use Rattle.refusal.proofs.Checks.{verdict-append, passed-append, none-fails}
+use Rattle.refusal.proofs.Checks.{passed-append, none-fails}
 use Rattle.values.specs.Widths.{limitsOf, functionChecks}
 use Rattle.design.specs.declared.Pair.{Pair}
 use Rattle.design.specs.declared.Design.{Design}
-use Rattle.design.specs.Limits.{mostInitial, mostOffsets}
 use Rattle.design.specs.Cut.{aOf, bOf}
 use Rattle.design.specs.Same.{Same}
-use Rattle.design.specs.Budget.{Admitted, bitsOf, size}
+use Rattle.design.specs.Budget.{Admitted, size}
 use Rattle.design.proofs.LegalLaws.{Limits, limits}
 use Rattle.design.proofs.StoredLaws.{initial-count-small, offset-total-small}
 use Rattle.design.proofs.SameLaws.{pair-same, verdict-same, budget-same, limit-same, size-same}
-use Rattle.searching.specs.declared.Sized.{Sized}
 use Rattle.searching.specs.Designs.{designs}
-use Rattle.searching.specs.Best.{isAdmitted, noBits, nothing, bestOf, smallestOf, smallestChecks, smallestVerdict}
+use Rattle.searching.specs.Best.{isAdmitted, noBits, nothing, smallestOf, smallestChecks, smallestVerdict}
 use Rattle.searching.proofs.AdmittedLaws.{admitted-so, so-admitted}
 use Rattle.searching.proofs.VerdictLaws.{first-refused, none-admitted, some-admitted}
 use Rattle.optimum.specs.Order.{SameBefore, Before, by-g, by-alpha, by-m, by-a, by-b}
 use Rattle.optimum.specs.Optimum.{Of, Cheapest, Optimum}
-use Rattle.optimum.proofs.BestIs.{Element, After, found-in, least-of, first-of}
+use Rattle.optimum.proofs.BestIs.{Element, found-in, least-of, first-of}
 use Rattle.optimum.proofs.Listed.{Listed, all-listed, in-list}
 use Rattle.optimum.proofs.Sorted.{sorted}
 

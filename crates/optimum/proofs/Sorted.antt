@@ -1,6 +1,5 @@
 -- The list is in the document's order.
 use mathlib.Core.Path.{_≡_, refl, sym, ap, _∙_}
-use mathlib.Core.List.{List}
 use Prim.Native.Nat.{ℕ, zero, suc, _+_, _-_, _≤_, _<_}
 use native.Mathlib.Nat.{le-trans}
 use native.Mathlib.Omega.{arith}
@@ -65,7 +64,8 @@ module _ (d : Design) (i : ℕ) (h : i < d .m) (places : length (d .pairs) ≡ m
       ordered-joined Before With a-apart 1 (λ a. forEach 1 mostOffsetBits (λ b. continued n (withPair d i a b) (i + 1))) (d .alpha + 1 - 1)
       (λ j below. all-joined (With (1 + j)) 1 (λ b. continued n (withPair d i (1 + j) b) (i + 1)) mostOffsetBits
       (λ k below'. all-weaker (λ x both. both .with) (continued n (withPair d i (1 + j) (1 + k)) (i + 1)) (all-chosen n (1 + j) (1 + k))))
-      (λ j below. ordered-joined Before (WithBoth (1 + j)) (b-apart (1 + j)) 1 (λ b. continued n (withPair d i (1 + j) b) (i + 1)) mostOffsetBits
+      (λ j below. ordered-joined Before (WithBoth (1 + j)) (b-apart (1 + j)) 1 (λ b. continued n (withPair d i (1 + j) b)
+      (i + 1)) mostOffsetBits
       (λ k below'. all-chosen n (1 + j) (1 + k)) (λ k below'. each (1 + j) (1 + k)))
 
 continued-sorted : (n : ℕ) (d : Design) (i : ℕ) → i + n ≡ d .m → length (d .pairs) ≡ mostTables → d .m ≤ mostTables

@@ -1,20 +1,18 @@
 -- What is not better than the best, though it is admitted: designs whose size or budget is too large already, and none where none is legal.
 use mathlib.Core.Path.{_≡_, sym}
 use mathlib.Core.Bool.{true, false, true≢false}
-use mathlib.Core.List.{List}
-use Prim.Native.Nat.{ℕ, zero, suc, _+_, _*_, _≤_, _<_}
+use Prim.Native.Nat.{ℕ, zero, suc, _+_, _*_, _≤_}
 use native.Mathlib.Nat.{add-suc, add-zero, le-trans}
 use native.Mathlib.Omega.{arith}
 use borrow.Author.Tests.{ltb-true, lt-ltb}
-use Rattle.general.proofs.Tests.{both, both-so}
+use Rattle.general.proofs.Tests.{both}
 use Rattle.general.proofs.JoinedLaws.{All, all-weaker}
-use Rattle.refusal.specs.declared.Verdict.{Verdict}
 use Rattle.refusal.specs.Checks.{passes}
 use Rattle.refusal.proofs.Answers.{only-passed}
 use Rattle.design.specs.declared.Design.{Design}
 use Rattle.design.specs.Limits.{mostOffsetBits}
-use Rattle.design.specs.Cut.{bOf, position}
-use Rattle.design.specs.Legal.{designVerdict, Legal}
+use Rattle.design.specs.Cut.{position}
+use Rattle.design.specs.Legal.{designVerdict}
 use Rattle.design.specs.Budget.{budget, limit, withinLimit, Admitted, size}
 use Rattle.design.proofs.LegalLaws.{Limits, limits}
 use Rattle.general.specs.Below.{sumBelow}

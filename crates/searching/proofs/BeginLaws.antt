@@ -1,23 +1,21 @@
 -- Designs by their number of tables, of which none is chosen yet.
-use mathlib.Core.Path.{_≡_, refl, sym, _∙_}
+use mathlib.Core.Path.{_≡_, refl, _∙_}
 use mathlib.Core.List.{List}
 use Prim.Native.Nat.{ℕ, _+_, _-_, _*_, _≤_, _<_}
 use native.Mathlib.Nat.{le-refl, not-suc-le-zero}
 use native.Mathlib.Omega.{arith}
-use lib.ListN.{getD}
 use Rattle.general.specs.Below.{joined, forEach}
 use Rattle.general.proofs.JoinedLaws.{All, all-joined}
 use Rattle.values.specs.Widths.{limitsOf}
 use Rattle.design.specs.declared.Design.{Design}
 use Rattle.design.specs.Limits.{leastInitialBits, mostInitialBits, mostTables, mostOffsetBits}
-use Rattle.design.specs.Cut.{position}
-use Rattle.design.specs.Budget.{limit, Admitted}
+use Rattle.design.specs.Budget.{limit}
 use Rattle.design.proofs.LegalLaws.{Limits, limits}
 use Rattle.searching.specs.declared.Sized.{Sized}
 use Rattle.searching.specs.declared.prefix.Prefix.{Prefix}
 use Rattle.searching.specs.Designs.{bare, continued}
 use Rattle.searching.specs.Best.{bestOf}
-use Rattle.searching.specs.Search.{budgetBefore, prefixOf, Begun, Open, Next, Unbegun, SpreadsFor, Least, LeastOf, withTables}
+use Rattle.searching.specs.Search.{budgetBefore, prefixOf, Begun, Open, Next, Unbegun, withTables}
 use Rattle.searching.proofs.BestLaws.{NotBetter, best-none, best-one}
 use Rattle.searching.proofs.PrefixLaws.{Agrees, position-first}
 use Rattle.searching.proofs.AdmittedLaws.{bits-between, none-better, none-legal, too-large}

@@ -1,5 +1,5 @@
 -- The best of a list: of two lists one after another, and where nothing in a list is better.
-use mathlib.Core.Path.{_≡_, refl, sym, ap, _∙_}
+use mathlib.Core.Path.{_≡_, refl, _∙_}
 use mathlib.Core.Bool.{Bool, true, false, cond, _&&_}
 use mathlib.Core.List.{List, [], _∷_, _++_}
 use Prim.Native.Nat.{ℕ, zero, suc, _+_, _-_, _≤_, _<_}
@@ -21,12 +21,14 @@ NotBetter best d = isAdmitted d ≡ true → best .bits ≤ size d
 pub better-not : (best : Sized) (d : Design) → NotBetter best d → better best d ≡ best
 unfolding better
 better-not best d not = by (isAdmitted d) refl where
-  by : (admitted : Bool) → isAdmitted d ≡ admitted → cond (admitted && ltb (size d) (best .bits)) (record { design = d; bits = size d }) best ≡ best
+  by : (admitted : Bool) → isAdmitted d ≡ admitted
+      → cond (admitted && ltb (size d) (best .bits)) (record { design = d; bits = size d }) best ≡ best
   by true e = rw (le-ltb (size d) (best .bits) (not e))
   by false e = refl
 
 -- and one that does
-pub better-so : (best : Sized) (d : Design) → isAdmitted d ≡ true → size d < best .bits → better best d ≡ record { design = d; bits = size d }
+pub better-so : (best : Sized) (d : Design) → isAdmitted d ≡ true → size d < best .bits
+    → better best d ≡ record { design = d; bits = size d }
 unfolding better
 better-so best d admitted fewer = rw (admitted, lt-ltb (size d) (best .bits) fewer)
 

@@ -1,5 +1,5 @@
 -- A design with one table more: what is kept of it, and when it can still be completed.
-use mathlib.Core.Path.{_≡_, refl, sym, ap, _∙_}
+use mathlib.Core.Path.{_≡_, sym, ap, _∙_}
 use mathlib.Core.Bool.{false}
 use Prim.Native.Nat.{ℕ, _+_, _-_, _*_, _^_, _≤_, _<_}
 use native.Mathlib.Nat.{le-refl}
@@ -7,7 +7,6 @@ use native.Mathlib.Numerals.{add-one}
 use native.Mathlib.Omega.{arith}
 use lib.ListN.{length, length-set}
 use borrow.Author.Tests.{le-ltb}
-use Rattle.general.specs.Below.{sumBelow}
 use Rattle.general.proofs.Sums.{below-suc, sum-next}
 use Rattle.refusal.proofs.Checks.{not-outside}
 use Rattle.values.specs.Slopes.{largestSpread}
@@ -17,14 +16,14 @@ use Rattle.design.specs.declared.Design.{Design}
 use Rattle.design.specs.declared.legal.TableRule.{TableRule}
 use Rattle.design.specs.Limits.{mostTables, mostOffsetBits, mostTableBits}
 use Rattle.design.specs.Cut.{pairAt, aOf, bOf, row, fractionBits, position}
-use Rattle.design.specs.Stored.{initialCount, offsetCount, tableStart}
+use Rattle.design.specs.Stored.{offsetCount, tableStart}
 use Rattle.design.specs.Legal.{breaks, tableBreaks}
 use Rattle.design.specs.Budget.{reach, tableBudget, limit, bitsOf}
 use Rattle.design.proofs.LegalLaws.{Limits, within}
 use Rattle.design.proofs.StoredLaws.{count-is}
 use Rattle.searching.specs.declared.prefix.Prefix.{Prefix}
 use Rattle.searching.specs.Designs.{withPair}
-use Rattle.searching.specs.Search.{sizeBefore, budgetBefore, Begun, Open, Fitting, Next}
+use Rattle.searching.specs.Search.{sizeBefore, budgetBefore, Open, Fitting, Next}
 use Rattle.searching.proofs.AdmittedLaws.{bits-between}
 use Rattle.searching.proofs.PrefixLaws.{
   Agrees,
@@ -92,7 +91,8 @@ module _ (d : Design) (i a b : ℕ) (h : i < d .m) (places : length (d .pairs) �
   rules : Fitting d i a b → (rule : TableRule) → breaks rule (d .alpha) (record { a = a; b = b }) ≡ false
   unfolding breaks
   rules fit TableRule.SegmentBits = not-outside 1 (d .alpha) a (fit .a-low) (fit .a-high)
-  rules fit TableRule.OffsetBits = rw (not-outside 1 mostOffsetBits b (fit .b-low) (fit .b-high), le-ltb mostTableBits (a + b) (fit .sum-high))
+  rules fit TableRule.OffsetBits =
+      rw (not-outside 1 mostOffsetBits b (fit .b-low) (fit .b-high), le-ltb mostTableBits (a + b) (fit .sum-high))
 
   kept : Open d i → Fitting d i a b → (rule : TableRule) (j : ℕ) → j < i + 1 → tableBreaks rule next j ≡ false
   unfolding tableBreaks withPair

@@ -13,8 +13,8 @@ use Rattle.general.proofs.JoinedLaws.{All, all-weaker, all-joined}
 use Rattle.values.specs.Slopes.{largestSpread}
 use Rattle.design.specs.declared.Pair.{Pair}
 use Rattle.design.specs.declared.Design.{Design}
-use Rattle.design.specs.Limits.{mostTables, mostOffsetBits}
-use Rattle.design.specs.Cut.{noPair, tables, pairAt, aOf, bOf, row, fractionBits, position}
+use Rattle.design.specs.Limits.{mostOffsetBits}
+use Rattle.design.specs.Cut.{noPair, tables, pairAt, bOf, row, fractionBits, position}
 use Rattle.design.specs.Stored.{initialCount, storedCount, offsetCount, tableStart, offsetTotal}
 use Rattle.design.specs.Budget.{reach, tableBudget, budget, limit, bitsOf, size}
 use Rattle.searching.specs.Designs.{withPair, continued}
@@ -90,7 +90,8 @@ module _ (d e : Design) (i : ℕ) (same : Agrees d e i) where
   share-same : (k : ℕ) → k < i → tableBudget d k ≡ tableBudget e k
   unfolding tableBudget reach
   share-same k below =
-      ap (λ (pair : Pair). (2 ^ pair .b - 1) * 2 ^ position d k * largestSpread (row d) (d .w) (fractionBits d) (pair .a)) (same .pairs k below)
+      ap (λ (pair : Pair). (2 ^ pair .b - 1) * 2 ^ position d k * largestSpread (row d) (d .w) (fractionBits d) (pair .a))
+      (same .pairs k below)
       ∙ rw (position-same k (le-of-lt below), same .kind, same .w, same .q, same .g)
 
   pub budget-before-same : budgetBefore d i ≡ budgetBefore e i

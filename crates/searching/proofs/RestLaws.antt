@@ -8,7 +8,6 @@ use Rattle.general.specs.Below.{sumBelow}
 use Rattle.general.proofs.Sums.{sum-next}
 use Rattle.values.specs.Slopes.{largestSpread}
 use Rattle.design.specs.declared.Design.{Design}
-use Rattle.design.specs.Limits.{mostTableBits}
 use Rattle.design.specs.Cut.{aOf, bOf, row, fractionBits, position}
 use Rattle.design.specs.Budget.{reach, tableBudget, budget}
 use Rattle.design.proofs.LegalLaws.{Limits, bits-end}
@@ -60,7 +59,8 @@ module _ (d : Design) (l : Limits d) (least : ℕ) (none-below : Least d least) 
       let grown = rw (add-zero p) at (with-rest p (d .w - d .alpha) spread least flatter 0 b (omega arith) (bits-end d l i h)) in
       rw (next, sum-next i (tableBudget d))
       (combine (sumBelow i (tableBudget d)) ((d .m + 2) * 2 ^ 17) _ _ _ grown) where
-        combine : (sum rest part before after : ℕ) → (1 - 1) * 2 ^ position d i * largestSpread (row d) (d .w) (fractionBits d) (aOf d i) + before ≤ part + after
+        combine : (sum rest part before after : ℕ)
+            → (1 - 1) * 2 ^ position d i * largestSpread (row d) (d .w) (fractionBits d) (aOf d i) + before ≤ part + after
             → sum + rest + before ≤ sum + part + rest + after
         combine sum rest part before after h = omega arith
 

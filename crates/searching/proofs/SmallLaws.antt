@@ -1,5 +1,4 @@
 -- How large sizes, budgets and shares get while tables are chosen.
-use mathlib.Core.Path.{_≡_, ap}
 use Prim.Native.Nat.{ℕ, _+_, _-_, _*_, _^_, _≤_, _<_}
 use native.Mathlib.Nat.{le-of-lt, le-refl, le-trans, lt-of-lt-of-le, mul-le-mul, sub-le}
 use native.Mathlib.Omega.{arith}
@@ -37,7 +36,8 @@ module _ (d : Design) (begun : Begun d) where
   least-few least none-below =
       let fit : SlopeInput (row d) (d .w) (fractionBits d) 1
       = record { lawful = widths .lawful; room = widths .room; a-small = omega (arith, begun .alpha-low, begun .alpha-below) } in
-      le-trans (none-below 1 (le-refl 1) (omega (arith, begun .alpha-low)) (lit< tt)) (largest-spread-small (row d) (d .w) (fractionBits d) 1 fit)
+      le-trans (none-below 1 (le-refl 1) (omega (arith, begun .alpha-low)) (lit< tt)) (largest-spread-small (row d) (d .w)
+      (fractionBits d) 1 fit)
 
   pub rest-few : (least p : ℕ) → Least d least → restFrom d least p ≤ shareBound
   unfolding restFrom

@@ -1,5 +1,5 @@
 -- The turns of the loops over b and over a of the next table, by what is kept of a design.
-use mathlib.Core.Path.{_≡_, refl, sym, ap, _∙_}
+use mathlib.Core.Path.{_≡_, sym, _∙_}
 use mathlib.Core.List.{List}
 use Prim.Native.Nat.{ℕ, suc, _+_, _-_, _*_, _^_, _≤_, _<_, min, max}
 use native.Mathlib.Nat.{le-refl, le-step, le-trans, le-of-lt, lt-of-le-of-lt, le-add-right}
@@ -8,7 +8,7 @@ use native.Mathlib.Omega.{arith}
 use Rattle.general.specs.Below.{joined, forEach}
 use Rattle.values.specs.Slopes.{largestSpread}
 use Rattle.design.specs.declared.Design.{Design}
-use Rattle.design.specs.Limits.{mostTables, mostOffsetBits, mostTableBits}
+use Rattle.design.specs.Limits.{mostOffsetBits, mostTableBits}
 use Rattle.design.specs.Cut.{row, fractionBits, position}
 use Rattle.design.specs.Budget.{limit, Admitted}
 use Rattle.design.proofs.LegalLaws.{limits}
@@ -17,7 +17,7 @@ use Rattle.searching.specs.declared.Sized.{Sized}
 use Rattle.searching.specs.declared.prefix.Prefix.{Prefix}
 use Rattle.searching.specs.Designs.{withPair, continued}
 use Rattle.searching.specs.Best.{bestOf}
-use Rattle.searching.specs.Search.{sizeBefore, budgetBefore, restFrom, prefixOf, Open, Fitting, Next, Least}
+use Rattle.searching.specs.Search.{sizeBefore, budgetBefore, restFrom, Open, Fitting, Next, Least}
 use Rattle.searching.proofs.BestLaws.{best-first, best-one}
 use Rattle.searching.proofs.PrefixLaws.{Agrees, position-same, budget-before-same}
 use Rattle.searching.proofs.OpenLaws.{position-next, budget-next, open-next, position-kept}
@@ -53,10 +53,12 @@ least-high p all m i left first more high left-is is =
     let later = m - (i + 1) in
     let one-more : m - i ≡ later + 1 = omega arith in
     at-most later (rw one-more at high) is where
-      at-most : (later : ℕ) → all ≤ p + (later + 1) * mostOffsetBits → first ≡ max 1 (left - later * mostOffsetBits) → first ≤ mostOffsetBits
+      at-most : (later : ℕ) → all ≤ p + (later + 1) * mostOffsetBits → first ≡ max 1 (left - later * mostOffsetBits)
+          → first ≤ mostOffsetBits
       at-most later high is = omega arith
 
-no-room : (limit share rest sum share' rest' : ℕ) → limit ≤ sum + share + rest → share + rest ≤ share' + rest' → sum + share' + rest' < limit → ⊥
+no-room : (limit share rest sum share' rest' : ℕ) → limit ≤ sum + share + rest → share + rest ≤ share' + rest'
+    → sum + share' + rest' < limit → ⊥
 no-room limit share rest sum share' rest' large larger within = omega arith
 
 sum-fits : (budget rest sum share most : ℕ) → budget ≡ sum + share → rest ≤ shareBound → sum < most → most ≤ 2 ^ 38 → share ≤ shareBound
@@ -132,7 +134,8 @@ module _ (prefix : Prefix) (n : Next prefix) (more : prefix .tables + 1 < prefix
             high = le-step
                 (least-high (position d i) (d .w - d .alpha) (d .m) i left first (n .more) (o .left-high) left-here first-is);
             so-far = first-b d i o (n .more) best later a first (one first (le-refl first))
-                (λ b below fit. below-least (position d i) (d .w - d .alpha) later left b left-here first first-is below (fit .b-low) (fit .left-high));
+                (λ b below fit. below-least (position d i) (d .w - d .alpha) later left b left-here first first-is below (fit .b-low)
+                (fit .left-high));
           }
 
       turn : (found now : Sized) (b : ℕ) → Here found b → b < end → bestOf found (by b) ≡ now → Here now (b + 1)
@@ -231,7 +234,8 @@ module _ (prefix : Prefix) (n : Next prefix) (more : prefix .tables + 1 < prefix
         rw next-is
         (record {
           is = rw (bits-are, budget-is, begins);
-          so-far = open-next d i a b (n .more) (begun .places) (begun .m-high) o (turn-fits b from below) (rw (budget-is, most-is) at within);
+          so-far = open-next d i a b (n .more) (begun .places) (begun .m-high) o (turn-fits b from below) (rw
+              (budget-is, most-is) at within);
           more = more;
         })
 
@@ -239,7 +243,8 @@ module _ (prefix : Prefix) (n : Next prefix) (more : prefix .tables + 1 < prefix
 pub record OverA (d : Design) (i : ℕ) (end : ℕ) (best found : Sized) (a : ℕ) : Type 0 where
   pub low : 1 ≤ a
   pub high : a ≤ end
-  pub so-far : bestOf best (joined 1 (a - 1) (λ a. forEach 1 mostOffsetBits (λ b. continued (d .m - (i + 1)) (withPair d i a b) (i + 1)))) ≡ found
+  pub so-far : bestOf best (joined 1 (a - 1) (λ a. forEach 1 mostOffsetBits (λ b. continued (d .m - (i + 1)) (withPair d i a b)
+      (i + 1)))) ≡ found
 
 -- one table and the later ones are all
 later-is : (m i : ℕ) → i < m → suc (m - (i + 1)) ≡ m - i

@@ -17,7 +17,8 @@ module _ (kind w q : ℕ) where
       → smallestVerdict kind w q ≡ Verdict.Refused cause
   unfolding smallestVerdict smallestChecks
   first-refused cause e =
-      verdict-append (functionChecks (limitsOf kind) kind w q) (not (ltb (smallestOf kind w q .bits) noBits) ↝ Cause.NoneAdmitted ∷ []) ∙ rw e
+      verdict-append (functionChecks (limitsOf kind) kind w q) (not (ltb
+      (smallestOf kind w q .bits) noBits) ↝ Cause.NoneAdmitted ∷ []) ∙ rw e
 
   module _ (passed : verdict (functionChecks (limitsOf kind) kind w q) ≡ Verdict.Passed) where
     pub none-admitted : noBits ≤ smallestOf kind w q .bits → smallestVerdict kind w q ≡ Verdict.Refused Cause.NoneAdmitted

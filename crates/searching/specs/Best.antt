@@ -5,7 +5,6 @@ use Prim.Native.Nat.{ℕ, _-_, _^_}
 use lib.Dec.{ltb}
 use Rattle.refusal.specs.declared.Cause.{Cause}
 use Rattle.refusal.specs.declared.Verdict.{Verdict}
-use Rattle.refusal.specs.Numbers.{numberOf}
 use Rattle.refusal.specs.Checks.{Check, _↝_, verdict, ifPassed, passes}
 use Rattle.refusal.specs.Told.{Told, told}
 use Rattle.values.specs.Widths.{limitsOf, functionChecks}

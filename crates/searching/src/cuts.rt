@@ -99,7 +99,8 @@ fn each_offset_bits(spreads: &[u64], least: u64, prefix: Prefix, a: u32, best: S
     requires { ⌜ (1 ≤ a) × (a ≤ prefix .design .alpha) × (a < mostTableBits) ⌝ }
     ensures { λ r.
         ⌜ r ≡ bestOf best (forEach 1 mostOffsetBits
-        (λ b. continued (prefix .design .m - (prefix .tables + 1)) (withPair (prefix .design) (prefix .tables) a b) (prefix .tables + 1))) ⌝ }
+        (λ b. continued (prefix .design .m - (prefix .tables + 1)) (withPair (prefix .design) (prefix .tables) a b)
+        (prefix .tables + 1))) ⌝ }
 {
     let d = prefix.design;
     let i = prefix.tables;

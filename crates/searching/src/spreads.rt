@@ -1,5 +1,5 @@
 // The largest Hi - Lo for each number of segment bits, found once for a function and its widths.
-ghost use Prim.Native.Nat.{_+_, _≤_, _<_};
+ghost use Prim.Native.Nat.{_+_, _<_};
 ghost use mathlib.Core.Path.{_≡_};
 ghost use Rattle.refusal.specs.declared.Verdict.{Verdict};
 ghost use Rattle.refusal.specs.Checks.{verdict};

@@ -1,5 +1,5 @@
 -- Designs of which the same is read get the same answers. Every definition comes down to the six numbers and to the pairs below m.
-use mathlib.Core.Path.{_≡_, refl, _∙_, ap₂, fun-ext}
+use mathlib.Core.Path.{_≡_, refl, ap₂, fun-ext}
 use mathlib.Core.List.{List, _++_}
 use Prim.Native.Nat.{ℕ, zero, suc}
 use lib.IntN.{ℤ}

@@ -65,7 +65,8 @@ returns-2 c =
 returns-3 : tie.Need-returns-3
 returns-3 c =
     let best = c .before .before in
-    finds _ _ _ _ (some-admitted _ _ _ (passed (best .before)) (fewer (best .best-design .ensures) (c .if1 .left))) (rw (best .best-design .ensures))
+    finds _ _ _ _ (some-admitted _ _ _ (passed (best .before)) (fewer (best .best-design .ensures) (c .if1 .left))) (rw
+    (best .best-design .ensures))
 
 best-design-requires : tie.Need-best-design-requires
 best-design-requires c κs = passed c

@@ -6,7 +6,7 @@ use native.Mathlib.Omega.{arith}
 use Rattle.refusal.specs.declared.Verdict.{Verdict}
 use Rattle.design.specs.Legal.{Legal}
 use Rattle.searching.specs.declared.Found.{Found}
-use Rattle.searching.specs.Best.{smallestVerdict, smallestOf, refusedWith, smallestAnswer}
+use Rattle.searching.specs.Best.{smallestVerdict, refusedWith, smallestAnswer}
 use Rattle.optimum.proofs.Optimal.{optimum}
 use Rattle.smallest_design.proofs.answer.Statement.{statement}
 use Rattle.smallest_design.proofs.answer.Tie as tie
@@ -19,7 +19,8 @@ answered kind w q Verdict.Passed e passed = rw e (optimum .found kind w q e .adm
 answered kind w q (Verdict.Refused cause) e passed =
     let z : _≡_ {A = ℕ} 0 1 = cc (rw e at passed) in absurd (omega arith)
 
-legal-found : (kind w q : ℕ) (found : Found) → found ≡ smallestAnswer kind w q → found .verdict ≡ Verdict.Passed → Legal (found .best .design)
+legal-found : (kind w q : ℕ) (found : Found) → found ≡ smallestAnswer kind w q → found .verdict ≡ Verdict.Passed
+    → Legal (found .best .design)
 legal-found kind w q found is passed = rw is (answered kind w q (smallestVerdict kind w q) refl (rw is at passed))
 
 print-design-requires : tie.Need-print-design-requires

@@ -160,8 +160,10 @@ b-returns t c =
     let loop = c .before .before .before .before .before in
     let inv = loop .before .loop .inv in
     ⊎-elim
-    (λ w. sym (left-many _ (f .0) (f .1) _ (g .0) (g .1) (g .2) _ refl _ _ first-is end-is _ _ _ inv (loop .loop-test .taken) _ (c .before .before .before .size-with .ensures) (w .taken)))
-    (λ w. sym (left-large _ (f .0) (f .1) _ (g .0) (g .1) (g .2) _ refl _ _ first-is end-is _ _ _ inv (loop .loop-test .taken) _ _ _ _ (e .0 .1) (c .before .before .budget-with .ensures)
+    (λ w. sym (left-many _ (f .0) (f .1) _ (g .0) (g .1) (g .2) _ refl _ _ first-is end-is _ _ _ inv (loop .loop-test .taken) _
+    (c .before .before .before .size-with .ensures) (w .taken)))
+    (λ w. sym (left-large _ (f .0) (f .1) _ (g .0) (g .1) (g .2) _ refl _ _ first-is end-is _ _ _ inv (loop .loop-test .taken) _ _ _ _
+    (e .0 .1) (c .before .before .budget-with .ensures)
     (w .1 .ensures) (most .before .before .limit-of .ensures) (leb-true _ _ (w .2 .taken))))
     (c .if1 .came)
 
@@ -184,7 +186,8 @@ b-loop-again t c =
     let first-is = most .before .least-offset-bits .ensures in
     let end-is = ap (λ (n : ℕ). n + 1) (most .most-offset-bits .ensures) in
     let loop = c .before .before .before .before .before .before .before .before .before in
-    turn-taken _ (f .0) (f .1) _ (g .0) (g .1) (g .2) _ refl _ _ first-is end-is _ _ _ _ _ (loop .before .loop .inv) (loop .loop-test .taken) (c .before .with-pair .ensures)
+    turn-taken _ (f .0) (f .1) _ (g .0) (g .1) (g .2) _ refl _ _ first-is end-is _ _ _ _ _ (loop .before .loop .inv)
+    (loop .loop-test .taken) (c .before .with-pair .ensures)
     (c .each-segment-bits .ensures)
 
 b-sub-left : (t : ℕ) → b-lts.Need-sub-left (b-calls t) (by-b-at t) by-b.Post b-Inv b-μ
@@ -226,10 +229,12 @@ b-loop-holds t c =
     let e = c .before .before .before .before .before .before .before .before .pre .1 in
     let f = e .1 .0 in
     let g = e .1 .1 in
-    turns-begin _ (f .0) (f .1) _ (g .0) (g .1) (g .2) _ refl _ _ (c .before .least-offset-bits .ensures) (ap (λ (n : ℕ). n + 1) (c .most-offset-bits .ensures)) _
+    turns-begin _ (f .0) (f .1) _ (g .0) (g .1) (g .2) _ refl _ _ (c .before .least-offset-bits .ensures) (ap (λ (n : ℕ). n + 1)
+    (c .most-offset-bits .ensures)) _
 
 -- the pair of this turn fits
-b-fits : (t : ℕ) (c : b-lts.In-loop (b-calls t) (by-b-at t) by-b.Post b-Inv b-μ) → let a = c .before .before .before .before .before .before .before .before .before .before .args in
+b-fits : (t : ℕ) (c : b-lts.In-loop (b-calls t) (by-b-at t) by-b.Post b-Inv b-μ)
+    → let a = c .before .before .before .before .before .before .before .before .before .before .args in
     Next (a .prefix) × Fitting (a .prefix .design) (a .prefix .tables) (a .a) (c .before .loop .b)
 b-fits t c =
     let most = c .before .before in
@@ -256,8 +261,10 @@ b-budget-with-requires t c κs =
 b-rest-from-requires : (t : ℕ) → b-lts.Need-rest-from-requires (b-calls t) (by-b-at t) by-b.Post b-Inv b-μ
 b-rest-from-requires t c κs =
     let loop = c .before .before .before .before .before in
-    let fit = b-fits t loop in
-    ((fit .0 .so-far .begun, loop .before .before .before .before .before .before .before .before .before .before .pre .1 .0 .1), position-in _ _ _ _ _ (position-kept _ (fit .0)) (fit .1 .left-low))
+    let fit = b-fits t loop in (
+      (fit .0 .so-far .begun, loop .before .before .before .before .before .before .before .before .before .before .pre .1 .0 .1),
+      position-in _ _ _ _ _ (position-kept _ (fit .0)) (fit .1 .left-low),
+    )
 
 b-add-if2 : (t : ℕ) → b-lts.Need-add-if2 (b-calls t) (by-b-at t) by-b.Post b-Inv b-μ
 b-add-if2 t c =
@@ -300,7 +307,8 @@ b-each-segment-bits-requires t c κs =
         ),
         next-open _ (f .0) (f .1) _ (g .0) (g .1) (g .2) _ refl _ _ (most .before .least-offset-bits .ensures)
             (ap (λ (n : ℕ). n + 1) (most .most-offset-bits .ensures)) _ _ _ _ _ (loop .before .loop .inv .from) (loop .loop-test .taken)
-            (c .with-pair .ensures) (budget .before .size-with .ensures) (budget .budget-with .ensures) (most .before .before .limit-of .ensures)
+            (c .with-pair .ensures) (budget .before .size-with .ensures) (budget .budget-with .ensures)
+            (most .before .before .limit-of .ensures)
             (lt-of-le-of-lt (le-add-right _ _) (leb-false _ _ (c .before .if2 .left))),
       ),
     )
@@ -355,8 +363,16 @@ a-each-offset-bits-requires t c κs =
     let start = smaller .before .before .before .before .before .before .before in
     let e = start .pre .1 in
     let inv = c .before .loop .inv in
-    let few = below-both _ _ _ (smaller .smaller .ensures) (c .loop-test .taken) in
-    (one-below (start .pre .0), (e .0, ((e .1, not-last _ _ (smaller .before .before .if1 .left) (e .1 .more)), (inv .low, few .0, few .1))))
+    let few = below-both _ _ _ (smaller .smaller .ensures) (c .loop-test .taken) in (
+      one-below (start .pre .0),
+      (
+        e .0,
+        (
+          (e .1, not-last _ _ (smaller .before .before .if1 .left) (e .1 .more)),
+          (inv .low, few .0, few .1),
+        ),
+      ),
+    )
 
 a-add-a : (t : ℕ) → a-lts.Need-add-a (a-calls t) (by-a-at t) by-a.Post a-Inv a-μ
 a-add-a t c =

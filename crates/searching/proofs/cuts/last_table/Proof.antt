@@ -1,10 +1,8 @@
 -- `searching::cuts::last_table` meets its contract: after the turn of a, the best is that of all a so far.
-use mathlib.Core.Path.{_≡_, refl, sym, ap, _∙_}
-use mathlib.Core.Logic.{_⊎_, ⊎-elim, inl, inr}
-use Prim.Native.Nat.{ℕ, zero, suc, _+_, _-_, _*_, _≤_, _<_, min}
+use mathlib.Core.Path.{_≡_, refl, sym, _∙_}
+use Prim.Native.Nat.{ℕ, _+_, _-_, _*_, _≤_, _<_, min}
 use borrow.Author.Count.{falls}
 use borrow.Author.Needs.{needs}
-use borrow.Author.Tests.{ltb-true, ltb-false}
 use native.Mathlib.Nat.{le-refl, le-trans, lt-of-lt-of-le, le-add-right}
 use native.Mathlib.Omega.{arith}
 use mir.Syntax.{w32}
@@ -153,7 +151,8 @@ module _ (prefix : Prefix) (n : Next prefix) (last : prefix .tables + 1 ≡ pref
       done : (a : ℕ) → Inv best d i end a → end ≤ a → best ≡ bestOf best (continued 1 d i)
       done a inv ended =
           sym (last-a d i o (n .more) best best 0 a (inv .low) (omega (arith, inv .high, end-is))
-          (λ a' other from e same admitted. absurd (beyond a' other (le-trans ended from) (tables.fits d i o (n .more) a' other e same admitted)))
+          (λ a' other from e same admitted. absurd (beyond a' other (le-trans ended from) (tables.fits d i o
+          (n .more) a' other e same admitted)))
           (inv .so-far))
 
 abbrev Inv-loop : tie.InvT-loop
@@ -234,7 +233,8 @@ loop-holds c =
 -- the pair of this turn fits
 next-fits : (c : tie.In-loop Inv-loop μ-loop) → let a = c .before .before .before .before .before .before .before .before .before .args in
     let prefix = a .prefix in
-    Next prefix × Fitting (prefix .design) (prefix .tables) (c .before .loop .a) (prefix .design .w - prefix .design .alpha - prefix .position)
+    Next prefix × Fitting (prefix .design) (prefix .tables) (c .before .loop .a)
+    (prefix .design .w - prefix .design .alpha - prefix .position)
 next-fits c =
     let smaller = c .before .before in
     let e = asked (smaller .before .before .before .before .before .before .before) in

@@ -1,5 +1,4 @@
 -- `searching::prefix::rest_from` meets its contract.
-use Prim.Native.Nat.{_≤_}
 use borrow.Author.Needs.{needs}
 use native.Mathlib.Nat.{lt-of-le-of-lt}
 use native.Mathlib.Omega.{arith}
@@ -27,7 +26,10 @@ mul-result : tie.Need-mul-result
 unfolding restFrom
 mul-result c =
     rw (c .before .pow2 .ensures, c .pow22 .ensures)
-    (record { fits = lt-of-le-of-lt (rest-few _ (c .before .before .before .pre .0 .0) _ _ (c .before .before .before .pre .0 .1)) (lit< tt) })
+    (record {
+      fits = lt-of-le-of-lt (rest-few _ (c .before .before .before .pre .0 .0) _ _ (c .before .before .before .pre .0 .1))
+          (lit< tt);
+    })
 
 pub rest-from-spec : {M : Type 1} → statement M
 rest-from-spec = tie.close (tie.spec (λ c. search needs) pow2-requires pow2-requires-2 sub-result mul-result returns)

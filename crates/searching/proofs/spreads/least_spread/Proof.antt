@@ -20,7 +20,8 @@ record Inv (spreads : List ℕ) (alpha least a : ℕ) : Type 0 where
   least-so-far : (k : ℕ) → 1 ≤ k → k < a → k ≤ alpha → least ≤ getD spreads k 0
 
 -- one more: the least of those before is kept, or a smaller one
-module _ {spreads : List ℕ} {alpha least a : ℕ} (inv : Inv spreads alpha least a) (below : a < mostTableBits) (now : ℕ) (fewer : now ≤ least)
+module _ {spreads : List ℕ} {alpha least a : ℕ} (inv : Inv spreads alpha least a) (below : a < mostTableBits) (now : ℕ)
+    (fewer : now ≤ least)
     (here : a ≤ alpha → now ≤ getD spreads a 0) where
   one-more : Inv spreads alpha now (a + 1)
   one-more =

@@ -3,7 +3,6 @@ use mathlib.Core.Path.{_≡_, refl, _∙_}
 use mathlib.Core.List.{List}
 use mathlib.Core.Logic.{⊎-elim}
 use Prim.Native.Nat.{ℕ, _+_, _-_, _≤_, _<_}
-use borrow.Author.Needs.{needs}
 use native.Mathlib.Numerals.{add-one}
 use native.Mathlib.Omega.{arith}
 use lib.ListN.{length, getD, set, length-set}
@@ -73,7 +72,14 @@ row-of-requires c κs = passed c .kind-known
 
 loop-holds : tie.Need-loop-holds Inv-loop μ-loop
 loop-holds c =
-    record { row-is = c .row-of .ensures; long = refl; low = omega arith; high = omega arith; at = λ k one before asked. absurd (omega arith) }
+    record {
+      row-is = c .row-of .ensures;
+      long = refl;
+      low = omega arith;
+      high = omega arith;
+      at = λ k one before asked. absurd
+          (omega arith);
+    }
 
 add-largest-spread : tie.Need-add-largest-spread Inv-loop μ-loop
 add-largest-spread c = omega (arith, passed (c .before .before .before .before) .room .s-small)

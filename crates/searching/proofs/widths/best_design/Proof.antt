@@ -1,5 +1,5 @@
 -- `searching::widths::best_design` meets its contract: before the turn of g, the best is that of all g before it.
-use mathlib.Core.Path.{_≡_, refl, sym, _∙_}
+use mathlib.Core.Path.{_≡_, sym, _∙_}
 use mathlib.Core.Logic.{⊎-elim}
 use mathlib.Core.List.{List}
 use Prim.Native.Nat.{ℕ, _+_, _-_, _≤_, _<_}
@@ -12,7 +12,7 @@ use Rattle.general.specs.Below.{joined, forEach}
 use Rattle.refusal.specs.declared.Verdict.{Verdict}
 use Rattle.refusal.specs.Checks.{verdict}
 use Rattle.values.specs.declared.widths.Limits.{Limits}
-use Rattle.values.specs.Widths.{limitsOf, functionChecks, widthChecks}
+use Rattle.values.specs.Widths.{limitsOf, functionChecks}
 use Rattle.values.proofs.WidthLaws.{guard-passes, function-within}
 use Rattle.design.specs.declared.Design.{Design}
 use Rattle.design.specs.Limits.{leastInitialBits, mostInitialBits}
@@ -97,7 +97,8 @@ loop-again c =
     let limits-is = loop .before .before .before .before .limits-of .ensures in
     let inv = loop .before .loop .inv in
     let below = below-end _ _ limits-is _ (loop .loop-test .taken) in
-    ⊎-elim (λ v. rw (v .2) (turn _ _ _ _ _ inv below _ (v .1 .ensures))) (λ v. rw (v .1) (skipped _ _ _ _ _ inv below (over _ _ limits-is _ (v .0 .left))))
+    ⊎-elim (λ v. rw (v .2) (turn _ _ _ _ _ inv below _ (v .1 .ensures))) (λ v. rw (v .1) (skipped _ _ _ _ _ inv below
+    (over _ _ limits-is _ (v .0 .left))))
     (c .if1 .came)
 
 add-g-end : tie.Need-add-g-end Inv-loop μ-loop

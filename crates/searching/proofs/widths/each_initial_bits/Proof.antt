@@ -1,5 +1,5 @@
 -- `searching::widths::each_initial_bits` meets its contract: before the turn of alpha, the best is that of all alpha before it.
-use mathlib.Core.Path.{_≡_, refl, sym, _∙_}
+use mathlib.Core.Path.{_≡_, sym, _∙_}
 use mathlib.Core.List.{List}
 use Prim.Native.Nat.{ℕ, _+_, _-_, _≤_, _<_, min}
 use borrow.Author.Count.{falls}
@@ -9,7 +9,6 @@ use Rattle.general.specs.Below.{joined, forEach}
 use Rattle.refusal.specs.declared.Verdict.{Verdict}
 use Rattle.refusal.specs.Checks.{verdict}
 use Rattle.values.specs.Widths.{limitsOf, widthChecks}
-use Rattle.values.proofs.WidthLaws.{widths-of}
 use Rattle.design.specs.declared.Design.{Design}
 use Rattle.design.specs.Limits.{leastInitialBits, mostInitialBits, mostTables}
 use Rattle.searching.specs.declared.Sized.{Sized}
@@ -94,8 +93,10 @@ each-table-count-requires c κs =
     let loop = c .before .before in
     let smaller = loop .before .before in
     let inv = loop .before .loop .inv in (
-      unbegun _ _ _ _ _ (smaller .before .before .pre) (smaller .smaller .ensures) _ (inv .low) (loop .loop-test .taken) _ (c .bare .ensures),
-      spreads-kept _ _ _ _ _ (smaller .before .before .pre) (smaller .smaller .ensures) _ (inv .low) (loop .loop-test .taken) _ (c .bare .ensures) _
+      unbegun _ _ _ _ _ (smaller .before .before .pre) (smaller .smaller .ensures) _ (inv .low) (loop .loop-test .taken) _
+          (c .bare .ensures),
+      spreads-kept _ _ _ _ _ (smaller .before .before .pre) (smaller .smaller .ensures) _ (inv .low) (loop .loop-test .taken) _
+          (c .bare .ensures) _
           (inv .known),
     )
 

@@ -1,19 +1,16 @@
 -- `searching::widths::each_table_count` meets its contract: before the turn of m, the best is that of all m before it.
-use mathlib.Core.Path.{_≡_, refl, sym, _∙_}
+use mathlib.Core.Path.{_≡_, sym, _∙_}
 use mathlib.Core.Logic.{⊎-elim}
 use mathlib.Core.List.{List}
 use Prim.Native.Nat.{ℕ, _+_, _-_, _≤_, _<_}
 use borrow.Author.Count.{falls}
-use borrow.Author.Needs.{needs}
 use borrow.Author.Tests.{ltb-true, ltb-false, leb-true, leb-false}
 use native.Mathlib.Nat.{le-of-suc-le-suc, not-le-of-lt}
 use native.Mathlib.Omega.{arith}
-use lib.ListN.{getD}
 use Rattle.general.specs.Below.{joined}
 use Rattle.values.proofs.WidthLaws.{widths-of}
 use Rattle.design.specs.declared.Design.{Design}
 use Rattle.design.specs.Limits.{mostTables}
-use Rattle.design.specs.Cut.{fractionBits}
 use Rattle.searching.specs.declared.Sized.{Sized}
 use Rattle.searching.specs.declared.prefix.Prefix.{Prefix}
 use Rattle.searching.specs.Designs.{bare, continued}
@@ -36,7 +33,8 @@ abbrev μ-loop : tie.MeasureT-loop
 μ-loop spreads d left limit least found₀ m₀ found m = mostTables + 1 - m
 
 -- what is known of the spreads is known of the design with its tables
-module _ (d : Design) (m : ℕ) (spreads : List ℕ) (known : SpreadsFor d spreads) (first : Prefix) (is : first ≡ prefixOf (withTables d m) 0) where
+module _ (d : Design) (m : ℕ) (spreads : List ℕ) (known : SpreadsFor d spreads) (first : Prefix) (is : first ≡ prefixOf
+    (withTables d m) 0) where
   spreads-kept : SpreadsFor (first .design) spreads
   unfolding bare
   spreads-kept = rw is known
@@ -78,7 +76,8 @@ loop-again c =
     ⊎-elim (λ w. rw (w .5) (gone-through _ u _ _ _ inv (loop .loop-test .taken) _ _ (first .first-prefix .ensures) (w .4 .ensures)))
     (λ w. rw (w .1) (skip (turn-skipped _ u _ _ _ (inv .low) (inv .so-far) (⊎-elim
     (λ v. over-limit _ u found _ _ _ (first .first-prefix .ensures) limit-is (ltb-false _ _ (v .3 .left)))
-    (λ v. not-shared _ u found _ (λ enough few. ⊎-elim (λ x. not-le-of-lt (leb-false _ _ (x .1 .left)) few) (λ x. not-le-of-lt (x .left) enough) v))
+    (λ v. not-shared _ u found _ (λ enough few. ⊎-elim (λ x. not-le-of-lt (leb-false _ _ (x .1 .left)) few) (λ x. not-le-of-lt
+    (x .left) enough) v))
     (w .0 .came)))))
     (c .if1 .came)
 
@@ -118,7 +117,8 @@ each-segment-bits-requires c κs =
     let d = start .args .d in
     let is = first .first-prefix .ensures in (
       (spreads-kept d _ _ (e .1) _ is, least-kept d _ _ (e .1) _ is (e .0) _ (least .least-spread .ensures)),
-      first-next d (e .0) _ _ is (loop .before .loop .inv .low) (le-of-suc-le-suc (loop .loop-test .taken)) (c .before .before .before .if1 .taken)
+      first-next d (e .0) _ _ is (loop .before .loop .inv .low) (le-of-suc-le-suc (loop .loop-test .taken))
+          (c .before .before .before .if1 .taken)
           (leb-true _ _ (c .before .before .if2 .taken)) (rw (← least .before .limit-of .ensures) (ltb-true _ _ (c .if3 .taken))),
     )
 

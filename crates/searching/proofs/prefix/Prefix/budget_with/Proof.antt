@@ -1,6 +1,6 @@
 -- `searching::prefix::Prefix::budget_with` meets its contract: a table more adds its reach times the largest spread by its a.
-use mathlib.Core.Path.{_≡_, sym, _∙_}
-use Prim.Native.Nat.{ℕ, _+_, _-_, _*_, _^_, _≤_}
+use mathlib.Core.Path.{_≡_, sym}
+use Prim.Native.Nat.{ℕ, _+_, _-_, _*_, _^_}
 use borrow.Author.Needs.{needs}
 use native.Mathlib.Nat.{lt-trans, lt-of-le-of-lt}
 use native.Mathlib.Omega.{arith}
@@ -11,7 +11,6 @@ use mathlib.Core.List.{List}
 use Rattle.values.specs.Slopes.{largestSpread}
 use Rattle.design.specs.declared.Design.{Design}
 use Rattle.design.specs.Cut.{row, fractionBits, position}
-use Rattle.design.proofs.BudgetLaws.{shareBound}
 use Rattle.searching.specs.declared.prefix.Prefix.{Prefix}
 use Rattle.searching.specs.Designs.{withPair}
 use Rattle.searching.specs.Search.{budgetBefore, Fitting, Next, SpreadsFor}
@@ -34,7 +33,8 @@ module _ (prefix : Prefix) (a b high low : ℕ) (n : Next prefix) (fit : Fitting
     spread-is =
         known .at a (fit .a-low) (omega (arith, fit .b-low, fit .sum-high)) (omega (arith, fit .a-high, n .so-far .begun .alpha-below))
 
-    share-is : (high - 1) * low * getD spreads a 0 ≡ (2 ^ b - 1) * 2 ^ position d (prefix .tables) * largestSpread (row d) (d .w) (fractionBits d) a
+    share-is : (high - 1) * low * getD spreads a 0 ≡ (2 ^ b - 1) * 2 ^ position d (prefix .tables) * largestSpread (row d) (d .w)
+        (fractionBits d) a
     share-is = rw (reach-is, spread-is)
 
     grown : prefix .budget + (high - 1) * low * getD spreads a 0 ≡ budgetBefore (withPair d (prefix .tables) a b) (prefix .tables + 1)

@@ -1,5 +1,5 @@
 -- `searching::prefix::Prefix::size_with` meets its contract: a table more has 2^(a+b) entries more.
-use mathlib.Core.Path.{_≡_, sym, _∙_}
+use mathlib.Core.Path.{_≡_, sym}
 use Prim.Native.Nat.{ℕ, _+_, _^_, _≤_}
 use borrow.Author.Needs.{needs}
 use native.Mathlib.Omega.{arith}
@@ -7,7 +7,7 @@ use Rattle.design.specs.Limits.{mostInTable}
 use Rattle.design.specs.Budget.{bitsOf}
 use Rattle.searching.specs.declared.prefix.Prefix.{Prefix}
 use Rattle.searching.specs.Designs.{withPair}
-use Rattle.searching.specs.Search.{sizeBefore, Fitting, Next}
+use Rattle.searching.specs.Search.{sizeBefore, Next}
 use Rattle.searching.proofs.OpenLaws.{size-next, bits-kept}
 use Rattle.searching.proofs.SmallLaws.{size-few, entries-few}
 use Rattle.searching.proofs.prefix.Prefix.size_with.Statement.{statement}
