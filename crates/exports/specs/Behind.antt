@@ -13,7 +13,7 @@ use Rattle.tables.specs.Set.{setChecks}
 use Rattle.tables.specs.Sum.{sumAt}
 use Rattle.checking.specs.Check.{Finding, all-faithful, lowest-unfaithful}
 use Rattle.counting.specs.declared.Counts.{Counts}
-use Rattle.searching.specs.declared.Sized.{Sized}
+use Rattle.searching.specs.declared.SizedDesign.{SizedDesign}
 use Rattle.exports.specs.Numbers.{numbersOf}
 
 -- A value, a budget or a size, a word, a sum, the length of a line
@@ -39,11 +39,11 @@ countsAfter (accepted counts) before =
 countsAfter (refused number place) before = before
 
 -- The smallest design as its numbers, and its size in bits
-abbrev pub designAfter : Told Sized → List ℕ → List ℕ
+abbrev pub designAfter : Told SizedDesign → List ℕ → List ℕ
 designAfter (accepted best) before = numbersOf (best .design)
 designAfter (refused number place) before = before
 
-abbrev pub bitsAfter : Told Sized → ℕ → ℕ
+abbrev pub bitsAfter : Told SizedDesign → ℕ → ℕ
 bitsAfter (accepted best) before = best .bits
 bitsAfter (refused number place) before = before
 

@@ -10,16 +10,16 @@ use native.Mathlib.Omega.{arith}
 use Rattle.general.proofs.JoinedLaws.{All, Some, Ordered}
 use Rattle.design.specs.declared.Design.{Design}
 use Rattle.design.specs.Budget.{size}
-use Rattle.searching.specs.declared.Sized.{Sized}
+use Rattle.searching.specs.declared.SizedDesign.{SizedDesign}
 use Rattle.searching.specs.Best.{isAdmitted, better, bestOf}
 use Rattle.searching.proofs.BestLaws.{better-not, better-so}
 
 -- One design more: the best stands, or the design takes its place.
-data Turn (best : Sized) (d : Design) : Type 0 where
+data Turn (best : SizedDesign) (d : Design) : Type 0 where
   stands : better best d ≡ best → (isAdmitted d ≡ true → best .bits ≤ size d) → Turn best d
   taken : better best d ≡ record { design = d; bits = size d } → isAdmitted d ≡ true → size d < best .bits → Turn best d
 
-turn : (best : Sized) (d : Design) → Turn best d
+turn : (best : SizedDesign) (d : Design) → Turn best d
 turn best d = by (isAdmitted d) refl where
   not-true : isAdmitted d ≡ false → isAdmitted d ≡ true → best .bits ≤ size d
   not-true e f = let z : _≡_ {A = Bool} true false = sym f ∙ e in absurd (true≢false z)
@@ -32,7 +32,7 @@ turn best d = by (isAdmitted d) refl where
   ]
 
 -- What a turn leaves
-module _ (best : Sized) (d : Design) where
+module _ (best : SizedDesign) (d : Design) where
   turn-bits : better best d .bits ≤ best .bits
   turn-bits = elim (turn best d) [
     | stands is many ↦ rw is (le-refl _)
@@ -58,12 +58,12 @@ module _ (best : Sized) (d : Design) where
   ]
 
 -- So a list leaves the best, or finds one with fewer bits.
-pub no-more : (best : Sized) (ds : List Design) → bestOf best ds .bits ≤ best .bits
+pub no-more : (best : SizedDesign) (ds : List Design) → bestOf best ds .bits ≤ best .bits
 unfolding bestOf
 no-more best [] = le-refl _
 no-more best (d ∷ ds) = le-trans (no-more (better best d) ds) (turn-bits best d)
 
-unchanged : (best : Sized) (ds : List Design) → best .bits ≤ bestOf best ds .bits → bestOf best ds ≡ best
+unchanged : (best : SizedDesign) (ds : List Design) → best .bits ≤ bestOf best ds .bits → bestOf best ds ≡ best
 unfolding bestOf
 unchanged best [] many = refl
 unchanged best (d ∷ ds) many =
@@ -71,18 +71,19 @@ unchanged best (d ∷ ds) many =
     unchanged (better best d) ds (le-trans (turn-bits best d) many) ∙ kept
 
 -- What is found is an element that is admitted, with its size.
-pub record Element (P : Design → Type 0) (found : Sized) : Type 0 where
+pub record Element (P : Design → Type 0) (found : SizedDesign) : Type 0 where
   pub has : P (found .design)
   pub admitted : isAdmitted (found .design) ≡ true
   pub bits : found .bits ≡ size (found .design)
 
-turn-in : (P : Design → Type 0) (best : Sized) (d : Design) → P d → (better best d ≡ best) ⊎ Element P (better best d)
+turn-in : (P : Design → Type 0) (best : SizedDesign) (d : Design) → P d → (better best d ≡ best) ⊎ Element P (better best d)
 turn-in P best d p = elim (turn best d) [
   | stands is many ↦ inl is
   | taken is admitted fewer ↦ inr (rw is (record { has = p; admitted = admitted; bits = refl }))
 ]
 
-pub found-in : (P : Design → Type 0) (best : Sized) (ds : List Design) → All P ds → (bestOf best ds ≡ best) ⊎ Element P (bestOf best ds)
+pub found-in : (P : Design → Type 0) (best : SizedDesign) (ds : List Design) → All P ds
+    → (bestOf best ds ≡ best) ⊎ Element P (bestOf best ds)
 unfolding bestOf
 found-in P best [] all = inl refl
 found-in P best (d ∷ ds) all =
@@ -92,7 +93,8 @@ found-in P best (d ∷ ds) all =
     (λ element. inr element) (found-in P (better best d) ds (all .1))
 
 -- An admitted element has no fewer bits.
-pub least-of : (s : ℕ) (best : Sized) (ds : List Design) → Some (λ d. (isAdmitted d ≡ true) × (size d ≡ s)) ds → bestOf best ds .bits ≤ s
+pub least-of : (s : ℕ) (best : SizedDesign) (ds : List Design) → Some (λ d. (isAdmitted d ≡ true) × (size d ≡ s)) ds
+    → bestOf best ds .bits ≤ s
 unfolding bestOf
 least-of s best [] some = absurd some
 least-of s best (d ∷ ds) some =
@@ -115,13 +117,13 @@ module _ (R : Design → Design → Type 0) (T : Design → Type 0) (s : ℕ) wh
   Counts d = T d × (isAdmitted d ≡ true) × (size d ≡ s)
 
   -- nothing fewer comes after a design of s bits that was taken
-  settled : (best : Sized) (d : Design) (ds : List Design) → better best d .bits ≤ s → s < best .bits
+  settled : (best : SizedDesign) (d : Design) (ds : List Design) → better best d .bits ≤ s → s < best .bits
       → bestOf (better best d) ds .bits ≡ s → bestOf (better best d) ds .design ≡ d
   settled best d ds few below e =
-      ap (λ (found : Sized). found .design)
+      ap (λ (found : SizedDesign). found .design)
       (unchanged (better best d) ds (rw e few) ∙ turn-taken best d (lt-of-le-of-lt few below))
 
-  pub first-of : (best : Sized) (ds : List Design) → Ordered R ds → Some Counts ds → s < best .bits → bestOf best ds .bits ≡ s
+  pub first-of : (best : SizedDesign) (ds : List Design) → Ordered R ds → Some Counts ds → s < best .bits → bestOf best ds .bits ≡ s
       → After R Counts (bestOf best ds .design)
   unfolding bestOf
   first-of best [] ordered some below e = absurd some

@@ -17,7 +17,7 @@ use Rattle.design.specs.declared.Design.{Design}
 use Rattle.design.specs.Cut.{noPair}
 use Rattle.design.specs.Budget.{budget, size}
 use Rattle.design.proofs.Opened.{design-opened}
-use Rattle.searching.specs.declared.Sized.{Sized}
+use Rattle.searching.specs.declared.SizedDesign.{SizedDesign}
 use Rattle.searching.specs.Designs.{bare, withPair, continued}
 use Rattle.searching.specs.Best.{isAdmitted, nothing, better, bestOf}
 use Rattle.optimum.specs.Order.{Before, by-m}
@@ -63,7 +63,7 @@ at-limit =
 abbrev measured : Design → ℕ × ℕ
 measured d = (budget d, size d)
 
-abbrev with-size : Design → ℕ → Sized
+abbrev with-size : Design → ℕ → SizedDesign
 with-size d bits = record { design = d; bits = bits }
 
 pub record Examples : Type 0 where

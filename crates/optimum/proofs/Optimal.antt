@@ -115,11 +115,11 @@ module _ (kind w q : ℕ) where
       ltb-true _ _ (not-false _ (none-fails (not (ltb (smallestOf kind w q .bits) noBits) ↝ Cause.NoneAdmitted ∷ []) last .0))
 
   module _ (passed : verdict (functionChecks (limitsOf kind) kind w q) ≡ Verdict.Passed) where
+    some : (e : Design) → Of kind w q e → Admitted e → smallestVerdict kind w q ≡ Verdict.Passed
+    some e of a = some-admitted kind w q passed (lt-of-le-of-lt (least e of a) (size-few e (limits e (a .legal))))
+
     none-means : smallestVerdict kind w q ≡ Verdict.Refused Cause.NoneAdmitted → (e : Design) → Of kind w q e → Admitted e → ⊥
-    none-means refused e of a =
-        let few = lt-of-le-of-lt (least e of a) (size-few e (limits e (a .legal))) in
-        let z : _≡_ {A = ℕ} 0 1 = cc (refused, some-admitted kind w q passed few) in
-        absurd (omega arith)
+    none-means refused e of a = let z : _≡_ {A = ℕ} 0 1 = cc (refused, some e of a) in absurd (omega arith)
 
     means-none : ((e : Design) → Of kind w q e → Admitted e → ⊥) → smallestVerdict kind w q ≡ Verdict.Refused Cause.NoneAdmitted
     means-none none = elim (decLt (smallestOf kind w q .bits) noBits) [
@@ -131,6 +131,7 @@ pub optimum : Optimum
 optimum =
     record {
       checked = first-refused;
+      some = some;
       none = λ kind w q passed. (none-means kind w q passed, means-none kind w q passed);
       found = λ kind w q passed. cheapest kind w q (passed-few kind w q passed);
     }

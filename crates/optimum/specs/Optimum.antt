@@ -11,7 +11,7 @@ use Rattle.design.specs.declared.Design.{Design}
 use Rattle.design.specs.Cut.{noPair}
 use Rattle.design.specs.Same.{Same}
 use Rattle.design.specs.Budget.{Admitted, size}
-use Rattle.searching.specs.declared.Sized.{Sized}
+use Rattle.searching.specs.declared.SizedDesign.{SizedDesign}
 use Rattle.searching.specs.Best.{smallestOf, smallestVerdict}
 use Rattle.optimum.specs.Order.{Before}
 
@@ -22,7 +22,7 @@ pub record Of (kind w q : ℕ) (d : Design) : Type 0 where
   pub q-is : d .q ≡ q
 
 -- "hand back an admitted one, its pairs beyond m all 0, with its size in bits"
-pub record Cheapest (kind w q : ℕ) (found : Sized) : Type 0 where
+pub record Cheapest (kind w q : ℕ) (found : SizedDesign) : Type 0 where
   pub of : Of kind w q (found .design)
   pub admitted : Admitted (found .design)
   pub zeros : (i : ℕ) → found .design .m ≤ i → getD (found .design .pairs) i noPair ≡ noPair
@@ -39,5 +39,8 @@ pub record Optimum : Type 0 where
   -- "24, no legal design of that kind, w and q is admitted; after 3"
   pub none : (kind w q : ℕ) → verdict (functionChecks (limitsOf kind) kind w q) ≡ Verdict.Passed
       → (smallestVerdict kind w q ≡ Verdict.Refused Cause.NoneAdmitted) ↔ ((e : Design) → Of kind w q e → Admitted e → ⊥)
-  -- and else
+  -- and else a design is found,
+  pub some : (kind w q : ℕ) → verdict (functionChecks (limitsOf kind) kind w q) ≡ Verdict.Passed
+      → (e : Design) → Of kind w q e → Admitted e → smallestVerdict kind w q ≡ Verdict.Passed
+  -- which is the one that is handed back.
   pub found : (kind w q : ℕ) → smallestVerdict kind w q ≡ Verdict.Passed → Cheapest kind w q (smallestOf kind w q)

@@ -16,7 +16,7 @@ use Rattle.design.specs.Legal.{designVerdict}
 use Rattle.design.specs.Budget.{budget, limit, withinLimit, Admitted, size}
 use Rattle.design.proofs.LegalLaws.{Limits, limits}
 use Rattle.general.specs.Below.{sumBelow}
-use Rattle.searching.specs.declared.Sized.{Sized}
+use Rattle.searching.specs.declared.SizedDesign.{SizedDesign}
 use Rattle.searching.specs.Designs.{continued}
 use Rattle.searching.specs.Best.{isAdmitted}
 use Rattle.searching.specs.Search.{sizeBefore, budgetBefore}
@@ -50,7 +50,7 @@ pub no-fewer : (d e : Design) (i : ℕ) → Agrees d e i → i ≤ d .m → size
 no-fewer d e i same h = rw (size-before-same d e i same) (size-before-mono e i (rw (← same .m) h))
 
 -- Designs that begin with the same i tables, none of which is better
-module _ (best : Sized) (n : ℕ) (d : Design) (i : ℕ) where
+module _ (best : SizedDesign) (n : ℕ) (d : Design) (i : ℕ) where
   pub none-better : ((e : Design) → Agrees d e i → Admitted e → best .bits ≤ size e) → All (NotBetter best) (continued n d i)
   none-better none =
       all-weaker (λ e same admitted. none e same (admitted-so e admitted)) (continued n d i) (continued-agrees n d i)

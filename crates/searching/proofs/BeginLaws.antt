@@ -11,16 +11,16 @@ use Rattle.design.specs.declared.Design.{Design}
 use Rattle.design.specs.Limits.{leastInitialBits, mostInitialBits, mostTables, mostOffsetBits}
 use Rattle.design.specs.Budget.{limit}
 use Rattle.design.proofs.LegalLaws.{Limits, limits}
-use Rattle.searching.specs.declared.Sized.{Sized}
+use Rattle.searching.specs.declared.SizedDesign.{SizedDesign}
 use Rattle.searching.specs.declared.prefix.Prefix.{Prefix}
 use Rattle.searching.specs.Designs.{bare, continued}
 use Rattle.searching.specs.Best.{bestOf}
-use Rattle.searching.specs.Search.{budgetBefore, prefixOf, Begun, Open, Next, Unbegun, withTables}
+use Rattle.searching.specs.Search.{budgetBefore, prefixOf, Begun, Open, Next, Started, withTables}
 use Rattle.searching.proofs.BestLaws.{NotBetter, best-none, best-one}
 use Rattle.searching.proofs.PrefixLaws.{Agrees, position-first}
 use Rattle.searching.proofs.AdmittedLaws.{bits-between, none-better, none-legal, too-large}
 
-module _ (d : Design) (u : Unbegun d) where
+module _ (d : Design) (u : Started d) where
   abbrev of : ℕ → List Design
   of m = continued m (withTables d m) 0
 
@@ -28,10 +28,7 @@ module _ (d : Design) (u : Unbegun d) where
   unfolding bare
   begun m low high =
       record {
-        widths = u .widths;
-        alpha-low = u .alpha-low;
-        alpha-high = u .alpha-high;
-        alpha-below = u .alpha-below;
+        started = record { widths = u .widths; alpha-low = u .alpha-low; alpha-high = u .alpha-high; alpha-below = u .alpha-below };
         m-low = low;
         m-high = high;
         places = refl;
@@ -65,17 +62,18 @@ module _ (d : Design) (u : Unbegun d) where
       let between = rw (all, position-first e, l .cut) at (bits-between e l 0 (e .m) (rw all (le-refl (e .m)))) in
       (omega (arith, between .0, same .m, same .w, same .alpha), omega (arith, between .1, same .m, same .w, same .alpha))
 
-  pub not-shared : (now : Sized) (m : ℕ) → ((m ≤ d .w - d .alpha) → (d .w - d .alpha ≤ m * mostOffsetBits) → ⊥) → All (NotBetter now) (of m)
+  pub not-shared : (now : SizedDesign) (m : ℕ) → ((m ≤ d .w - d .alpha) → (d .w - d .alpha ≤ m * mostOffsetBits) → ⊥)
+      → All (NotBetter now) (of m)
   not-shared now m not =
       none-better now m (withTables d m) 0
       (λ e same admitted. let s = shared m e same (limits e (admitted .legal)) in absurd (not (s .0) (s .1)))
 
   -- The loop over m, before the turn of m
-  pub turn-skipped : (best found : Sized) (m : ℕ) → 1 ≤ m → bestOf best (joined 1 (m - 1) of) ≡ found → All (NotBetter found) (of m)
+  pub turn-skipped : (best found : SizedDesign) (m : ℕ) → 1 ≤ m → bestOf best (joined 1 (m - 1) of) ≡ found → All (NotBetter found) (of m)
       → bestOf best (joined 1 (m + 1 - 1) of) ≡ found
   turn-skipped best found m low e none = best-one 1 of best found m low e ∙ best-none found (of m) none
 
-  pub over-limit : (now : Sized) (m most : ℕ) (first : Prefix) → first ≡ prefixOf (withTables d m) 0 → most ≡ limit d
+  pub over-limit : (now : SizedDesign) (m most : ℕ) (first : Prefix) → first ≡ prefixOf (withTables d m) 0 → most ≡ limit d
       → most ≤ first .budget → All (NotBetter now) (of m)
   unfolding bare limit
   over-limit now m most first is most-is over = too-large now m (withTables d m) 0 (omega arith) (rw (is, most-is) at over)
@@ -85,17 +83,17 @@ module _ (kind w q g : ℕ) where
   abbrev pub by-alpha : ℕ → List Design
   by-alpha alpha = forEach 1 mostTables (λ m. continued m (bare kind w q g alpha m) 0)
 
-  no-tables : (now : Sized) (alpha : ℕ) → ((m : ℕ) (e : Design) → Agrees (bare kind w q g alpha m) e 0 → Limits e → ⊥)
+  no-tables : (now : SizedDesign) (alpha : ℕ) → ((m : ℕ) (e : Design) → Agrees (bare kind w q g alpha m) e 0 → Limits e → ⊥)
       → All (NotBetter now) (by-alpha alpha)
   no-tables now alpha none =
       all-joined (NotBetter now) 1 (λ m. continued m (bare kind w q g alpha m) 0) mostTables
       (λ j below. none-legal now (1 + j) (bare kind w q g alpha (1 + j)) 0 (none (1 + j)))
 
-  pub no-alpha : (now : Sized) (alpha : ℕ) → w ≤ alpha → All (NotBetter now) (by-alpha alpha)
+  pub no-alpha : (now : SizedDesign) (alpha : ℕ) → w ≤ alpha → All (NotBetter now) (by-alpha alpha)
   unfolding bare
   no-alpha now alpha wide = no-tables now alpha (λ m e same l. omega (arith, l .alpha-below, same .alpha, same .w, wide))
 
-  pub no-guard : (now : Sized) → limitsOf kind .sum < q + g → All (NotBetter now) (forEach leastInitialBits mostInitialBits by-alpha)
+  pub no-guard : (now : SizedDesign) → limitsOf kind .sum < q + g → All (NotBetter now) (forEach leastInitialBits mostInitialBits by-alpha)
   unfolding bare
   no-guard now over =
       all-joined (NotBetter now) leastInitialBits by-alpha (mostInitialBits + 1 - leastInitialBits)

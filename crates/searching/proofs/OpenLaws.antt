@@ -16,14 +16,14 @@ use Rattle.design.specs.declared.Design.{Design}
 use Rattle.design.specs.declared.legal.TableRule.{TableRule}
 use Rattle.design.specs.Limits.{mostTables, mostOffsetBits, mostTableBits}
 use Rattle.design.specs.Cut.{pairAt, aOf, bOf, row, fractionBits, position}
-use Rattle.design.specs.Stored.{offsetCount, tableStart}
+use Rattle.design.specs.Stored.{offsetCount}
 use Rattle.design.specs.Legal.{breaks, tableBreaks}
 use Rattle.design.specs.Budget.{reach, tableBudget, limit, bitsOf}
 use Rattle.design.proofs.LegalLaws.{Limits, within}
 use Rattle.design.proofs.StoredLaws.{count-is}
 use Rattle.searching.specs.declared.prefix.Prefix.{Prefix}
 use Rattle.searching.specs.Designs.{withPair}
-use Rattle.searching.specs.Search.{sizeBefore, budgetBefore, Open, Fitting, Next}
+use Rattle.searching.specs.Search.{tableSize, sizeBefore, budgetBefore, Open, Fitting, Next}
 use Rattle.searching.proofs.AdmittedLaws.{bits-between}
 use Rattle.searching.proofs.PrefixLaws.{
   Agrees,
@@ -41,10 +41,10 @@ pub open-limits : (d : Design) → Open d (d .m) → Limits d
 open-limits d o =
     let b = o .begun in
     record {
-      widths = widths-of (d .kind) (d .w) (d .q) (d .g) (b .widths);
-      alpha-low = b .alpha-low;
-      alpha-high = b .alpha-high;
-      alpha-below = b .alpha-below;
+      widths = widths-of (d .kind) (d .w) (d .q) (d .g) (b .started .widths);
+      alpha-low = b .started .alpha-low;
+      alpha-high = b .started .alpha-high;
+      alpha-below = b .started .alpha-below;
       m-low = b .m-low;
       m-high = b .m-high;
       table = λ j h. within d j (o .tables TableRule.SegmentBits j h) (o .tables TableRule.OffsetBits j h);
@@ -73,10 +73,10 @@ module _ (d : Design) (i a b : ℕ) (h : i < d .m) (places : length (d .pairs) �
   position-next = omega (arith, sum-next i (bOf next), position-same d next i before i (le-refl i), b-here)
 
   pub size-next : sizeBefore next (i + 1) ≡ sizeBefore d i + bitsOf (2 ^ (a + b))
-  unfolding sizeBefore tableStart
+  unfolding sizeBefore tableSize
   size-next =
       let more : offsetCount next i ≡ 2 ^ (a + b) = count-is next i ∙ rw (a-here, b-here) in
-      omega (arith, sum-next i (offsetCount next), size-before-same d next i before, more)
+      omega (arith, sum-next i (tableSize next), size-before-same d next i before, more)
 
   share-here : tableBudget next i ≡ (2 ^ b - 1) * 2 ^ position d i * largestSpread (row d) (d .w) (fractionBits d) a
   unfolding tableBudget reach withPair
@@ -106,10 +106,12 @@ module _ (d : Design) (i a b : ℕ) (h : i < d .m) (places : length (d .pairs) �
       let b = o .begun in
       record {
         begun = record {
-          widths = b .widths;
-          alpha-low = b .alpha-low;
-          alpha-high = b .alpha-high;
-          alpha-below = b .alpha-below;
+          started = record {
+            widths = b .started .widths;
+            alpha-low = b .started .alpha-low;
+            alpha-high = b .started .alpha-high;
+            alpha-below = b .started .alpha-below;
+          };
           m-low = b .m-low;
           m-high = b .m-high;
           places = length-set (d .pairs) i _ ∙ places;

@@ -18,7 +18,7 @@ use Rattle.design.specs.Cut.{noPair, tables, pairAt, bOf, row, fractionBits, po
 use Rattle.design.specs.Stored.{initialCount, storedCount, offsetCount, tableStart, offsetTotal}
 use Rattle.design.specs.Budget.{reach, tableBudget, budget, limit, bitsOf, size}
 use Rattle.searching.specs.Designs.{withPair, continued}
-use Rattle.searching.specs.Search.{sizeBefore, budgetBefore}
+use Rattle.searching.specs.Search.{initialSize, tableSize, sizeBefore, budgetBefore}
 
 -- Two designs with the same numbers, and the same first i pairs
 pub record Agrees (d e : Design) (i : ℕ) : Type 0 where
@@ -79,13 +79,13 @@ module _ (d e : Design) (i : ℕ) (same : Agrees d e i) where
   unfolding position
   position-same j h = sum-congruence j (bOf d) (bOf e) (λ k below. ap (λ (pair : Pair). pair .b) (same .pairs k (lt-of-lt-of-le below h)))
 
-  count-same : (k : ℕ) → k < i → offsetCount d k ≡ offsetCount e k
-  unfolding offsetCount storedCount
-  count-same k below = ap (λ (pair : Pair). 2 ^ pair .a * 2 ^ pair .b) (same .pairs k below)
+  table-size-same : (k : ℕ) → k < i → tableSize d k ≡ tableSize e k
+  unfolding tableSize offsetCount storedCount
+  table-size-same k below = ap (λ (pair : Pair). bitsOf (2 ^ pair .a * 2 ^ pair .b)) (same .pairs k below)
 
   pub size-before-same : sizeBefore d i ≡ sizeBefore e i
-  unfolding sizeBefore tableStart initialCount
-  size-before-same = rw (sum-congruence i (offsetCount d) (offsetCount e) count-same, same .alpha)
+  unfolding sizeBefore initialSize initialCount
+  size-before-same = rw (sum-congruence i (tableSize d) (tableSize e) table-size-same, same .alpha)
 
   share-same : (k : ℕ) → k < i → tableBudget d k ≡ tableBudget e k
   unfolding tableBudget reach
@@ -102,10 +102,19 @@ module _ (d e : Design) (i : ℕ) (same : Agrees d e i) where
   unfolding limit
   limit-same = rw (same .g)
 
--- and no more than what is counted of all.
+-- and no more than what is counted of all. With all tables it is the size.
+all-tables : (d : Design) (n : ℕ) → sumBelow n (tableSize d) ≡ bitsOf (sumBelow n (offsetCount d))
+unfolding sumBelow tableSize
+all-tables d zero = refl
+all-tables d (suc n) = omega (arith, all-tables d n)
+
+pub size-whole : (d : Design) → sizeBefore d (d .m) ≡ size d
+unfolding sizeBefore initialSize size tableStart offsetTotal
+size-whole d = omega (arith, all-tables d (d .m))
+
 pub size-before-mono : (d : Design) (i : ℕ) → i ≤ d .m → sizeBefore d i ≤ size d
-unfolding sizeBefore size tableStart offsetTotal
-size-before-mono d i h = omega (arith, sum-mono (offsetCount d) i (d .m) h)
+unfolding sizeBefore
+size-before-mono d i h = omega (arith, size-whole d, sum-mono (tableSize d) i (d .m) h)
 
 pub budget-before-mono : (d : Design) (i : ℕ) → i ≤ d .m → budgetBefore d i ≤ budget d
 unfolding budgetBefore budget
@@ -117,7 +126,7 @@ unfolding position sumBelow
 position-first d = refl
 
 pub size-first : (d : Design) → sizeBefore d 0 ≡ bitsOf (initialCount d)
-unfolding sizeBefore tableStart sumBelow
+unfolding sizeBefore initialSize sumBelow
 size-first d = omega arith
 
 pub budget-first : (d : Design) → budgetBefore d 0 ≡ (d .m + 2) * 2 ^ 17

@@ -2,7 +2,7 @@
 use mathlib.Core.Path.{_≡_, refl, _∙_}
 use mathlib.Core.List.{List}
 use Prim.Native.Nat.{ℕ, suc, _+_, _-_, _^_, _≤_, _<_}
-use native.Mathlib.Nat.{le-refl, le-trans}
+use native.Mathlib.Nat.{add-le-add, le-refl, le-trans}
 use native.Mathlib.Omega.{arith}
 use lib.Pow.{pow-mono}
 use Rattle.general.specs.Below.{joined, forEach}
@@ -10,23 +10,18 @@ use Rattle.general.proofs.JoinedLaws.{All, all-joined}
 use Rattle.design.specs.declared.Design.{Design}
 use Rattle.design.specs.Limits.{mostOffsetBits}
 use Rattle.design.specs.Cut.{position}
-use Rattle.design.specs.Stored.{offsetTotal}
 use Rattle.design.specs.Budget.{budget, limit, Admitted, bitsOf, size}
 use Rattle.design.proofs.LegalLaws.{limits, legal-of}
-use Rattle.searching.specs.declared.Sized.{Sized}
+use Rattle.searching.specs.declared.SizedDesign.{SizedDesign}
 use Rattle.searching.specs.Designs.{withPair, continued}
 use Rattle.searching.specs.Best.{better, bestOf}
 use Rattle.searching.specs.Search.{sizeBefore, budgetBefore, Open, Fitting}
 use Rattle.searching.proofs.BestLaws.{NotBetter, better-not, better-so, best-first, best-one, best-rest}
 use Rattle.searching.proofs.AdmittedLaws.{so-admitted, no-fewer, none-better, too-large}
-use Rattle.searching.proofs.PrefixLaws.{Agrees}
+use Rattle.searching.proofs.PrefixLaws.{Agrees, size-whole}
 use Rattle.searching.proofs.OpenLaws.{open-limits, open-next, fitting, size-next}
 
--- With all tables, size and budget so far are the design's.
-pub size-whole : (d : Design) → sizeBefore d (d .m) ≡ size d
-unfolding sizeBefore size offsetTotal
-size-whole d = refl
-
+-- With all tables, the budget so far is the design's.
 pub budget-whole : (d : Design) → budgetBefore d (d .m) ≡ budget d
 unfolding budgetBefore budget
 budget-whole d = refl
@@ -43,23 +38,24 @@ module _ (d : Design) (i : ℕ) (o : Open d i) (h : i < d .m) where
   pub fits : (a b : ℕ) (e : Design) → Agrees (withPair d i a b) e (i + 1) → Admitted e → Fitting d i a b
   fits a b e same admitted = fitting d i a b h (o .begun .places) (o .begun .m-high) e same (limits e (admitted .legal))
 
-  pub unfit : (now : Sized) (n a b : ℕ) → (Fitting d i a b → ⊥) → All (NotBetter now) (by-b n a b)
+  pub unfit : (now : SizedDesign) (n a b : ℕ) → (Fitting d i a b → ⊥) → All (NotBetter now) (by-b n a b)
   unfit now n a b not = none-better now n (withPair d i a b) (i + 1) (λ e same admitted. absurd (not (fits a b e same admitted)))
 
   -- The size grows with a and b.
-  grows : (a b a' b' : ℕ) → a + b ≤ a' + b' → sizeBefore (withPair d i a b) (i + 1) ≤ sizeBefore (withPair d i a' b') (i + 1)
-  grows a b a' b' more = rw (size-of a b, size-of a' b') (omega (arith, pow-mono more)) where
-    size-of : (a b : ℕ) → sizeBefore (withPair d i a b) (i + 1) ≡ sizeBefore d i + bitsOf (2 ^ (a + b))
-    size-of a b = size-next d i a b h (o .begun .places) (o .begun .m-high)
+  grows : (a b a' b' : ℕ) → a ≤ a' → b ≤ b' → sizeBefore (withPair d i a b) (i + 1) ≤ sizeBefore (withPair d i a' b') (i + 1)
+  grows a b a' b' a-more b-more =
+      rw (size-of a b, size-of a' b') (omega (arith, pow-mono {i = a + b} {j = a' + b'} (add-le-add a-more b-more))) where
+        size-of : (a b : ℕ) → sizeBefore (withPair d i a b) (i + 1) ≡ sizeBefore d i + bitsOf (2 ^ (a + b))
+        size-of a b = size-next d i a b h (o .begun .places) (o .begun .m-high)
 
   -- The best by b, over those below k: those before the first one do not count, and what is left then.
-  module _ (best : Sized) (n a : ℕ) where
+  module _ (best : SizedDesign) (n a : ℕ) where
     pub first-b : (k : ℕ) → 1 ≤ k → ((b : ℕ) → b < k → Fitting d i a b → ⊥) → bestOf best (joined 1 (k - 1) (by-b n a)) ≡ best
     first-b k one not =
         best-rest 1 (by-b n a) best best 1 k (le-refl 1) one (best-first 1 (by-b n a) best)
         (λ b from to. unfit best n a b (not b to))
 
-    pub last-b : (now : Sized) (k : ℕ) → 1 ≤ k → k ≤ mostOffsetBits + 1
+    pub last-b : (now : SizedDesign) (k : ℕ) → 1 ≤ k → k ≤ mostOffsetBits + 1
         → ((b : ℕ) → k ≤ b → (e : Design) → Agrees (withPair d i a b) e (i + 1) → Admitted e → now .bits ≤ size e)
         → bestOf best (joined 1 (k - 1) (by-b n a)) ≡ now → bestOf best (by-a n a) ≡ now
     last-b now k one high none e =
@@ -67,7 +63,7 @@ module _ (d : Design) (i : ℕ) (o : Open d i) (h : i < d .m) where
         (λ b from to. none-better now n (withPair d i a b) (i + 1) (none b from))
 
   -- The same by a
-  pub last-a : (best now : Sized) (n k : ℕ) → 1 ≤ k → k ≤ d .alpha + 1
+  pub last-a : (best now : SizedDesign) (n k : ℕ) → 1 ≤ k → k ≤ d .alpha + 1
       → ((a b : ℕ) → k ≤ a → (e : Design) → Agrees (withPair d i a b) e (i + 1) → Admitted e → now .bits ≤ size e)
       → bestOf best (joined 1 (k - 1) (by-a n)) ≡ now → bestOf best (continued (suc n) d i) ≡ now
   unfolding continued
@@ -77,14 +73,14 @@ module _ (d : Design) (i : ℕ) (o : Open d i) (h : i < d .m) where
       (λ j below. none-better now n (withPair d i a (1 + j)) (i + 1) (none a (1 + j) from)))
 
   -- What has no fewer bits than the best with a and b has none with larger ones.
-  pub still-many : (now : Sized) (a b a' b' : ℕ) → a + b ≤ a' + b' → now .bits ≤ sizeBefore (withPair d i a b) (i + 1)
+  pub still-many : (now : SizedDesign) (a b a' b' : ℕ) → a ≤ a' → b ≤ b' → now .bits ≤ sizeBefore (withPair d i a b) (i + 1)
       → (e : Design) → Agrees (withPair d i a' b') e (i + 1) → now .bits ≤ size e
   unfolding withPair
-  still-many now a b a' b' more many e same =
-      le-trans many (le-trans (grows a b a' b' more) (no-fewer (withPair d i a' b') e (i + 1) same (omega arith)))
+  still-many now a b a' b' a-more b-more many e same =
+      le-trans many (le-trans (grows a b a' b' a-more b-more) (no-fewer (withPair d i a' b') e (i + 1) same (omega arith)))
 
   -- The last table's b is all that is left.
-  module _ (now : Sized) (a b : ℕ) (last : i + 1 ≡ d .m) (b-is : b ≡ d .w - d .alpha - position d i) where
+  module _ (now : SizedDesign) (a b : ℕ) (last : i + 1 ≡ d .m) (b-is : b ≡ d .w - d .alpha - position d i) where
     left : (1 ≤ b) × (b ≤ mostOffsetBits)
     left = (omega (arith, o .left-low), omega (arith, o .left-high))
 

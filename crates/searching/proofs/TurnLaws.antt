@@ -13,7 +13,7 @@ use Rattle.design.specs.Cut.{row, fractionBits, position}
 use Rattle.design.specs.Budget.{limit, Admitted}
 use Rattle.design.proofs.LegalLaws.{limits}
 use Rattle.design.proofs.BudgetLaws.{shareBound}
-use Rattle.searching.specs.declared.Sized.{Sized}
+use Rattle.searching.specs.declared.SizedDesign.{SizedDesign}
 use Rattle.searching.specs.declared.prefix.Prefix.{Prefix}
 use Rattle.searching.specs.Designs.{withPair, continued}
 use Rattle.searching.specs.Best.{bestOf}
@@ -71,7 +71,7 @@ least-same d e i same least none-below a one high few =
     rw (← same .kind, ← same .w, ← same .q, ← same .g) (none-below a one (rw (same .alpha) high) few)
 
 -- The loop over b, before the turn of b: the best over those before
-pub record OverB (d : Design) (i a later first : ℕ) (best found : Sized) (b : ℕ) : Type 0 where
+pub record OverB (d : Design) (i a later first : ℕ) (best found : SizedDesign) (b : ℕ) : Type 0 where
   pub from : first ≤ b
   pub high : b ≤ mostOffsetBits + 1
   pub so-far : bestOf best (joined 1 (b - 1) (λ b. continued later (withPair d i a b) (i + 1))) ≡ found
@@ -120,8 +120,8 @@ module _ (prefix : Prefix) (n : Next prefix) (more : prefix .tables + 1 < prefix
           left-high = low .1;
         }
 
-    module _ (best : Sized) where
-      abbrev Here : Sized → ℕ → Type 0
+    module _ (best : SizedDesign) where
+      abbrev Here : SizedDesign → ℕ → Type 0
       Here found b = OverB d i a later first best found b
 
       one : (b : ℕ) → first ≤ b → 1 ≤ b
@@ -138,7 +138,7 @@ module _ (prefix : Prefix) (n : Next prefix) (more : prefix .tables + 1 < prefix
                 (fit .left-high));
           }
 
-      turn : (found now : Sized) (b : ℕ) → Here found b → b < end → bestOf found (by b) ≡ now → Here now (b + 1)
+      turn : (found now : SizedDesign) (b : ℕ) → Here found b → b < end → bestOf found (by b) ≡ now → Here now (b + 1)
       turn found now b t below e =
           record {
             from = le-trans (t .from) (le-add-right b 1);
@@ -146,7 +146,7 @@ module _ (prefix : Prefix) (n : Next prefix) (more : prefix .tables + 1 < prefix
             so-far = best-one 1 by best found b (one b (t .from)) (t .so-far) ∙ e;
           }
 
-      pub turns-end : (found : Sized) (b : ℕ) → Here found b → end ≤ b → bestOf best (forEach 1 mostOffsetBits by) ≡ found
+      pub turns-end : (found : SizedDesign) (b : ℕ) → Here found b → end ≤ b → bestOf best (forEach 1 mostOffsetBits by) ≡ found
       turns-end found b t ended =
           last-b d i o (n .more) best later a found b (one b (t .from)) (t .high)
           (λ other from e same admitted. absurd (beyond other from (fits d i o (n .more) a other e same admitted))) (t .so-far) where
@@ -156,12 +156,12 @@ module _ (prefix : Prefix) (n : Next prefix) (more : prefix .tables + 1 < prefix
                 (fit .sum-high) (fit .left-low)
 
       -- Where size, or budget and what later tables add, are too large, they are for every larger b.
-      module _ (found : Sized) (b : ℕ) (t : Here found b) (below : b < end) where
+      module _ (found : SizedDesign) (b : ℕ) (t : Here found b) (below : b < end) where
         pub left-many : (bits : ℕ) → bits ≡ sizeBefore (withPair d i a b) (i + 1) → found .bits ≤ bits
             → bestOf best (forEach 1 mostOffsetBits by) ≡ found
         left-many bits bits-are many =
             last-b d i o (n .more) best later a found b (one b (t .from)) (t .high)
-            (λ other from e same admitted. still-many d i o (n .more) found a b a other (omega (arith, from)) (rw bits-are at many) e same)
+            (λ other from e same admitted. still-many d i o (n .more) found a b a other (le-refl a) from (rw bits-are at many) e same)
             (t .so-far)
 
         -- with another b, budget and rest are no more than the budget of any design, and so below the limit
@@ -208,7 +208,7 @@ module _ (prefix : Prefix) (n : Next prefix) (more : prefix .tables + 1 < prefix
                   no-room (limit d) _ _ (budgetBefore d i) _ _ large-here larger (rest-of least none-below other e same admitted)
 
       -- and where the later tables are gone through
-      pub turn-taken : (found now : Sized) (b : ℕ) (next : Design) → Here found b → b < end → next ≡ withPair d i a b
+      pub turn-taken : (found now : SizedDesign) (b : ℕ) (next : Design) → Here found b → b < end → next ≡ withPair d i a b
           → now ≡ bestOf found (continued (next .m - (i + 1)) next (i + 1)) → Here now (b + 1)
       unfolding withPair
       turn-taken found now b next t below next-is now-is = turn found now b t below (sym (now-is ∙ rw next-is))
@@ -240,7 +240,7 @@ module _ (prefix : Prefix) (n : Next prefix) (more : prefix .tables + 1 < prefix
         })
 
 -- The loop over a, before the turn of a
-pub record OverA (d : Design) (i : ℕ) (end : ℕ) (best found : Sized) (a : ℕ) : Type 0 where
+pub record OverA (d : Design) (i : ℕ) (end : ℕ) (best found : SizedDesign) (a : ℕ) : Type 0 where
   pub low : 1 ≤ a
   pub high : a ≤ end
   pub so-far : bestOf best (joined 1 (a - 1) (λ a. forEach 1 mostOffsetBits (λ b. continued (d .m - (i + 1)) (withPair d i a b)
@@ -250,17 +250,18 @@ pub record OverA (d : Design) (i : ℕ) (end : ℕ) (best found : Sized) (a : �
 later-is : (m i : ℕ) → i < m → suc (m - (i + 1)) ≡ m - i
 later-is m i more = omega arith
 
-module _ (d : Design) (i : ℕ) (o : Open d i) (more : i < d .m) (end : ℕ) (end-is : end ≡ min (d .alpha + 1) mostTableBits) (best : Sized)
+module _ (d : Design) (i : ℕ) (o : Open d i) (more : i < d .m) (end : ℕ) (end-is : end ≡ min (d .alpha + 1) mostTableBits)
+    (best : SizedDesign)
   where
     pub over-a-begin : OverA d i end best best 1
     over-a-begin =
         record {
           low = le-refl 1;
-          high = omega (arith, end-is, o .begun .alpha-low);
+          high = omega (arith, end-is, o .begun .started .alpha-low);
           so-far = best-first 1 (λ a. forEach 1 mostOffsetBits (λ b. continued (d .m - (i + 1)) (withPair d i a b) (i + 1))) best;
         }
 
-    pub over-a-turn : (found now : Sized) (a : ℕ) → OverA d i end best found a → a < end
+    pub over-a-turn : (found now : SizedDesign) (a : ℕ) → OverA d i end best found a → a < end
         → now ≡ bestOf found (forEach 1 mostOffsetBits (λ b. continued (d .m - (i + 1)) (withPair d i a b) (i + 1)))
         → OverA d i end best now (a + 1)
     over-a-turn found now a t below e =
@@ -273,7 +274,7 @@ module _ (d : Design) (i : ℕ) (o : Open d i) (more : i < d .m) (end : ℕ) (en
         }
 
     -- a + b has its limit, so no a from the end on has a b
-    pub over-a-end : (found : Sized) (a : ℕ) → OverA d i end best found a → end ≤ a → bestOf best (continued (d .m - i) d i) ≡ found
+    pub over-a-end : (found : SizedDesign) (a : ℕ) → OverA d i end best found a → end ≤ a → bestOf best (continued (d .m - i) d i) ≡ found
     over-a-end found a t ended =
         rw (← later-is (d .m) i more)
         (last-a d i o more best found (d .m - (i + 1)) a (t .low) (omega (arith, t .high, end-is))

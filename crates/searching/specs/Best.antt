@@ -11,9 +11,9 @@ use Rattle.values.specs.Widths.{limitsOf, functionChecks}
 use Rattle.design.specs.declared.Design.{Design}
 use Rattle.design.specs.Legal.{designVerdict}
 use Rattle.design.specs.Budget.{withinLimit, size}
-use Rattle.searching.specs.declared.Sized.{Sized}
+use Rattle.searching.specs.declared.SizedDesign.{SizedDesign}
 use Rattle.searching.specs.declared.Found.{Found}
-use Rattle.searching.specs.Designs.{bare, designs}
+use Rattle.searching.specs.Designs.{noDesign, designs}
 
 -- "A legal design is **admitted** when the budget is less than 2^(g+17)", as a test
 unfoldable pub isAdmitted : Design → Bool
@@ -23,19 +23,19 @@ isAdmitted d = passes (designVerdict d) && withinLimit d
 abbrev pub noBits : ℕ
 noBits = 2 ^ 64 - 1
 
-unfoldable pub nothing : Sized
-nothing = record { design = bare 0 0 0 0 0 0; bits = noBits }
+unfoldable pub nothing : SizedDesign
+nothing = record { design = noDesign; bits = noBits }
 
 -- "hand back an admitted one .. with its size in bits; every other admitted design .. has at least as many bits. Among equals take the
 -- first": of designs in order, one takes the place of the best before it only where it is admitted and has fewer bits.
-unfoldable pub better : Sized → Design → Sized
+unfoldable pub better : SizedDesign → Design → SizedDesign
 better best d = cond (isAdmitted d && ltb (size d) (best .bits)) (record { design = d; bits = size d }) best
 
-unfoldable pub bestOf : Sized → List Design → Sized
+unfoldable pub bestOf : SizedDesign → List Design → SizedDesign
 bestOf best [] = best
 bestOf best (d ∷ ds) = bestOf (better best d) ds
 
-unfoldable pub smallestOf : ℕ → ℕ → ℕ → Sized
+unfoldable pub smallestOf : ℕ → ℕ → ℕ → SizedDesign
 smallestOf kind w q = bestOf nothing (designs kind w q)
 
 -- "Kind, w and q are checked as before. New numbers: 24, no legal design of that kind, w and q is admitted; after 3."
@@ -48,15 +48,15 @@ smallestVerdict kind w q = verdict (smallestChecks kind w q)
 
 -- What the call answers: design and bits; a design and a size of zeros where it is refused
 unfoldable pub refusedWith : Cause → Found
-refusedWith cause = record { verdict = Verdict.Refused cause; best = record { design = bare 0 0 0 0 0 0; bits = 0 } }
+refusedWith cause = record { verdict = Verdict.Refused cause; best = record { design = noDesign; bits = 0 } }
 
 unfoldable pub smallestAnswer : ℕ → ℕ → ℕ → Found
 smallestAnswer kind w q =
     ifPassed (smallestVerdict kind w q) (record { verdict = Verdict.Passed; best = smallestOf kind w q }) refusedWith
 
 -- What an answer tells, and what is to be told
-abbrev pub toldBy : Found → Told Sized
+abbrev pub toldBy : Found → Told SizedDesign
 toldBy answer = told (answer .verdict) (answer .best)
 
-unfoldable pub smallestTold : ℕ → ℕ → ℕ → Told Sized
+unfoldable pub smallestTold : ℕ → ℕ → ℕ → Told SizedDesign
 smallestTold kind w q = told (smallestVerdict kind w q) (smallestOf kind w q)

@@ -22,6 +22,10 @@ bare kind w q g alpha m =
       pairs = noPair ∷ noPair ∷ noPair ∷ noPair ∷ [];
     }
 
+-- A design of zeros, where there is none
+unfoldable pub noDesign : Design
+noDesign = bare 0 0 0 0 0 0
+
 -- The design with this pair for table i
 unfoldable pub withPair : Design → ℕ → ℕ → ℕ → Design
 withPair d i a b =
@@ -35,15 +39,15 @@ withPair d i a b =
       pairs = set (d .pairs) i (record { a = a; b = b });
     }
 
--- "the pairs from table 0, a_i before b_i, smaller first": what becomes of d with each choice of n more pairs, from table i on. They are
--- those that 7, "a_i not 1..alpha", and 8, "b_i not 1..8", leave.
+-- "the pairs from table 0, a_i before b_i, smaller first": what becomes of d with each choice of n more pairs, from table i on,
+-- each a_i within 1..alpha and each b_i within 1..8.
 unfoldable pub continued : ℕ → Design → ℕ → List Design
 continued zero d i = d ∷ []
 continued (suc n) d i =
     forEach 1 (d .alpha) (λ a. forEach 1 mostOffsetBits (λ b. continued n (withPair d i a b) (i + 1)))
 
--- "by g, then alpha, m, and the pairs": those that 4, "g not 2..6", 5, "alpha not 2..13", and 6, "m not 1..4", leave. Every legal design is
--- among them; those of them that are not legal are not admitted.
+-- "by g, then alpha, m, and the pairs": g within 2..6, alpha within 2..13, m within 1..4. Every legal design is among them; those of them
+-- that are not legal are not admitted.
 unfoldable pub designs : ℕ → ℕ → ℕ → List Design
 designs kind w q =
     forEach (limitsOf kind .g .0) (limitsOf kind .g .1) (λ g.

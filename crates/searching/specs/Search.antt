@@ -14,15 +14,22 @@ use Rattle.design.specs.declared.Design.{Design}
 use Rattle.design.specs.declared.legal.TableRule.{TableRule}
 use Rattle.design.specs.Limits.{leastInitialBits, mostInitialBits, mostTables, mostOffsetBits, mostTableBits}
 use Rattle.design.specs.Cut.{row, fractionBits, position}
-use Rattle.design.specs.Stored.{initialCount, tableStart}
+use Rattle.design.specs.Stored.{initialCount, offsetCount}
 use Rattle.design.specs.Legal.{tableBreaks}
 use Rattle.design.specs.Budget.{tableBudget, limit, bitsOf}
 use Rattle.searching.specs.declared.prefix.Prefix.{Prefix}
 use Rattle.searching.specs.Designs.{bare}
 
+-- The size of the initial table, and of table i
+unfoldable pub initialSize : Design → ℕ
+initialSize d = bitsOf (initialCount d)
+
+unfoldable pub tableSize : Design → ℕ → ℕ
+tableSize d i = bitsOf (offsetCount d i)
+
 -- The size and the budget of a design's first i tables, with all that is not a table's: at i = m its size and its budget
 unfoldable pub sizeBefore : Design → ℕ → ℕ
-sizeBefore d i = bitsOf (initialCount d + tableStart d i)
+sizeBefore d i = initialSize d + sumBelow i (tableSize d)
 
 unfoldable pub budgetBefore : Design → ℕ → ℕ
 budgetBefore d i = sumBelow i (tableBudget d) + (d .m + 2) * 2 ^ 17
@@ -31,12 +38,16 @@ budgetBefore d i = sumBelow i (tableBudget d) + (d .m + 2) * 2 ^ 17
 abbrev pub prefixOf : Design → ℕ → Prefix
 prefixOf d i = record { design = d; tables = i; position = position d i; bits = sizeBefore d i; budget = budgetBefore d i }
 
--- A design with an initial table, and so many tables as are still to be chosen
-pub record Begun (d : Design) : Type 0 where
+-- A design whose widths and alpha are within their limits
+pub record Started (d : Design) : Type 0 where
   pub widths : verdict (widthChecks (limitsOf (d .kind)) (d .kind) (d .w) (d .q) (d .g)) ≡ Verdict.Passed
   pub alpha-low : leastInitialBits ≤ d .alpha
   pub alpha-high : d .alpha ≤ mostInitialBits
   pub alpha-below : d .alpha < d .w
+
+-- and m, too, with places for its pairs
+pub record Begun (d : Design) : Type 0 where
+  pub started : Started d
   pub m-low : 1 ≤ d .m
   pub m-high : d .m ≤ mostTables
   pub places : length (d .pairs) ≡ mostTables
@@ -86,13 +97,6 @@ restFrom d least p = (2 ^ (d .w - d .alpha) - 2 ^ p) * least
 abbrev pub LeastOf : List ℕ → ℕ → ℕ → Type 0
 LeastOf spreads alpha least = (a : ℕ) → 1 ≤ a → a ≤ alpha → a < mostTableBits → least ≤ getD spreads a 0
 
--- A design of which neither the tables nor their number is chosen
-pub record Unbegun (d : Design) : Type 0 where
-  pub widths : verdict (widthChecks (limitsOf (d .kind)) (d .kind) (d .w) (d .q) (d .g)) ≡ Verdict.Passed
-  pub alpha-low : leastInitialBits ≤ d .alpha
-  pub alpha-high : d .alpha ≤ mostInitialBits
-  pub alpha-below : d .alpha < d .w
-
--- and with so many tables
+-- A design with so many tables, of which none is chosen yet
 abbrev pub withTables : Design → ℕ → Design
 withTables d m = bare (d .kind) (d .w) (d .q) (d .g) (d .alpha) m

@@ -6,25 +6,16 @@ ghost use Rattle.design.specs.Limits.{mostTables, mostOffsetBits, mostTableBits
 ghost use Rattle.searching.specs.Designs.{continued, withPair};
 ghost use Rattle.searching.specs.Best.{bestOf};
 ghost use Rattle.searching.specs.Search.{Next, SpreadsFor, Least};
-use crate::Sized;
+use crate::SizedDesign;
 use crate::prefix::Prefix;
 use crate::prefix::rest_from;
 use crate::prefix::with_pair;
 use design::limits::MOST_OFFSET_BITS;
 use design::limits::MOST_TABLE_BITS;
 use design::measure::limit_of;
+use general::smaller;
 
-// inner: the smaller of two numbers.
-pub fn smaller(n: u32, k: u32) -> u32
-    ensures { λ r. ⌜ r ≡ min n k ⌝ }
-{
-    if n < k {
-        return n;
-    }
-    k
-}
-
-// The fewest bits of B, if the later tables can take the rest of those that are left.
+// The fewest bits of B that leave the later tables no more than they can take.
 fn least_offset_bits(left: u32, later: u32) -> u32
     requires { ⌜ later < mostTables ⌝ }
     ensures { λ r. ⌜ r ≡ max 1 (left - later * mostOffsetBits) ⌝ }
@@ -36,7 +27,7 @@ fn least_offset_bits(left: u32, later: u32) -> u32
     left - most
 }
 
-// The most: each later table takes at least one.
+// The most: b and a + b have their limits, and each later table takes at least one bit.
 fn most_offset_bits(left: u32, later: u32, a: u32) -> u32
     requires { ⌜ (later < left) × (a < mostTableBits) ⌝ }
     ensures { λ r. ⌜ r ≡ min mostOffsetBits (min (left - later) (mostTableBits - a)) ⌝ }
@@ -49,7 +40,7 @@ fn most_offset_bits(left: u32, later: u32, a: u32) -> u32
 
 // The best so far, or of the designs with one more table, which is the last: its b is all that is left. The size grows with a, so the
 // first a that is admitted is the best.
-fn last_table(spreads: &[u64], prefix: Prefix, best: Sized) -> Sized
+fn last_table(spreads: &[u64], prefix: Prefix, best: SizedDesign) -> SizedDesign
     requires { ⌜ SpreadsFor (prefix .design) (now spreads) ⌝ }
     requires { ⌜ Next prefix × (prefix .tables + 1 ≡ prefix .design .m) ⌝ }
     ensures { λ r. ⌜ r ≡ bestOf best (continued 1 (prefix .design) (prefix .tables)) ⌝ }
@@ -64,7 +55,7 @@ fn last_table(spreads: &[u64], prefix: Prefix, best: Sized) -> Sized
             return best;
         }
         if prefix.budget_with(spreads, a, b) < limit {
-            return Sized {
+            return SizedDesign {
                 design: with_pair(d, prefix.tables, a, b),
                 bits,
             };
@@ -74,7 +65,12 @@ fn last_table(spreads: &[u64], prefix: Prefix, best: Sized) -> Sized
 }
 
 // The same for any number of tables more, by a of the next one: a + b has its limit, and b is at least 1.
-pub fn each_segment_bits(spreads: &[u64], least: u64, prefix: Prefix, best: Sized) -> Sized
+pub fn each_segment_bits(
+    spreads: &[u64],
+    least: u64,
+    prefix: Prefix,
+    best: SizedDesign,
+) -> SizedDesign
     requires { ⌜ SpreadsFor (prefix .design) (now spreads) × Least (prefix .design) least ⌝ }
     requires { ⌜ Next prefix ⌝ }
     ensures { λ r. ⌜ r ≡ bestOf best (continued (prefix .design .m - prefix .tables) (prefix .design) (prefix .tables)) ⌝ }
@@ -91,9 +87,15 @@ pub fn each_segment_bits(spreads: &[u64], least: u64, prefix: Prefix, best: Size
     found
 }
 
-// The same, by b of the next table, whose a is chosen. Size and budget grow with b: where they are too large, with the least that the
-// later tables add, no larger b is tried.
-fn each_offset_bits(spreads: &[u64], least: u64, prefix: Prefix, a: u32, best: Sized) -> Sized
+// The same, by b of the next table, whose a is chosen. Its size grows with b, and so does its budget with the least that the later tables
+// add, since no spread is below `least`. So where one of them is too large, no larger b is tried.
+fn each_offset_bits(
+    spreads: &[u64],
+    least: u64,
+    prefix: Prefix,
+    a: u32,
+    best: SizedDesign,
+) -> SizedDesign
     requires { ⌜ SpreadsFor (prefix .design) (now spreads) × Least (prefix .design) least ⌝ }
     requires { ⌜ Next prefix × (prefix .tables + 1 < prefix .design .m) ⌝ }
     requires { ⌜ (1 ≤ a) × (a ≤ prefix .design .alpha) × (a < mostTableBits) ⌝ }

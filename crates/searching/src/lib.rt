@@ -2,22 +2,22 @@
 ghost use mathlib.Core.Path.{_≡_};
 ghost use Rattle.searching.specs.Best.{refusedWith, smallestAnswer, toldBy, smallestTold};
 
-pub mod cuts;
-pub mod prefix;
-pub mod spreads;
-pub mod widths;
+mod cuts;
+mod numbers;
+mod prefix;
+mod spreads;
 
 use design::Design;
-use prefix::bare;
+use numbers::NO_BITS;
+use numbers::best_design;
+use prefix::no_design;
 use refusal::Cause;
 use refusal::Verdict;
 use values::widths::function_verdict;
 use values::widths::limits_of;
-use widths::NO_BITS;
-use widths::best_design;
 
 // A design and its size in bits.
-pub struct Sized {
+pub struct SizedDesign {
     pub design: Design,
     pub bits: u64,
 }
@@ -25,14 +25,14 @@ pub struct Sized {
 // What `smallest` answers. Where it is refused, the design and its bits are zeros.
 pub struct Found {
     pub verdict: Verdict,
-    pub best: Sized,
+    pub best: SizedDesign,
 }
 
 fn refused(cause: Cause) -> Found
     ensures { λ r. ⌜ r ≡ refusedWith cause ⌝ }
 {
-    let best = Sized {
-        design: bare(0, 0, 0, 0, 0, 0),
+    let best = SizedDesign {
+        design: no_design(),
         bits: 0,
     };
     Found {
@@ -41,7 +41,7 @@ fn refused(cause: Cause) -> Found
     }
 }
 
-// The first of the admitted designs of a kind, w and q with the fewest bits, or that there is none.
+// The first of the admitted designs of a kind, w and q with the fewest bits, or the refusal: 1, 2, 3, or 24 where there is none.
 pub fn smallest(kind: u32, w: u32, q: u32) -> Found
     ensures answer { λ r. ⌜ r ≡ smallestAnswer kind w q ⌝ }
     ensures told { λ r. ⌜ toldBy r ≡ smallestTold kind w q ⌝ }

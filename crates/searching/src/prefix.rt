@@ -3,7 +3,7 @@ ghost use mathlib.Core.Path.{_≡_};
 ghost use Prim.Native.Nat.{_+_, _-_, _≤_, _<_};
 ghost use lib.ListN.{length};
 ghost use Rattle.design.specs.Limits.{mostTables};
-ghost use Rattle.searching.specs.Designs.{withPair};
+ghost use Rattle.searching.specs.Designs.{noDesign, withPair};
 ghost use Rattle.searching.specs.Designs as Designs;
 ghost use Rattle.searching.specs.Search.{sizeBefore, budgetBefore, restFrom, Begun, Fitting, Next, SpreadsFor, Least};
 use design::Design;
@@ -21,7 +21,7 @@ pub struct Prefix {
     pub budget: u64,
 }
 
-// inner: a design without pairs.
+// A design without pairs.
 pub fn bare(kind: u32, w: u32, q: u32, g: u32, alpha: u32, m: u32) -> Design
     ensures { λ r. ⌜ r ≡ Designs.bare kind w q g alpha m ⌝ }
 {
@@ -36,7 +36,14 @@ pub fn bare(kind: u32, w: u32, q: u32, g: u32, alpha: u32, m: u32) -> Design
     }
 }
 
-// inner: the design with this pair for table i.
+// A design of zeros, where there is none.
+pub fn no_design() -> Design
+    ensures { λ r. ⌜ r ≡ noDesign ⌝ }
+{
+    bare(0, 0, 0, 0, 0, 0)
+}
+
+// The design with this pair for table i.
 pub fn with_pair(d: Design, i: u32, a: u32, b: u32) -> Design
     requires { ⌜ (i < mostTables) × (length (d .pairs) ≡ mostTables) ⌝ }
     ensures { λ r. ⌜ r ≡ withPair d i a b ⌝ }
@@ -54,7 +61,7 @@ pub fn with_pair(d: Design, i: u32, a: u32, b: u32) -> Design
     }
 }
 
-// inner: what all tables from a position on add to the budget at least, if no spread is below `least`.
+// What all tables from a position on add to the budget at least, if no spread is below `least`.
 pub fn rest_from(d: Design, least: u64, position: u32) -> u64
     requires { ⌜ Begun d × Least d least ⌝ }
     requires { ⌜ position ≤ d .w - d .alpha ⌝ }
@@ -64,7 +71,7 @@ pub fn rest_from(d: Design, least: u64, position: u32) -> u64
 }
 
 impl Prefix {
-    // inner: the size with a pair for the next table.
+    // The size with a pair for the next table.
     pub fn size_with(self, a: u32, b: u32) -> u64
         requires { ⌜ Next self × Fitting (self .design) (self .tables) a b ⌝ }
         ensures { λ r. ⌜ r ≡ sizeBefore (withPair (self .design) (self .tables) a b) (self .tables + 1) ⌝ }
@@ -72,7 +79,7 @@ impl Prefix {
         self.bits + bits_of(pow2(a + b))
     }
 
-    // inner: the budget with it. A table's share takes its reach and the largest Hi - Lo by its a, which is looked up.
+    // The budget with it. A table's share takes its reach and the largest Hi - Lo by its a, which is looked up.
     pub fn budget_with(self, spreads: &[u64], a: u32, b: u32) -> u64
         requires { ⌜ SpreadsFor (self .design) (now spreads) ⌝ }
         requires { ⌜ Next self × Fitting (self .design) (self .tables) a b ⌝ }

@@ -14,7 +14,7 @@ use values::slopes::largest_spread;
 // So many: a table has at least one bit of B, so a is below the highest a + b.
 pub const SPREADS: usize = MOST_TABLE_BITS as usize;
 
-// inner: the spreads for kind and widths that pass. Those of a at w and beyond are left 0.
+// The spreads for kind and widths that pass. Those of a at w and beyond are left 0.
 pub fn spreads_of(kind: u32, w: u32, q: u32, g: u32) -> [u64; SPREADS]
     requires { ⌜ verdict (widthChecks (limitsOf kind) kind w q g) ≡ Verdict.Passed ⌝ }
     ensures { λ r. ⌜ SpreadsOf kind w (q + g) r ⌝ }
@@ -29,7 +29,7 @@ pub fn spreads_of(kind: u32, w: u32, q: u32, g: u32) -> [u64; SPREADS]
     spreads
 }
 
-// inner: the least of the spreads that a table can have, whose a is at most alpha.
+// The least of the spreads that a table can have, whose a is at most alpha.
 pub fn least_spread(spreads: &[u64], alpha: u32) -> u64
     requires { ⌜ length (now spreads) ≡ mostTableBits ⌝ }
     ensures { λ r. ⌜ LeastOf (now (spreads .entry)) alpha r ⌝ }

@@ -6,7 +6,7 @@ use Rattle.searching.proofs.refused.Tie as tie
 
 returns : tie.Need-returns
 unfolding refusedWith
-returns c = rw (c .bare .ensures)
+returns c = rw (c .no-design .ensures)
 
 pub refused-spec : {M : Type 1} → statement M
 refused-spec = tie.close (tie.spec (λ c κs. search needs) returns)

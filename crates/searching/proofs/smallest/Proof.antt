@@ -6,7 +6,7 @@ use Rattle.refusal.specs.declared.Cause.{Cause}
 use Rattle.refusal.specs.declared.Verdict.{Verdict}
 use Rattle.refusal.specs.Checks.{verdict}
 use Rattle.values.specs.Widths.{limitsOf, functionChecks}
-use Rattle.searching.specs.declared.Sized.{Sized}
+use Rattle.searching.specs.declared.SizedDesign.{SizedDesign}
 use Rattle.searching.specs.declared.Found.{Found}
 use Rattle.searching.specs.Best.{
   noBits,
@@ -36,10 +36,10 @@ module _ (kind w q : ℕ) where
   finds r v is = (is ∙ rw v, rw (is, v))
 
 -- the bits that were found, as those of what was found
-no-fewer : {best found : Sized} → best ≡ found → noBits ≤ best .bits → noBits ≤ found .bits
+no-fewer : {best found : SizedDesign} → best ≡ found → noBits ≤ best .bits → noBits ≤ found .bits
 no-fewer e h = rw e at h
 
-fewer : {best found : Sized} → best ≡ found → best .bits < noBits → found .bits < noBits
+fewer : {best found : SizedDesign} → best ≡ found → best .bits < noBits → found .bits < noBits
 fewer e h = rw e at h
 
 -- the verdict on kind, w and q, by the limits of the kind

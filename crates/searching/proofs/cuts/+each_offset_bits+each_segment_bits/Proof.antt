@@ -40,7 +40,7 @@ use Rattle.design.proofs.measure.limit_of.Reads as limit-of
 use Rattle.searching.proofs.cuts.last_table.Reads as last-table
 use Rattle.searching.proofs.cuts.least_offset_bits.Reads as least-offset-bits
 use Rattle.searching.proofs.cuts.most_offset_bits.Reads as most-offset-bits
-use Rattle.searching.proofs.cuts.smaller.Reads as smaller
+use Rattle.general.proofs.smaller.Reads as smaller
 use Rattle.searching.proofs.prefix.Prefix.budget_with.Reads as budget-with
 use Rattle.searching.proofs.prefix.Prefix.size_with.Reads as size-with
 use Rattle.searching.proofs.prefix.rest_from.Reads as rest-from
@@ -191,7 +191,7 @@ b-loop-again t c =
     (c .each-segment-bits .ensures)
 
 b-sub-left : (t : ℕ) → b-lts.Need-sub-left (b-calls t) (by-b-at t) by-b.Post b-Inv b-μ
-b-sub-left t c = omega (arith, c .before .before .before .pre .1 .1 .0 .0 .so-far .begun .alpha-below)
+b-sub-left t c = omega (arith, c .before .before .before .pre .1 .1 .0 .0 .so-far .begun .started .alpha-below)
 
 b-sub-left-2 : (t : ℕ) → b-lts.Need-sub-left-2 (b-calls t) (by-b-at t) by-b.Post b-Inv b-μ
 b-sub-left-2 t c =
@@ -350,7 +350,7 @@ a-last-table-requires t c κs =
     (e .0 .0, (e .1, c .if1 .taken))
 
 a-add-smaller : (t : ℕ) → a-lts.Need-add-smaller (a-calls t) (by-a-at t) by-a.Post a-Inv a-μ
-a-add-smaller t c = omega (arith, c .before .before .before .before .before .before .pre .1 .1 .so-far .begun .alpha-high)
+a-add-smaller t c = omega (arith, c .before .before .before .before .before .before .pre .1 .1 .so-far .begun .started .alpha-high)
 
 a-loop-holds : (t : ℕ) → a-lts.Need-loop-holds (a-calls t) (by-a-at t) by-a.Post a-Inv a-μ
 a-loop-holds t c =

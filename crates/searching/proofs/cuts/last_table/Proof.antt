@@ -12,7 +12,7 @@ use Rattle.design.specs.declared.Design.{Design}
 use Rattle.design.specs.Limits.{mostInitialBits, mostOffsetBits, mostTableBits}
 use Rattle.design.specs.Cut.{position}
 use Rattle.design.specs.Budget.{limit, Admitted, size}
-use Rattle.searching.specs.declared.Sized.{Sized}
+use Rattle.searching.specs.declared.SizedDesign.{SizedDesign}
 use Rattle.searching.specs.declared.prefix.Prefix.{Prefix}
 use Rattle.searching.specs.Designs.{withPair, continued}
 use Rattle.searching.specs.Best.{better, bestOf}
@@ -27,7 +27,7 @@ use Rattle.searching.proofs.cuts.last_table.Statement.{statement}
 use Rattle.searching.proofs.cuts.last_table.Tie as tie
 
 -- before the turn of a: no a before it is better
-record Inv (best : Sized) (d : Design) (i end a : ℕ) : Type 0 where
+record Inv (best : SizedDesign) (d : Design) (i end a : ℕ) : Type 0 where
   low : 1 ≤ a
   high : a ≤ end
   so-far : bestOf best (joined 1 (a - 1) (λ a. forEach 1 mostOffsetBits (λ b. continued 0 (withPair d i a b) (i + 1)))) ≡ best
@@ -97,29 +97,29 @@ module _ (prefix : Prefix) (n : Next prefix) (last : prefix .tables + 1 ≡ pref
     beyond : (a other : ℕ) → end ≤ a → Fitting d i a other → ⊥
     beyond a other from fit = omega (arith, fit .a-high, fit .sum-high, b-same a other fit, from, end-is)
 
-    module _ (best : Sized) where
+    module _ (best : SizedDesign) where
       begin : Inv best d i end 1
       begin =
           record {
             low = omega arith;
-            high = omega (arith, end-is, taken-all .2, o .begun .alpha-low);
+            high = omega (arith, end-is, taken-all .2, o .begun .started .alpha-low);
             so-far = best-first 1 (λ a. forEach 1 mostOffsetBits (λ b. continued 0 (withPair d i a b) (i + 1))) best;
           }
 
       module _ (a : ℕ) (inv : Inv best d i end a) (below : a < end) where
         -- the best with this a
-        turn : (now : Sized) → better best (withPair d i a b) ≡ now
+        turn : (now : SizedDesign) → better best (withPair d i a b) ≡ now
             → bestOf best (joined 1 (a + 1 - 1) (λ a. forEach 1 mostOffsetBits (λ b. continued 0 (withPair d i a b) (i + 1)))) ≡ now
         turn now e =
             best-one 1 (λ a. forEach 1 mostOffsetBits (λ b. continued 0 (withPair d i a b) (i + 1))) best best a (inv .low) (inv .so-far)
             ∙ last-by-b d i o (n .more) best a b last b-left ∙ e
 
         -- none that fits has fewer bits than the best, from a on
-        from-here : (now : Sized) (k : ℕ) → a ≤ k → now .bits ≤ sizeBefore (withPair d i a b) (i + 1)
+        from-here : (now : SizedDesign) (k : ℕ) → a ≤ k → now .bits ≤ sizeBefore (withPair d i a b) (i + 1)
             → (a' other : ℕ) → k ≤ a' → (e : Design) → Agrees (withPair d i a' other) e (i + 1) → Admitted e → now .bits ≤ size e
         from-here now k later many a' other from e same admitted =
             let other-is = b-same a' other (tables.fits d i o (n .more) a' other e same admitted) in
-            still-many d i o (n .more) now a b a' other (omega (arith, later, from, other-is)) many e same
+            still-many d i o (n .more) now a b a' other (le-trans later from) (rw other-is (le-refl b)) many e same
 
         module _ (bits : ℕ) (bits-are : bits ≡ sizeBefore (withPair d i a b) (i + 1)) where
           stops : best .bits ≤ bits → best ≡ bestOf best (continued 1 d i)
@@ -132,7 +132,7 @@ module _ (prefix : Prefix) (n : Next prefix) (last : prefix .tables + 1 ≡ pref
                 → record { design = made; bits = bits } ≡ bestOf best (continued 1 d i)
             unfolding limit withPair
             taken made made-is fewer within =
-                let now : Sized = record { design = withPair d i a b; bits = sizeBefore (withPair d i a b) (i + 1) } in
+                let now : SizedDesign = record { design = withPair d i a b; bits = sizeBefore (withPair d i a b) (i + 1) } in
                 let better-is = last-taken d i o (n .more) best a b last b-left (fits a (inv .low) below)
                 (rw (← bits-are) fewer) (rw (budget-is, most-is) at within) in
                 rw (made-is, bits-are)
@@ -207,7 +207,7 @@ loop-again c =
     _ _ (budget .budget-with .ensures) (smaller .before .before .limit-of .ensures) (c .if2 .left)
 
 sub-b : tie.Need-sub-b Inv-loop μ-loop
-sub-b c = omega (arith, asked (c .before .before .before) .0 .so-far .begun .alpha-below)
+sub-b c = omega (arith, asked (c .before .before .before) .0 .so-far .begun .started .alpha-below)
 
 sub-b-2 : tie.Need-sub-b-2 Inv-loop μ-loop
 sub-b-2 c =
@@ -218,7 +218,7 @@ limit-of-requires : tie.Need-limit-of-requires Inv-loop μ-loop
 limit-of-requires c κs = guard-few _ (asked (c .before .before .before .before) .0 .so-far .begun)
 
 add-smaller : tie.Need-add-smaller Inv-loop μ-loop
-add-smaller c = omega (arith, asked (c .before .before .before .before .before .before) .0 .so-far .begun .alpha-high)
+add-smaller c = omega (arith, asked (c .before .before .before .before .before .before) .0 .so-far .begun .started .alpha-high)
 
 sub-smaller : tie.Need-sub-smaller Inv-loop μ-loop
 sub-smaller c =
@@ -258,7 +258,7 @@ add-a : tie.Need-add-a Inv-loop μ-loop
 add-a c =
     let smaller = c .before .before .before .before .before .before .before in
     let begun = asked (smaller .before .before .before .before .before .before .before) .0 .so-far .begun in
-    end-small _ _ _ _ (end-is smaller) (c .before .before .before .before .before .loop-test .taken) (begun .alpha-high)
+    end-small _ _ _ _ (end-is smaller) (c .before .before .before .before .before .loop-test .taken) (begun .started .alpha-high)
 
 loop-less : tie.Need-loop-less Inv-loop μ-loop
 loop-less c = falls _ _ (c .before .before .before .before .before .loop-test .taken)

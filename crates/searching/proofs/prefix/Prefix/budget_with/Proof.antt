@@ -31,7 +31,8 @@ module _ (prefix : Prefix) (a b high low : ℕ) (n : Next prefix) (fit : Fitting
   module _ (spreads : List ℕ) (known : SpreadsFor d spreads) where
     spread-is : getD spreads a 0 ≡ largestSpread (row d) (d .w) (fractionBits d) a
     spread-is =
-        known .at a (fit .a-low) (omega (arith, fit .b-low, fit .sum-high)) (omega (arith, fit .a-high, n .so-far .begun .alpha-below))
+        known .at a (fit .a-low) (omega (arith, fit .b-low, fit .sum-high)) (omega
+        (arith, fit .a-high, n .so-far .begun .started .alpha-below))
 
     share-is : (high - 1) * low * getD spreads a 0 ≡ (2 ^ b - 1) * 2 ^ position d (prefix .tables) * largestSpread (row d) (d .w)
         (fractionBits d) a

@@ -8,12 +8,12 @@ ghost use Rattle.design.specs.Limits.{leastInitialBits, mostInitialBits, mostTa
 ghost use Rattle.searching.specs.Designs.{continued};
 ghost use Rattle.searching.specs.Designs as Designs;
 ghost use Rattle.searching.specs.Best.{bestOf, smallestOf};
-ghost use Rattle.searching.specs.Search.{prefixOf, Unbegun, SpreadsFor, withTables};
-use crate::Sized;
+ghost use Rattle.searching.specs.Search.{prefixOf, Started, SpreadsFor, withTables};
+use crate::SizedDesign;
 use crate::cuts::each_segment_bits;
-use crate::cuts::smaller;
 use crate::prefix::Prefix;
 use crate::prefix::bare;
+use crate::prefix::no_design;
 use crate::spreads::least_spread;
 use crate::spreads::spreads_of;
 use design::Design;
@@ -24,14 +24,15 @@ use design::limits::MOST_TABLES;
 use design::measure::bits_of;
 use design::measure::limit_of;
 use general::pow2;
+use general::smaller;
 use values::widths::limits_of;
 
-// inner: more bits than any legal design has.
+// More bits than any legal design has.
 pub const NO_BITS: u64 = u64::MAX;
 
 // A design with so many tables, of which none is chosen.
 fn first_prefix(d: Design, m: u32) -> Prefix
-    requires { ⌜ Unbegun d ⌝ }
+    requires { ⌜ Started d ⌝ }
     ensures { λ r. ⌜ r ≡ prefixOf (withTables d m) 0 ⌝ }
 {
     Prefix {
@@ -44,8 +45,8 @@ fn first_prefix(d: Design, m: u32) -> Prefix
 }
 
 // The best so far, or of the designs with these numbers, by m: so many tables have to be able to share the bits that are left.
-fn each_table_count(spreads: &[u64], d: Design, best: Sized) -> Sized
-    requires { ⌜ Unbegun d × SpreadsFor d (now spreads) ⌝ }
+fn each_table_count(spreads: &[u64], d: Design, best: SizedDesign) -> SizedDesign
+    requires { ⌜ Started d × SpreadsFor d (now spreads) ⌝ }
     ensures { λ r. ⌜ r ≡ bestOf best (forEach 1 mostTables (λ m. continued m (withTables d m) 0)) ⌝ }
 {
     let left = d.w - d.alpha;
@@ -62,7 +63,7 @@ fn each_table_count(spreads: &[u64], d: Design, best: Sized) -> Sized
 }
 
 // The same, by alpha.
-fn each_initial_bits(kind: u32, w: u32, q: u32, g: u32, best: Sized) -> Sized
+fn each_initial_bits(kind: u32, w: u32, q: u32, g: u32, best: SizedDesign) -> SizedDesign
     requires { ⌜ verdict (widthChecks (limitsOf kind) kind w q g) ≡ Verdict.Passed ⌝ }
     ensures { λ r.
         ⌜ r ≡ bestOf best (forEach leastInitialBits mostInitialBits
@@ -77,14 +78,14 @@ fn each_initial_bits(kind: u32, w: u32, q: u32, g: u32, best: Sized) -> Sized
     found
 }
 
-// inner: the best of all designs of a kind, w and q that pass, by g.
-pub fn best_design(kind: u32, w: u32, q: u32) -> Sized
+// The best of all designs of a kind, w and q that pass, by g.
+pub fn best_design(kind: u32, w: u32, q: u32) -> SizedDesign
     requires { ⌜ verdict (functionChecks (limitsOf kind) kind w q) ≡ Verdict.Passed ⌝ }
     ensures { λ r. ⌜ r ≡ smallestOf kind w q ⌝ }
 {
     let limits = limits_of(kind);
-    let mut found = Sized {
-        design: bare(0, 0, 0, 0, 0, 0),
+    let mut found = SizedDesign {
+        design: no_design(),
         bits: NO_BITS,
     };
     for g in limits.g.0..limits.g.1 + 1 {

@@ -1,4 +1,4 @@
--- `searching::widths::each_initial_bits` meets its contract: before the turn of alpha, the best is that of all alpha before it.
+-- `searching::numbers::each_initial_bits` meets its contract: before the turn of alpha, the best is that of all alpha before it.
 use mathlib.Core.Path.{_≡_, sym, _∙_}
 use mathlib.Core.List.{List}
 use Prim.Native.Nat.{ℕ, _+_, _-_, _≤_, _<_, min}
@@ -11,16 +11,16 @@ use Rattle.refusal.specs.Checks.{verdict}
 use Rattle.values.specs.Widths.{limitsOf, widthChecks}
 use Rattle.design.specs.declared.Design.{Design}
 use Rattle.design.specs.Limits.{leastInitialBits, mostInitialBits, mostTables}
-use Rattle.searching.specs.declared.Sized.{Sized}
+use Rattle.searching.specs.declared.SizedDesign.{SizedDesign}
 use Rattle.searching.specs.Designs.{bare, continued}
 use Rattle.searching.specs.Best.{bestOf}
-use Rattle.searching.specs.Search.{Unbegun, SpreadsFor, SpreadsOf, withTables}
+use Rattle.searching.specs.Search.{Started, SpreadsFor, SpreadsOf, withTables}
 use Rattle.searching.proofs.BestLaws.{best-first, best-one, best-rest}
 use Rattle.searching.proofs.BeginLaws.{by-alpha, no-alpha}
-use Rattle.searching.proofs.widths.each_initial_bits.Statement.{statement}
-use Rattle.searching.proofs.widths.each_initial_bits.Tie as tie
+use Rattle.searching.proofs.numbers.each_initial_bits.Statement.{statement}
+use Rattle.searching.proofs.numbers.each_initial_bits.Tie as tie
 
-record Inv (kind w q g : ℕ) (spreads : List ℕ) (best found : Sized) (alpha : ℕ) : Type 0 where
+record Inv (kind w q g : ℕ) (spreads : List ℕ) (best found : SizedDesign) (alpha : ℕ) : Type 0 where
   low : leastInitialBits ≤ alpha
   high : alpha ≤ mostInitialBits + 1
   known : SpreadsOf kind w (q + g) spreads
@@ -28,15 +28,15 @@ record Inv (kind w q g : ℕ) (spreads : List ℕ) (best found : Sized) (alpha :
 
 module _ (kind w q g end : ℕ) (passed : verdict (widthChecks (limitsOf kind) kind w q g) ≡ Verdict.Passed)
     (end-is : end ≡ min w (mostInitialBits + 1)) where
-  begin : (spreads : List ℕ) (best : Sized) → SpreadsOf kind w (q + g) spreads → Inv kind w q g spreads best best leastInitialBits
+  begin : (spreads : List ℕ) (best : SizedDesign) → SpreadsOf kind w (q + g) spreads → Inv kind w q g spreads best best leastInitialBits
   begin spreads best known =
       record { low = omega arith; high = omega arith; known = known; so-far = best-first leastInitialBits (by-alpha kind w q g) best }
 
   -- the design of which alpha is chosen
   module _ (alpha : ℕ) (low : leastInitialBits ≤ alpha) (below : alpha < end) (made : Design) (is : made ≡ bare kind w q g alpha 0) where
-    unbegun : Unbegun made
+    started : Started made
     unfolding bare
-    unbegun =
+    started =
         rw is
         (record { widths = passed; alpha-low = low; alpha-high = omega (arith, end-is, below); alpha-below = omega (arith, end-is, below) })
 
@@ -44,7 +44,7 @@ module _ (kind w q g end : ℕ) (passed : verdict (widthChecks (limitsOf kind) k
     unfolding bare
     spreads-kept spreads known = rw is known
 
-    turn : (spreads : List ℕ) (best found now : Sized) → Inv kind w q g spreads best found alpha
+    turn : (spreads : List ℕ) (best found now : SizedDesign) → Inv kind w q g spreads best found alpha
         → now ≡ bestOf found (forEach 1 mostTables (λ m. continued m (withTables made m) 0)) → Inv kind w q g spreads best now (alpha + 1)
     unfolding bare
     turn spreads best found now inv e =
@@ -55,7 +55,7 @@ module _ (kind w q g end : ℕ) (passed : verdict (widthChecks (limitsOf kind) k
           so-far = best-one leastInitialBits (by-alpha kind w q g) best found alpha low (inv .so-far) ∙ sym (rw is at e);
         }
 
-  done : (spreads : List ℕ) (best found : Sized) (alpha : ℕ) → Inv kind w q g spreads best found alpha → end ≤ alpha
+  done : (spreads : List ℕ) (best found : SizedDesign) (alpha : ℕ) → Inv kind w q g spreads best found alpha → end ≤ alpha
       → bestOf best (forEach leastInitialBits mostInitialBits (by-alpha kind w q g)) ≡ found
   done spreads best found alpha inv ended =
       best-rest leastInitialBits (by-alpha kind w q g) best found alpha (mostInitialBits + 1) (inv .low) (inv .high)
@@ -93,7 +93,7 @@ each-table-count-requires c κs =
     let loop = c .before .before in
     let smaller = loop .before .before in
     let inv = loop .before .loop .inv in (
-      unbegun _ _ _ _ _ (smaller .before .before .pre) (smaller .smaller .ensures) _ (inv .low) (loop .loop-test .taken) _
+      started _ _ _ _ _ (smaller .before .before .pre) (smaller .smaller .ensures) _ (inv .low) (loop .loop-test .taken) _
           (c .bare .ensures),
       spreads-kept _ _ _ _ _ (smaller .before .before .pre) (smaller .smaller .ensures) _ (inv .low) (loop .loop-test .taken) _
           (c .bare .ensures) _

@@ -1,4 +1,4 @@
--- `searching::widths::each_table_count` meets its contract: before the turn of m, the best is that of all m before it.
+-- `searching::numbers::each_table_count` meets its contract: before the turn of m, the best is that of all m before it.
 use mathlib.Core.Path.{_≡_, sym, _∙_}
 use mathlib.Core.Logic.{⊎-elim}
 use mathlib.Core.List.{List}
@@ -11,17 +11,17 @@ use Rattle.general.specs.Below.{joined}
 use Rattle.values.proofs.WidthLaws.{widths-of}
 use Rattle.design.specs.declared.Design.{Design}
 use Rattle.design.specs.Limits.{mostTables}
-use Rattle.searching.specs.declared.Sized.{Sized}
+use Rattle.searching.specs.declared.SizedDesign.{SizedDesign}
 use Rattle.searching.specs.declared.prefix.Prefix.{Prefix}
 use Rattle.searching.specs.Designs.{bare, continued}
 use Rattle.searching.specs.Best.{bestOf}
-use Rattle.searching.specs.Search.{prefixOf, Unbegun, SpreadsFor, Least, LeastOf, withTables}
+use Rattle.searching.specs.Search.{prefixOf, Started, SpreadsFor, Least, LeastOf, withTables}
 use Rattle.searching.proofs.BestLaws.{best-first, best-one}
 use Rattle.searching.proofs.BeginLaws.{first-next, not-shared, turn-skipped, over-limit}
-use Rattle.searching.proofs.widths.each_table_count.Statement.{statement}
-use Rattle.searching.proofs.widths.each_table_count.Tie as tie
+use Rattle.searching.proofs.numbers.each_table_count.Statement.{statement}
+use Rattle.searching.proofs.numbers.each_table_count.Tie as tie
 
-record Inv (d : Design) (best found : Sized) (m : ℕ) : Type 0 where
+record Inv (d : Design) (best found : SizedDesign) (m : ℕ) : Type 0 where
   low : 1 ≤ m
   high : m ≤ mostTables + 1
   so-far : bestOf best (joined 1 (m - 1) (λ m. continued m (withTables d m) 0)) ≡ found
@@ -39,17 +39,17 @@ module _ (d : Design) (m : ℕ) (spreads : List ℕ) (known : SpreadsFor d sprea
   unfolding bare
   spreads-kept = rw is known
 
-  least-kept : Unbegun d → (least : ℕ) → LeastOf spreads (d .alpha) least → Least (first .design) least
+  least-kept : Started d → (least : ℕ) → LeastOf spreads (d .alpha) least → Least (first .design) least
   unfolding bare
   least-kept u least none-below = rw is kept where
     kept : Least d least
     kept a one high few = rw (← known .at a one few (omega (arith, high, u .alpha-below))) (none-below a one high few)
 
-module _ (d : Design) (u : Unbegun d) (best found : Sized) (m : ℕ) (inv : Inv d best found m) (below : m < mostTables + 1) where
+module _ (d : Design) (u : Started d) (best found : SizedDesign) (m : ℕ) (inv : Inv d best found m) (below : m < mostTables + 1) where
   skipped : bestOf best (joined 1 (m + 1 - 1) (λ m. continued m (withTables d m) 0)) ≡ found → Inv d best found (m + 1)
   skipped e = record { low = omega arith; high = omega arith; so-far = e }
 
-  taken : (now : Sized) → now ≡ bestOf found (continued m (withTables d m) 0) → Inv d best now (m + 1)
+  taken : (now : SizedDesign) → now ≡ bestOf found (continued m (withTables d m) 0) → Inv d best now (m + 1)
   taken now e =
       record {
         low = omega arith;
@@ -58,7 +58,7 @@ module _ (d : Design) (u : Unbegun d) (best found : Sized) (m : ℕ) (inv : Inv 
       }
 
   -- as the call promises it, by what is kept of the design with no table chosen
-  gone-through : (now : Sized) (first : Prefix) → first ≡ prefixOf (withTables d m) 0
+  gone-through : (now : SizedDesign) (first : Prefix) → first ≡ prefixOf (withTables d m) 0
       → now ≡ bestOf found (continued (first .design .m - first .tables) (first .design) (first .tables)) → Inv d best now (m + 1)
   unfolding bare
   gone-through now first is e = let all : m - 0 ≡ m = omega arith in taken now (rw (is, all) at e)

@@ -1,4 +1,4 @@
--- `searching::widths::first_prefix` meets its contract: no table is counted yet.
+-- `searching::numbers::first_prefix` meets its contract: no table is counted yet.
 use mathlib.Core.Path.{_≡_}
 use Prim.Native.Nat.{ℕ, _+_, _*_, _^_}
 use borrow.Author.Needs.{needs}
@@ -11,8 +11,8 @@ use Rattle.design.specs.Budget.{bitsOf}
 use Rattle.searching.specs.Designs.{bare}
 use Rattle.searching.specs.Search.{prefixOf, withTables}
 use Rattle.searching.proofs.PrefixLaws.{position-first, size-first, budget-first}
-use Rattle.searching.proofs.widths.first_prefix.Statement.{statement}
-use Rattle.searching.proofs.widths.first_prefix.Tie as tie
+use Rattle.searching.proofs.numbers.first_prefix.Statement.{statement}
+use Rattle.searching.proofs.numbers.first_prefix.Tie as tie
 
 first-is : (d : Design) (m entries bits : ℕ) (made : Design) → made ≡ withTables d m → entries ≡ 2 ^ d .alpha → bits ≡ bitsOf entries
     → record { design = made; tables = 0; position = 0; bits = bits; budget = (m + 2) * 2 ^ 17 } ≡ prefixOf (withTables d m) 0

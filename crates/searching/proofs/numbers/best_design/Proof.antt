@@ -1,4 +1,4 @@
--- `searching::widths::best_design` meets its contract: before the turn of g, the best is that of all g before it.
+-- `searching::numbers::best_design` meets its contract: before the turn of g, the best is that of all g before it.
 use mathlib.Core.Path.{_≡_, sym, _∙_}
 use mathlib.Core.Logic.{⊎-elim}
 use mathlib.Core.List.{List}
@@ -16,31 +16,31 @@ use Rattle.values.specs.Widths.{limitsOf, functionChecks}
 use Rattle.values.proofs.WidthLaws.{guard-passes, function-within}
 use Rattle.design.specs.declared.Design.{Design}
 use Rattle.design.specs.Limits.{leastInitialBits, mostInitialBits}
-use Rattle.searching.specs.declared.Sized.{Sized}
-use Rattle.searching.specs.Designs.{bare, designs}
+use Rattle.searching.specs.declared.SizedDesign.{SizedDesign}
+use Rattle.searching.specs.Designs.{noDesign, designs}
 use Rattle.searching.specs.Best.{noBits, nothing, bestOf, smallestOf}
 use Rattle.searching.proofs.BestLaws.{best-none, best-first, best-one}
 use Rattle.searching.proofs.BeginLaws.{by-alpha, no-guard}
-use Rattle.searching.proofs.widths.best_design.Statement.{statement}
-use Rattle.searching.proofs.widths.best_design.Tie as tie
+use Rattle.searching.proofs.numbers.best_design.Statement.{statement}
+use Rattle.searching.proofs.numbers.best_design.Tie as tie
 
 -- the designs by g
 abbrev by-g : ℕ → ℕ → ℕ → ℕ → List Design
 by-g kind w q g = forEach leastInitialBits mostInitialBits (by-alpha kind w q g)
 
-record Inv (kind w q : ℕ) (found : Sized) (g : ℕ) : Type 0 where
+record Inv (kind w q : ℕ) (found : SizedDesign) (g : ℕ) : Type 0 where
   low : limitsOf kind .g .0 ≤ g
   high : g ≤ limitsOf kind .g .1 + 1
   so-far : bestOf nothing (joined (limitsOf kind .g .0) (g - limitsOf kind .g .0) (by-g kind w q)) ≡ found
 
 module _ (kind w q : ℕ) where
-  begin : (made : Design) → made ≡ bare 0 0 0 0 0 0 → Inv kind w q (record { design = made; bits = noBits }) (limitsOf kind .g .0)
+  begin : (made : Design) → made ≡ noDesign → Inv kind w q (record { design = made; bits = noBits }) (limitsOf kind .g .0)
   unfolding nothing limitsOf
   begin made is =
       record { low = omega arith; high = omega arith; so-far = best-first (limitsOf kind .g .0) (by-g kind w q) nothing ∙ rw is }
 
-  module _ (found : Sized) (g : ℕ) (inv : Inv kind w q found g) (below : g < limitsOf kind .g .1 + 1) where
-    turn : (now : Sized) → now ≡ bestOf found (by-g kind w q g) → Inv kind w q now (g + 1)
+  module _ (found : SizedDesign) (g : ℕ) (inv : Inv kind w q found g) (below : g < limitsOf kind .g .1 + 1) where
+    turn : (now : SizedDesign) → now ≡ bestOf found (by-g kind w q g) → Inv kind w q now (g + 1)
     turn now e =
         record {
           low = omega (arith, inv .low);
@@ -51,7 +51,7 @@ module _ (kind w q : ℕ) where
     skipped : limitsOf kind .sum < q + g → Inv kind w q found (g + 1)
     skipped over = turn found (sym (best-none found (by-g kind w q g) (no-guard kind w q g found over)))
 
-  done : (found : Sized) (g : ℕ) → Inv kind w q found g → limitsOf kind .g .1 + 1 ≤ g → found ≡ smallestOf kind w q
+  done : (found : SizedDesign) (g : ℕ) → Inv kind w q found g → limitsOf kind .g .1 + 1 ≤ g → found ≡ smallestOf kind w q
   unfolding smallestOf designs
   done found g inv ended =
       let all : g ≡ limitsOf kind .g .1 + 1 = omega (arith, inv .high, ended) in
@@ -74,7 +74,7 @@ module _ (kind : ℕ) (limits : Limits) (is : limits ≡ limitsOf kind) where
   over : (n : ℕ) → limits .sum < n → limitsOf kind .sum < n
   over n h = rw is at h
 
-  begins : (w q : ℕ) (found : Sized) → Inv kind w q found (limitsOf kind .g .0) → Inv kind w q found (limits .g .0)
+  begins : (w q : ℕ) (found : SizedDesign) → Inv kind w q found (limitsOf kind .g .0) → Inv kind w q found (limits .g .0)
   begins w q found inv = rw is inv
 
   few-guards : limits .g .1 + 1 ≤ 7
@@ -105,7 +105,7 @@ add-g-end : tie.Need-add-g-end Inv-loop μ-loop
 add-g-end c = omega (arith, few-guards _ _ (c .before .before .limits-of .ensures))
 
 loop-holds : tie.Need-loop-holds Inv-loop μ-loop
-loop-holds c = begins _ _ (c .before .before .limits-of .ensures) _ _ _ (begin _ _ _ _ (c .before .bare .ensures))
+loop-holds c = begins _ _ (c .before .before .limits-of .ensures) _ _ _ (begin _ _ _ _ (c .before .no-design .ensures))
 
 add-if1 : tie.Need-add-if1 Inv-loop μ-loop
 add-if1 c =
