@@ -1,4 +1,4 @@
-// Goes through the examples of document 01 that are not starred, one line each. What each should come to is in the file stdout
+// Goes through the examples of document 01 that are not starred, and those of document 02's smallest cut, one line each. What each should come to is in the file stdout
 // beside src/.
 use checking::check;
 use design::Design;
@@ -8,6 +8,8 @@ use design::Pair;
 use filling::fill;
 use libc::STDOUT_FILENO;
 use refusal::Cause;
+use refusal::Verdict;
+use searching::smallest;
 use set_console::print_checked;
 use set_console::print_line;
 use values::Valued;
@@ -99,7 +101,36 @@ fn refusals() {
     show_value(b"w 8, x 256: ", 0, 8, 8, 4, 256);
 }
 
+fn show_number(label: &[u8], n: u64) {
+    io::write_all(STDOUT_FILENO, label);
+    io::print_decimal(STDOUT_FILENO, n);
+}
+
+fn show_smallest(label: &[u8], kind: u32, w: u32, q: u32) {
+    let found = smallest(kind, w, q);
+    let verdict = found.verdict;
+    let best = found.best;
+    let d = best.design;
+    io::write_all(STDOUT_FILENO, label);
+    if let Verdict::Refused(cause) = verdict {
+        print_refused(cause);
+        return;
+    }
+    show_number(b"bits ", best.bits);
+    show_number(b", g ", d.g as u64);
+    show_number(b", alpha ", d.alpha as u64);
+    show_number(b", m ", d.m as u64);
+    io::write_all(STDOUT_FILENO, b"\n");
+}
+
+fn smallest_designs() {
+    show_smallest(b"the smallest of kind 0, w 8, q 8: ", 0, 8, 8);
+    show_smallest(b"the smallest of kind 0, w 16, q 16: ", 0, 16, 16);
+    show_smallest(b"the smallest of kind 0, w 6, q 12: ", 0, 6, 12);
+}
+
 fn main() {
     filled_set();
     refusals();
+    smallest_designs();
 }

@@ -1,6 +1,5 @@
 -- Worked examples of the search, computed from the definitions. The numbers are those of the requests, or were worked out from the
--- documents
--- apart from the definitions.
+-- documents apart from the definitions.
 use mathlib.Core.Path.{_≡_, refl}
 use mathlib.Core.Bool.{true, false}
 use mathlib.Core.List.{[], _∷_, map}

@@ -1,6 +1,5 @@
 -- Document 02, A5: "the first by g, then alpha, m, and the pairs from table 0, a_i before b_i, smaller first". A design comes before
--- another
--- by the first of these numbers in which they differ.
+-- another by the first of these numbers in which they differ.
 use mathlib.Core.Path.{_≡_}
 use Prim.Native.Nat.{ℕ, _<_}
 use Rattle.design.specs.declared.Design.{Design}

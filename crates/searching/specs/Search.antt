@@ -89,13 +89,13 @@ SpreadsFor d spreads = SpreadsOf (d .kind) (d .w) (fractionBits d) spreads
 abbrev pub Least : Design → ℕ → Type 0
 Least d least = (a : ℕ) → 1 ≤ a → a ≤ d .alpha → a < mostTableBits → least ≤ largestSpread (row d) (d .w) (fractionBits d) a
 
--- What all tables from position p on add to the budget at least: their D_i add up to 2^(w-alpha) - 2^p.
-unfoldable pub restFrom : Design → ℕ → ℕ → ℕ
-restFrom d least p = (2 ^ (d .w - d .alpha) - 2 ^ p) * least
-
 -- The same of the spreads in a list, by a up to alpha
 abbrev pub LeastOf : List ℕ → ℕ → ℕ → Type 0
 LeastOf spreads alpha least = (a : ℕ) → 1 ≤ a → a ≤ alpha → a < mostTableBits → least ≤ getD spreads a 0
+
+-- What all tables from position p on add to the budget at least: their D_i add up to 2^(w-alpha) - 2^p.
+unfoldable pub restFrom : Design → ℕ → ℕ → ℕ
+restFrom d least p = (2 ^ (d .w - d .alpha) - 2 ^ p) * least
 
 -- A design with so many tables, of which none is chosen yet
 abbrev pub withTables : Design → ℕ → Design
