@@ -29,6 +29,7 @@ use Rattle.searching.proofs.AdmittedLaws.{admitted-so, so-admitted}
 use Rattle.searching.proofs.VerdictLaws.{first-refused, none-admitted, some-admitted}
 use Rattle.optimum.specs.Order.{SameBefore, Before, by-g, by-alpha, by-m, by-a, by-b}
 use Rattle.optimum.specs.Optimum.{Of, Cheapest, Optimum}
+use Rattle.optimum.proofs.OrderLaws.{not-both}
 use Rattle.optimum.proofs.BestIs.{Element, found-in, least-of, first-of}
 use Rattle.optimum.proofs.Listed.{Listed, all-listed, in-list}
 use Rattle.optimum.proofs.Sorted.{sorted}
@@ -133,5 +134,6 @@ optimum =
       checked = first-refused;
       some = some;
       none = λ kind w q passed. (none-means kind w q passed, means-none kind w q passed);
+      strict = not-both;
       found = λ kind w q passed. cheapest kind w q (passed-few kind w q passed);
     }

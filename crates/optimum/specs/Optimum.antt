@@ -44,3 +44,5 @@ pub record Optimum : Type 0 where
       → (e : Design) → Of kind w q e → Admitted e → smallestVerdict kind w q ≡ Verdict.Passed
   -- which is the one that is handed back.
   pub found : (kind w q : ℕ) → smallestVerdict kind w q ≡ Verdict.Passed → Cheapest kind w q (smallestOf kind w q)
+  -- What comes later does not come before.
+  pub strict : (d e : Design) → Before d e → Before e d → ⊥
