@@ -23,6 +23,10 @@ pub fn read_byte() -> Input {
     Input::Byte(byte[0])
 }
 
+// A proved loop has to end, and nothing says that the input does. So a loop over the input counts its turns down, from a number that no run
+// uses up.
+pub const TURNS: u64 = u64::MAX;
+
 // Why no more of a line is read: its newline came, the input ended, or it is cut off, as there is no room for more of it.
 pub enum LineEnd {
     Newline,

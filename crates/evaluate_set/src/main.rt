@@ -2,6 +2,7 @@
 ghost use lib.ListN.{length};
 ghost use Rattle.set_console.specs.Reading.{HoldsEverySet};
 use console::Input;
+use console::TURNS;
 use console::read_byte;
 use design::Design;
 use design::limits::MOST_INITIAL;
@@ -12,10 +13,6 @@ use libc::STDOUT_FILENO;
 use set_console::read_set;
 use word_text::ReadWord;
 use word_text::WordText;
-
-// A proved loop has to end, and nothing says that the input does. So the loops count their turns down, from a number that no run
-// uses up.
-const TURNS: u64 = u64::MAX;
 
 // What stands on the next line, if there is one. A last line without a newline counts.
 enum WordLine {

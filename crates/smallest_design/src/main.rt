@@ -2,6 +2,7 @@
 ghost use Rattle.design.specs.Legal.{Legal};
 use console::Input;
 use console::KEPT;
+use console::TURNS;
 use console::read_byte;
 use design::Design;
 use encoding::design_frame;
@@ -12,9 +13,6 @@ use question_text::QuestionText;
 use question_text::ReadQuestion;
 use refusal::Verdict;
 use searching::smallest;
-
-// A proved loop has to end, and nothing says that the input does. So the loop counts its turns down, from a number that no run uses up.
-const TURNS: u64 = u64::MAX;
 
 // What the line is: everything before the first newline, or everything there is. A character at a time, so that it may be of any length,
 // and nothing behind it is read.
