@@ -15,7 +15,7 @@ use Rattle.design.specs.Stored.{
   storedPlace,
 }
 use Rattle.design.specs.Legal.{breaks, tableBreaks, cutChecks, designChecks, designVerdict}
-use Rattle.design.specs.Budget.{reach, tableBudget, budget, limit, withinLimit, size}
+use Rattle.design.specs.Budget.{reach, tableBudget, budget, limit, withinLimit, admittedCheck, size}
 use Rattle.design.specs.Answers.{budgetAnswer, sizeAnswer}
 
 unfoldable pub design-opened : Unit {0}
@@ -23,5 +23,5 @@ unfolding
     values-opened tables pairAt sumBelow position initialWord segmentWord offsetWord initialCount storedCount storedIndex offsetFrom
     storedWord offsetCount tableStart offsetTotal storedPlace
     offsetPlace someBelow breaks tableBreaks cutChecks designChecks designVerdict reach tableBudget budget limit withinLimit
-    size budgetAnswer sizeAnswer
+    admittedCheck size budgetAnswer sizeAnswer
 design-opened = tt

@@ -1,8 +1,10 @@
 -- Document 01, "Slopes and budget" and "Bits, lines and the report": budget, admitted, size in bits.
-use mathlib.Core.Bool.{Bool}
+use mathlib.Core.Bool.{Bool, not}
 use Prim.Native.Nat.{ℕ, _+_, _-_, _*_, _^_, _<_}
 use lib.Dec.{ltb}
 use Rattle.general.specs.Below.{sumBelow}
+use Rattle.refusal.specs.declared.Cause.{Cause}
+use Rattle.refusal.specs.Checks.{Check, _↝_}
 use Rattle.values.specs.Slopes.{largestSpread}
 use Rattle.design.specs.declared.Design.{Design}
 use Rattle.design.specs.Legal.{Legal}
@@ -26,6 +28,10 @@ limit d = 2 ^ (d .g + 17)
 
 unfoldable pub withinLimit : Design → Bool
 withinLimit d = ltb (budget d) (limit d)
+
+-- 11, "not admitted"
+unfoldable pub admittedCheck : Design → Check
+admittedCheck d = not (withinLimit d) ↝ Cause.NotAdmitted
 
 -- "A legal design is **admitted** when the budget is less than 2^(g+17)."
 pub record Admitted (d : Design) : Type 0 where

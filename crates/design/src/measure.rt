@@ -10,7 +10,7 @@ use crate::Design;
 use crate::legal::pair_at;
 use general::pow2;
 use values::rows::row_of;
-use values::slopes::largest_spread;
+use values::slopes::steepest_of;
 
 // D_i times the largest Hi - Lo, for table i of a legal design, whose b_i bits begin at p_i.
 fn table_budget(d: Design, i: u32, position: u32) -> u64
@@ -20,7 +20,8 @@ fn table_budget(d: Design, i: u32, position: u32) -> u64
 {
     let pair = pair_at(d, i);
     let row = row_of(d.kind);
-    (pow2(pair.b) - 1) * pow2(position) * largest_spread(row, d.w, d.q + d.g, pair.a)
+    let slopes = steepest_of(row, d.w, d.q + d.g, pair.a);
+    (pow2(pair.b) - 1) * pow2(position) * slopes.spread
 }
 
 // inner: the budget of a legal design.

@@ -4,8 +4,7 @@ ghost use Prim.Native.Nat.{_+_, _^_, _≤_, _<_};
 ghost use lib.IntN.{natAbs};
 ghost use Rattle.values.specs.Room.{floorBound};
 ghost use Rattle.values.specs.Inputs.{InRange, SlopeInput};
-ghost use Rattle.values.specs.Slopes.{segmentStart, segmentEnd};
-ghost use Rattle.values.specs.Slopes as Slopes;
+ghost use Rattle.values.specs.Slopes.{slopeSum};
 ghost use Rattle.design.specs.Stored.{initialCount};
 ghost use Rattle.design.specs.Cut as Cut;
 ghost use Rattle.design.specs.Legal.{Legal};
@@ -17,8 +16,7 @@ use design::Design;
 use general::pow2;
 use values::floor::floor_value;
 use values::rows::Row;
-use values::slopes::hi;
-use values::slopes::lo;
+use values::slopes::bounds_of;
 use values::slopes::segment_end;
 use values::slopes::segment_start;
 
@@ -47,11 +45,10 @@ pub fn initial_at(d: Design, row: Row, word: u64) -> u32
 pub fn slope_sum(row: Row, w: u32, fraction: u32, a: u32, segment: u64) -> u64
     requires { ⌜ SlopeInput row w fraction a ⌝ }
     requires { ⌜ segment < 2 ^ a ⌝ }
-    ensures { λ r. ⌜ r ≡ Slopes.hi row w fraction (segmentStart w a segment) + Slopes.lo row w fraction (segmentEnd w a segment) ⌝ }
+    ensures { λ r. ⌜ r ≡ slopeSum row w fraction a segment ⌝ }
 {
-    let start = segment_start(w, a, segment);
-    let end = segment_end(w, a, segment);
-    hi(row, w, fraction, start) + lo(row, w, fraction, end)
+    let bounds = bounds_of(row, w, fraction, a, segment);
+    bounds.hi + bounds.lo
 }
 
 // j, an odd number of either sign.

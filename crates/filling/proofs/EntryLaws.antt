@@ -17,12 +17,12 @@ use Rattle.refusal.proofs.Checks.{passed-append}
 use Rattle.design.specs.declared.Design.{Design}
 use Rattle.design.specs.Stored.{initialCount, offsetCount, tableStart, offsetTotal, storedCount, storedPlace}
 use Rattle.design.proofs.StoredLaws.{Entry, place-below, entry-at}
+use Rattle.design.specs.Budget.{admittedCheck}
 use Rattle.entries.specs.Entries.{initialAt}
 use Rattle.tables.specs.Inputs.{Usable}
 use Rattle.tables.specs.Set.{setChecks}
 use Rattle.tables.proofs.SetLaws.{usable}
 use Rattle.filling.specs.Fill.{
-  admittedCheck,
   fillVerdict,
   initialEntries,
   tableEntries,

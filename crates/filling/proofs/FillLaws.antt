@@ -13,9 +13,9 @@ use Rattle.refusal.specs.Numbers.{verdictNumber}
 use Rattle.refusal.specs.Checks.{verdict}
 use Rattle.refusal.proofs.Checks.{verdict-append}
 use Rattle.design.specs.declared.Design.{Design}
-use Rattle.design.specs.Budget.{budget, limit, withinLimit}
+use Rattle.design.specs.Budget.{budget, limit, withinLimit, admittedCheck}
 use Rattle.tables.specs.Set.{setChecks}
-use Rattle.filling.specs.Fill.{admittedCheck, fillVerdict, initialEntries, offsetEntries, initialAfter, offsetsAfter}
+use Rattle.filling.specs.Fill.{fillVerdict, initialEntries, offsetEntries, initialAfter, offsetsAfter}
 
 -- "fill 1 to 11"
 module _ (d : Design) (initial offsets : ℕ) where

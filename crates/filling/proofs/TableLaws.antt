@@ -15,7 +15,7 @@ use Rattle.general.proofs.Sums.{sum-mono, sum-step, sum-next}
 use Rattle.general.proofs.ListLaws.{list-length, list-add, list-congruence}
 use Rattle.general.proofs.WritingLaws.{over-none, over-more}
 use Rattle.values.specs.declared.rows.Row.{Row}
-use Rattle.values.specs.Slopes.{segmentStart, segmentEnd, hi, lo}
+use Rattle.values.specs.Slopes.{hi, slopeSum}
 use Rattle.design.specs.declared.Design.{Design}
 use Rattle.design.specs.Cut.{aOf, bOf, row, fractionBits, position}
 use Rattle.design.specs.Stored.{offsetCount, tableStart, offsetTotal, storedCount, storedWord}
@@ -35,9 +35,8 @@ module _ (d : Design) (i : ℕ) where
 
   -- Hi + Lo of a segment by the numbers that the calls are handed
   pub slopes-are : (A : ℕ) {slopes a : ℕ} {r : Row} → r ≡ row d → a ≡ aOf d i
-      → slopes ≡ hi r (d .w) (fractionBits d) (segmentStart (d .w) a A) + lo r (d .w) (fractionBits d) (segmentEnd (d .w) a A)
-      → slopes ≡ hiAt d i A + loAt d i A
-  unfolding hiAt loAt
+      → slopes ≡ slopeSum r (d .w) (fractionBits d) a A → slopes ≡ hiAt d i A + loAt d i A
+  unfolding slopeSum hiAt loAt
   slopes-are A row-is a-is sum-is = sum-is ∙ rw (row-is, a-is)
 
   -- The offsets of the first n segments

@@ -1,25 +1,20 @@
 -- What the call `fill` answers, "fill 1 to 11", and what it leaves in the tables, for any that are lent.
 use mathlib.Core.Path.{_≡_}
-use mathlib.Core.Bool.{not}
 use mathlib.Core.List.{List, [], _∷_, _++_}
 use Prim.Native.Nat.{ℕ, zero, suc, _/_, _%_, _^_, _≤_, _<_}
 use lib.ListN.{length, getD}
 use lib.IntN.{ℤ, pos}
 use Rattle.general.specs.Below.{listBelow}
-use Rattle.refusal.specs.declared.Cause.{Cause}
 use Rattle.refusal.specs.declared.Verdict.{Verdict}
-use Rattle.refusal.specs.Checks.{Check, _↝_, verdict, leaves}
+use Rattle.refusal.specs.Checks.{verdict, leaves}
 use Rattle.design.specs.declared.Design.{Design}
 use Rattle.design.specs.Cut.{aOf}
 use Rattle.design.specs.Stored.{initialCount, offsetCount, offsetTotal, storedCount, storedWord, storedPlace}
-use Rattle.design.specs.Budget.{withinLimit}
+use Rattle.design.specs.Budget.{admittedCheck}
 use Rattle.entries.specs.Entries.{initialAt, offsetAt}
 use Rattle.tables.specs.Set.{setChecks}
 
--- 11, "not admitted"
-unfoldable pub admittedCheck : Design → Check
-admittedCheck d = not (withinLimit d) ↝ Cause.NotAdmitted
-
+-- "fill 1 to 11"
 unfoldable pub fillVerdict : Design → ℕ → ℕ → Verdict
 fillVerdict d initial offsets = verdict (setChecks d initial offsets ++ admittedCheck d ∷ [])
 

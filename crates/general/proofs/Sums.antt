@@ -3,7 +3,7 @@ use mathlib.Core.Path.{_≡_, refl, sym, ap, ap₂, _∙_}
 use mathlib.Core.Bool as Bool
 use mathlib.Core.Bool.{Bool, true, false, cond, or-true}
 use mathlib.Core.Logic.{⊎-elim}
-use Prim.Native.Nat.{ℕ, zero, suc, _+_, _*_, _≤_, _<_}
+use Prim.Native.Nat.{ℕ, zero, suc, _+_, _*_, _≤_, _<_, max}
 use lib.IntN.{ℤ, _+ℤ_, +ℤ-assoc, +ℤ-idl, +ℤ-idr}
 use native.Mathlib.Nat.{
   eq-or-lt-of-le,
@@ -18,9 +18,10 @@ use native.Mathlib.Nat.{
   max-le,
 }
 use native.Mathlib.Numerals.{add-one}
+use native.Mathlib.Decide.{decLt}
 use native.Mathlib.Omega.{arith}
-use Rattle.general.specs.Below.{sumBelow, someBelow, countBelow, largest, signedSum}
-use Rattle.general.proofs.Tests.{neither}
+use Rattle.general.specs.Below.{sumBelow, someBelow, everyBelow, countBelow, largest, signedSum}
+use Rattle.general.proofs.Tests.{neither, both}
 
 -- a number below suc n is n or below n
 pub below-suc {ℓ} : {n i : ℕ} {A : Type ℓ} → i < suc n → (i ≡ n → A) → (i < n → A) → A
@@ -44,6 +45,19 @@ unfolding someBelow
 some-of zero test i h e = absurd (not-suc-le-zero h)
 some-of (suc n) test i h e =
     below-suc h (λ at. rw (← at, e) (or-true (someBelow i test))) (λ below. rw (some-of n test i below e))
+
+-- A test that holds for each of them, both ways
+pub each-of : (n : ℕ) (test : ℕ → Bool) → everyBelow n test ≡ true → (i : ℕ) → i < n → test i ≡ true
+unfolding everyBelow
+each-of zero test e i h = absurd (not-suc-le-zero h)
+each-of (suc n) test e i h =
+    let parts = both _ _ e in
+    below-suc h (λ at. rw at (parts .1)) (λ below. each-of n test (parts .0) i below)
+
+pub every-of : (n : ℕ) (test : ℕ → Bool) → ((i : ℕ) → i < n → test i ≡ true) → everyBelow n test ≡ true
+unfolding everyBelow
+every-of zero test holds = refl
+every-of (suc n) test holds = rw (every-of n test (λ i h. holds i (le-step h)), holds n (le-refl _))
 
 -- a sum grows with its bound, and keeps below a bound for each part
 pub sum-mono : (f : ℕ → ℕ) (i n : ℕ) → i ≤ n → sumBelow i f ≤ sumBelow n f
@@ -128,7 +142,12 @@ unfolding countBelow
 count-none zero test fails = refl
 count-none (suc n) test fails = rw (count-none n test (λ i h. fails i (le-step h)), fails n (le-refl _)) refl
 
--- The largest of f over the numbers below n is at least each,
+-- The largest of f over the numbers below n: with one number more,
+pub largest-next : (n : ℕ) (f : ℕ → ℕ) → largest (n + 1) f ≡ max (largest n f) (f n)
+unfolding largest
+largest-next n f = rw add-one refl
+
+-- it is at least each,
 pub largest-above : (n : ℕ) (f : ℕ → ℕ) (i : ℕ) → i < n → f i ≤ largest n f
 unfolding largest
 largest-above zero f i h = absurd (not-suc-le-zero h)
@@ -140,3 +159,15 @@ pub largest-bounded : (n B : ℕ) (f : ℕ → ℕ) → ((i : ℕ) → i < n →
 unfolding largest
 largest-bounded zero B f h = omega arith
 largest-bounded (suc n) B f h = max-le (largest-bounded n B f (λ i g. h i (le-step g))) (h n (le-refl _))
+
+-- It is one of them, if there are any.
+pub largest-reached : (n : ℕ) (f : ℕ → ℕ) → 0 < n → (i : ℕ) × (i < n) × (f i ≡ largest n f)
+unfolding largest
+largest-reached zero f h = absurd (not-suc-le-zero h)
+largest-reached (suc zero) f h = (0, le-refl 1, omega arith)
+largest-reached (suc (suc n)) f h =
+    let before = largest-reached (suc n) f (omega arith) in
+    elim (decLt (largest (suc n) f) (f (suc n))) [
+      | yes more ↦ (suc n, le-refl _, omega arith)
+      | no fewer ↦ (before .0, le-step (before .1), omega (arith, before .2))
+    ]

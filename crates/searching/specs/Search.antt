@@ -8,7 +8,7 @@ use Rattle.general.specs.Below.{sumBelow}
 use Rattle.refusal.specs.declared.Verdict.{Verdict}
 use Rattle.refusal.specs.Checks.{verdict}
 use Rattle.values.specs.Rows.{rowOf}
-use Rattle.values.specs.Slopes.{largestSpread}
+use Rattle.values.specs.Slopes.{largestSpread, largestSum}
 use Rattle.values.specs.Widths.{limitsOf, widthChecks}
 use Rattle.design.specs.declared.Design.{Design}
 use Rattle.design.specs.declared.legal.TableRule.{TableRule}
@@ -77,13 +77,15 @@ pub record Next (prefix : Prefix) : Type 0 where
   pub so-far : Open (prefix .design) (prefix .tables)
   pub more : prefix .tables < prefix .design .m
 
--- "the largest Hi - Lo over all A_i" by a: a table has at least one bit of B, so a is below the highest a + b.
-pub record SpreadsOf (kind w P : ℕ) (spreads : List ℕ) : Type 0 where
-  pub long : length spreads ≡ mostTableBits
-  pub at : (a : ℕ) → 1 ≤ a → a < mostTableBits → a < w → getD spreads a 0 ≡ largestSpread (rowOf kind) w P a
+-- By a, "the largest Hi - Lo over all A_i", and behind these the largest Hi + Lo. A table has at least one bit of B, so a is below the
+-- highest a + b, and there are so many of each.
+pub record SlopesOf (kind w P : ℕ) (slopes : List ℕ) : Type 0 where
+  pub long : length slopes ≡ mostTableBits + mostTableBits
+  pub spread-at : (a : ℕ) → 1 ≤ a → a < mostTableBits → a < w → getD slopes a 0 ≡ largestSpread (rowOf kind) w P a
+  pub sum-at : (a : ℕ) → 1 ≤ a → a < mostTableBits → a < w → getD slopes (mostTableBits + a) 0 ≡ largestSum (rowOf kind) w P a
 
-abbrev pub SpreadsFor : Design → List ℕ → Type 0
-SpreadsFor d spreads = SpreadsOf (d .kind) (d .w) (fractionBits d) spreads
+abbrev pub SlopesFor : Design → List ℕ → Type 0
+SlopesFor d slopes = SlopesOf (d .kind) (d .w) (fractionBits d) slopes
 
 -- A number that the largest Hi - Lo of no table is below
 abbrev pub Least : Design → ℕ → Type 0
@@ -91,7 +93,7 @@ Least d least = (a : ℕ) → 1 ≤ a → a ≤ d .alpha → a < mostTableBits �
 
 -- The same of the spreads in a list, by a up to alpha
 abbrev pub LeastOf : List ℕ → ℕ → ℕ → Type 0
-LeastOf spreads alpha least = (a : ℕ) → 1 ≤ a → a ≤ alpha → a < mostTableBits → least ≤ getD spreads a 0
+LeastOf slopes alpha least = (a : ℕ) → 1 ≤ a → a ≤ alpha → a < mostTableBits → least ≤ getD slopes a 0
 
 -- What all tables from position p on add to the budget at least: their D_i add up to 2^(w-alpha) - 2^p.
 unfoldable pub restFrom : Design → ℕ → ℕ → ℕ

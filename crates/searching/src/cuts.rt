@@ -5,7 +5,7 @@ ghost use Rattle.general.specs.Below.{forEach};
 ghost use Rattle.design.specs.Limits.{mostTables, mostOffsetBits, mostTableBits};
 ghost use Rattle.searching.specs.Designs.{continued, withPair};
 ghost use Rattle.searching.specs.Best.{bestOf};
-ghost use Rattle.searching.specs.Search.{Next, SpreadsFor, Least};
+ghost use Rattle.searching.specs.Search.{Next, SlopesFor, Least};
 use crate::SizedDesign;
 use crate::prefix::Prefix;
 use crate::prefix::rest_from;
@@ -40,8 +40,8 @@ fn most_offset_bits(left: u32, later: u32, a: u32) -> u32
 
 // The best so far, or of the designs with one more table, which is the last: its b is all that is left. The size grows with a, so the
 // first a that is admitted is the best.
-fn last_table(spreads: &[u64], prefix: Prefix, best: SizedDesign) -> SizedDesign
-    requires { ⌜ SpreadsFor (prefix .design) (now spreads) ⌝ }
+fn last_table(slopes: &[u64], prefix: Prefix, best: SizedDesign) -> SizedDesign
+    requires { ⌜ SlopesFor (prefix .design) (now slopes) ⌝ }
     requires { ⌜ Next prefix × (prefix .tables + 1 ≡ prefix .design .m) ⌝ }
     ensures { λ r. ⌜ r ≡ bestOf best (continued 1 (prefix .design) (prefix .tables)) ⌝ }
 {
@@ -54,7 +54,7 @@ fn last_table(spreads: &[u64], prefix: Prefix, best: SizedDesign) -> SizedDesign
         if best.bits <= bits {
             return best;
         }
-        if prefix.budget_with(spreads, a, b) < limit {
+        if prefix.budget_with(slopes, a, b) < limit {
             return SizedDesign {
                 design: with_pair(d, prefix.tables, a, b),
                 bits,
@@ -66,23 +66,23 @@ fn last_table(spreads: &[u64], prefix: Prefix, best: SizedDesign) -> SizedDesign
 
 // The same for any number of tables more, by a of the next one: a + b has its limit, and b is at least 1.
 pub fn each_segment_bits(
-    spreads: &[u64],
+    slopes: &[u64],
     least: u64,
     prefix: Prefix,
     best: SizedDesign,
 ) -> SizedDesign
-    requires { ⌜ SpreadsFor (prefix .design) (now spreads) × Least (prefix .design) least ⌝ }
+    requires { ⌜ SlopesFor (prefix .design) (now slopes) × Least (prefix .design) least ⌝ }
     requires { ⌜ Next prefix ⌝ }
     ensures { λ r. ⌜ r ≡ bestOf best (continued (prefix .design .m - prefix .tables) (prefix .design) (prefix .tables)) ⌝ }
 {
     let d = prefix.design;
     if prefix.tables + 1 == d.m {
-        return last_table(spreads, prefix, best);
+        return last_table(slopes, prefix, best);
     }
     let end = smaller(d.alpha + 1, MOST_TABLE_BITS as u32);
     let mut found = best;
     for a in 1..end {
-        found = each_offset_bits(spreads, least, prefix, a, found);
+        found = each_offset_bits(slopes, least, prefix, a, found);
     }
     found
 }
@@ -90,13 +90,13 @@ pub fn each_segment_bits(
 // The same, by b of the next table, whose a is chosen. Its size grows with b, and so does its budget with the least that the later tables
 // add, since no spread is below `least`. So where one of them is too large, no larger b is tried.
 fn each_offset_bits(
-    spreads: &[u64],
+    slopes: &[u64],
     least: u64,
     prefix: Prefix,
     a: u32,
     best: SizedDesign,
 ) -> SizedDesign
-    requires { ⌜ SpreadsFor (prefix .design) (now spreads) × Least (prefix .design) least ⌝ }
+    requires { ⌜ SlopesFor (prefix .design) (now slopes) × Least (prefix .design) least ⌝ }
     requires { ⌜ Next prefix × (prefix .tables + 1 < prefix .design .m) ⌝ }
     requires { ⌜ (1 ≤ a) × (a ≤ prefix .design .alpha) × (a < mostTableBits) ⌝ }
     ensures { λ r.
@@ -115,7 +115,7 @@ fn each_offset_bits(
     for b in first..end {
         let position = prefix.position + b;
         let bits = prefix.size_with(a, b);
-        let budget = prefix.budget_with(spreads, a, b);
+        let budget = prefix.budget_with(slopes, a, b);
         if found.bits <= bits || limit <= budget + rest_from(d, least, position) {
             return found;
         }
@@ -126,7 +126,7 @@ fn each_offset_bits(
             bits,
             budget,
         };
-        found = each_segment_bits(spreads, least, next, found);
+        found = each_segment_bits(slopes, least, next, found);
     }
     found
 }

@@ -5,7 +5,7 @@ ghost use Rattle.searching.specs.Best.{refusedWith, smallestAnswer, told
 mod cuts;
 mod numbers;
 mod prefix;
-mod spreads;
+mod slopes;
 
 use design::Design;
 use numbers::NO_BITS;

@@ -8,14 +8,14 @@ ghost use Rattle.design.specs.Limits.{leastInitialBits, mostInitialBits, mostTa
 ghost use Rattle.searching.specs.Designs.{continued};
 ghost use Rattle.searching.specs.Designs as Designs;
 ghost use Rattle.searching.specs.Best.{bestOf, smallestOf};
-ghost use Rattle.searching.specs.Search.{prefixOf, Started, SpreadsFor, withTables};
+ghost use Rattle.searching.specs.Search.{prefixOf, Started, SlopesFor, withTables};
 use crate::SizedDesign;
 use crate::cuts::each_segment_bits;
 use crate::prefix::Prefix;
 use crate::prefix::bare;
 use crate::prefix::no_design;
-use crate::spreads::least_spread;
-use crate::spreads::spreads_of;
+use crate::slopes::least_spread;
+use crate::slopes::slopes_of;
 use design::Design;
 use design::limits::LEAST_INITIAL_BITS;
 use design::limits::MOST_INITIAL_BITS;
@@ -45,18 +45,18 @@ fn first_prefix(d: Design, m: u32) -> Prefix
 }
 
 // The best so far, or of the designs with these numbers, by m: so many tables have to be able to share the bits that are left.
-fn each_table_count(spreads: &[u64], d: Design, best: SizedDesign) -> SizedDesign
-    requires { ⌜ Started d × SpreadsFor d (now spreads) ⌝ }
+fn each_table_count(slopes: &[u64], d: Design, best: SizedDesign) -> SizedDesign
+    requires { ⌜ Started d × SlopesFor d (now slopes) ⌝ }
     ensures { λ r. ⌜ r ≡ bestOf best (forEach 1 mostTables (λ m. continued m (withTables d m) 0)) ⌝ }
 {
     let left = d.w - d.alpha;
     let limit = limit_of(d);
-    let least = least_spread(spreads, d.alpha);
+    let least = least_spread(slopes, d.alpha);
     let mut found = best;
     for m in 1..MOST_TABLES + 1 {
         let first = first_prefix(d, m);
         if m <= left && left <= m * MOST_OFFSET_BITS && first.budget < limit {
-            found = each_segment_bits(spreads, least, first, found);
+            found = each_segment_bits(slopes, least, first, found);
         }
     }
     found
@@ -69,11 +69,11 @@ fn each_initial_bits(kind: u32, w: u32, q: u32, g: u32, best: SizedDesign) -> Si
         ⌜ r ≡ bestOf best (forEach leastInitialBits mostInitialBits
         (λ alpha. forEach 1 mostTables (λ m. continued m (Designs.bare kind w q g alpha m) 0))) ⌝ }
 {
-    let spreads = spreads_of(kind, w, q, g);
+    let slopes = slopes_of(kind, w, q, g);
     let end = smaller(w, MOST_INITIAL_BITS + 1);
     let mut found = best;
     for alpha in LEAST_INITIAL_BITS..end {
-        found = each_table_count(&spreads, bare(kind, w, q, g, alpha, 0), found);
+        found = each_table_count(&slopes, bare(kind, w, q, g, alpha, 0), found);
     }
     found
 }

@@ -5,7 +5,7 @@ ghost use lib.ListN.{length};
 ghost use Rattle.design.specs.Limits.{mostTables};
 ghost use Rattle.searching.specs.Designs.{noDesign, withPair};
 ghost use Rattle.searching.specs.Designs as Designs;
-ghost use Rattle.searching.specs.Search.{sizeBefore, budgetBefore, restFrom, Begun, Fitting, Next, SpreadsFor, Least};
+ghost use Rattle.searching.specs.Search.{sizeBefore, budgetBefore, restFrom, Begun, Fitting, Next, SlopesFor, Least};
 use design::Design;
 use design::NO_PAIR;
 use design::Pair;
@@ -80,12 +80,12 @@ impl Prefix {
     }
 
     // The budget with it. A table's share takes its reach and the largest Hi - Lo by its a, which is looked up.
-    pub fn budget_with(self, spreads: &[u64], a: u32, b: u32) -> u64
-        requires { ⌜ SpreadsFor (self .design) (now spreads) ⌝ }
+    pub fn budget_with(self, slopes: &[u64], a: u32, b: u32) -> u64
+        requires { ⌜ SlopesFor (self .design) (now slopes) ⌝ }
         requires { ⌜ Next self × Fitting (self .design) (self .tables) a b ⌝ }
         ensures { λ r. ⌜ r ≡ budgetBefore (withPair (self .design) (self .tables) a b) (self .tables + 1) ⌝ }
     {
         let reach = (pow2(b) - 1) * pow2(self.position);
-        self.budget + reach * spreads[a as usize]
+        self.budget + reach * slopes[a as usize]
     }
 }

@@ -20,14 +20,13 @@ use Rattle.design.specs.Stored.{
 }
 use Rattle.design.specs.Same.{Same}
 use Rattle.design.specs.Legal.{tableBreaks, cutChecks, designChecks, designVerdict}
-use Rattle.design.specs.Budget.{reach, tableBudget, budget, limit, withinLimit, size}
+use Rattle.design.specs.Budget.{reach, tableBudget, budget, limit, withinLimit, admittedCheck, size}
 use Rattle.design.specs.Answers.{budgetAnswer, sizeAnswer, budgetTold, sizeTold}
 use Rattle.design.proofs.SameLaws.{with-pairs, only-pairs}
 use Rattle.entries.specs.Entries.{valueAt, endValues, initialAt, hiAt, loAt, offsetAt}
 use Rattle.tables.specs.Sum.{offsetFor, sumAt, sumOutside, wordOf, wordAt}
 use Rattle.tables.specs.Set.{tablesCheck, setChecks}
 use Rattle.filling.specs.Fill.{
-  admittedCheck,
   fillVerdict,
   initialEntries,
   tableEntries,

@@ -27,3 +27,10 @@ spread row w P a A = hi row w P (segmentStart w a A) - lo row w P (segmentEnd w 
 -- "the largest Hi - Lo over all A_i"
 unfoldable pub largestSpread : Row → ℕ → ℕ → ℕ → ℕ
 largestSpread row w P a = largest (2 ^ a) (spread row w P a)
+
+-- Hi + Lo, as in document 01's "Filling", and the largest over all A_i
+unfoldable pub slopeSum : Row → ℕ → ℕ → ℕ → ℕ → ℕ
+slopeSum row w P a A = hi row w P (segmentStart w a A) + lo row w P (segmentEnd w a A)
+
+unfoldable pub largestSum : Row → ℕ → ℕ → ℕ → ℕ
+largestSum row w P a = largest (2 ^ a) (slopeSum row w P a)

@@ -2,12 +2,13 @@
 ghost use mathlib.Core.Path.{_≡_};
 ghost use Prim.Native.Nat.{_+_, _*_, _^_, _<_};
 ghost use Rattle.values.specs.Floor.{floorValue};
-ghost use Rattle.values.specs.Slopes.{segmentStart, segmentEnd, spread, largestSpread};
+ghost use Rattle.values.specs.Slopes.{segmentStart, segmentEnd, largestSpread, largestSum};
 ghost use Rattle.values.specs.Slopes as Slopes;
 ghost use Rattle.values.specs.Room.{floorBound};
 ghost use Rattle.values.specs.Inputs.{FloorInput, SegmentInput, SlopeInput};
 use crate::floor::floor_value;
 use crate::rows::Row;
+use general::larger;
 use general::pow2;
 
 // inner: the first X of the segment that a value of the top a bits of x names.
@@ -34,43 +35,60 @@ fn floor_count(row: Row, w: u32, p: u32, x: u64) -> u64
     floor_value(row, w, p, x).count()
 }
 
-// inner: Hi, at the segment's start.
-pub fn hi(row: Row, w: u32, p: u32, start: u64) -> u64
+// Hi, at the segment's start.
+fn hi(row: Row, w: u32, p: u32, start: u64) -> u64
     requires { ⌜ FloorInput row w p start ⌝ }
     ensures { λ r. ⌜ r ≡ Slopes.hi row w p start ⌝ }
 {
     (floor_count(row, w, p, start) + 1) * 65536 / (row.k as u64 * start) + 1
 }
 
-// inner: Lo, at the segment's end.
-pub fn lo(row: Row, w: u32, p: u32, end: u64) -> u64
+// Lo, at the segment's end.
+fn lo(row: Row, w: u32, p: u32, end: u64) -> u64
     requires { ⌜ FloorInput row w p end ⌝ }
     ensures { λ r. ⌜ r ≡ Slopes.lo row w p end ⌝ }
 {
     floor_count(row, w, p, end) * 65536 / (row.k as u64 * end)
 }
 
-fn spread(row: Row, w: u32, p: u32, a: u32, segment: u64) -> u64
+// Hi and Lo of a segment: what the slope on it is at most, and at least.
+pub struct SlopeBounds {
+    pub hi: u64,
+    pub lo: u64,
+}
+
+// inner: those of the segment that a value of the top a bits of x names.
+pub fn bounds_of(row: Row, w: u32, p: u32, a: u32, segment: u64) -> SlopeBounds
     requires { ⌜ SlopeInput row w p a ⌝ }
     requires { ⌜ segment < 2 ^ a ⌝ }
-    ensures { λ r. ⌜ r ≡ Slopes.spread row w p a segment ⌝ }
+    ensures { λ r.
+        ⌜ r ≡ record { hi = Slopes.hi row w p (segmentStart w a segment); lo = Slopes.lo row w p (segmentEnd w a segment) } ⌝ }
 {
     let start = segment_start(w, a, segment);
     let end = segment_end(w, a, segment);
-    hi(row, w, p, start) - lo(row, w, p, end)
+    SlopeBounds {
+        hi: hi(row, w, p, start),
+        lo: lo(row, w, p, end),
+    }
 }
 
-// inner: the largest Hi - Lo over the segments of a bits; two floor values a segment.
-pub fn largest_spread(row: Row, w: u32, p: u32, a: u32) -> u64
+// The largest Hi - Lo and the largest Hi + Lo over the segments of a bits.
+pub struct Steepest {
+    pub spread: u64,
+    pub sum: u64,
+}
+
+// inner: both in one pass; two floor values a segment.
+pub fn steepest_of(row: Row, w: u32, p: u32, a: u32) -> Steepest
     requires { ⌜ SlopeInput row w p a ⌝ }
-    ensures { λ r. ⌜ r ≡ largestSpread row w p a ⌝ }
+    ensures { λ r. ⌜ r ≡ record { spread = largestSpread row w p a; sum = largestSum row w p a } ⌝ }
 {
-    let mut largest = 0;
+    let mut spread = 0;
+    let mut sum = 0;
     for segment in 0..pow2(a) {
-        let here = spread(row, w, p, a, segment);
-        if largest < here {
-            largest = here;
-        }
+        let here = bounds_of(row, w, p, a, segment);
+        spread = larger(spread, here.hi - here.lo);
+        sum = larger(sum, here.hi + here.lo);
     }
-    largest
+    Steepest { spread, sum }
 }

@@ -17,7 +17,7 @@ use Rattle.values.specs.Room.{widestWord}
 use Rattle.design.specs.declared.Design.{Design}
 use Rattle.design.specs.Limits.{mostOffsetBits, mostTableBits}
 use Rattle.searching.specs.Designs.{withPair}
-use Rattle.searching.specs.Search.{Next, Fitting, SpreadsFor, Least}
+use Rattle.searching.specs.Search.{Next, Fitting, SlopesFor, Least}
 use Rattle.searching.proofs.OpenLaws.{position-kept}
 use Rattle.searching.proofs.SmallLaws.{widths, guard-few}
 use Rattle.searching.proofs.TurnLaws.{
@@ -106,9 +106,9 @@ position-in p q b more all e low = omega arith
 
 -- what is the same of the design with a table more, and that fewer are left
 module _ (d : Design) (i a b : ℕ) (next : Design) (next-is : next ≡ withPair d i a b) where
-  spreads-same : (spreads : List ℕ) → SpreadsFor d spreads → SpreadsFor next spreads
+  slopes-same : (slopes : List ℕ) → SlopesFor d slopes → SlopesFor next slopes
   unfolding withPair
-  spreads-same spreads known = rw next-is known
+  slopes-same slopes known = rw next-is known
 
   least-kept : (least : ℕ) → Least d least → Least next least
   unfolding withPair
@@ -137,17 +137,17 @@ end-fits : (n k : ℕ) → n ≡ min mostOffsetBits k → Fits w32 (n + 1)
 end-fits n k e = omega arith
 
 abbrev b-Inv : b-lts.InvT-loop
-b-Inv spreads least prefix a d i left later limit first end found₀ b₀ found b =
+b-Inv slopes least prefix a d i left later limit first end found₀ b₀ found b =
     OverB (prefix .design) (prefix .tables) a (prefix .design .m - (prefix .tables + 1)) first found₀ found b
 
 abbrev b-μ : b-lts.MeasureT-loop
-b-μ spreads least prefix a d i left later limit first end found₀ b₀ found b = end - b
+b-μ slopes least prefix a d i left later limit first end found₀ b₀ found b = end - b
 
 abbrev a-Inv : a-lts.InvT-loop
-a-Inv spreads least prefix end found₀ a₀ found a = OverA (prefix .design) (prefix .tables) end found₀ found a
+a-Inv slopes least prefix end found₀ a₀ found a = OverA (prefix .design) (prefix .tables) end found₀ found a
 
 abbrev a-μ : a-lts.MeasureT-loop
-a-μ spreads least prefix end found₀ a₀ found a = end - a
+a-μ slopes least prefix end found₀ a₀ found a = end - a
 
 b-returns : (t : ℕ) → b-lts.Need-returns (b-calls t) (by-b-at t) by-b.Post b-Inv b-μ
 b-returns t c =
@@ -302,7 +302,7 @@ b-each-segment-bits-requires t c κs =
       fewer-left _ _ _ _ _ (c .with-pair .ensures) t (start .pre .0) (f .0 .more),
       (
         (
-          spreads-same _ _ _ _ _ (c .with-pair .ensures) _ (e .0 .0),
+          slopes-same _ _ _ _ _ (c .with-pair .ensures) _ (e .0 .0),
           least-kept _ _ _ _ _ (c .with-pair .ensures) _ (e .0 .1),
         ),
         next-open _ (f .0) (f .1) _ (g .0) (g .1) (g .2) _ refl _ _ (most .before .least-offset-bits .ensures)

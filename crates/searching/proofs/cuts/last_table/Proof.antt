@@ -156,10 +156,10 @@ module _ (prefix : Prefix) (n : Next prefix) (last : prefix .tables + 1 ≡ pref
           (inv .so-far))
 
 abbrev Inv-loop : tie.InvT-loop
-Inv-loop spreads prefix best d b limit end a₀ a = Inv best d (prefix .tables) end a
+Inv-loop slopes prefix best d b limit end a₀ a = Inv best d (prefix .tables) end a
 
 abbrev μ-loop : tie.MeasureT-loop
-μ-loop spreads prefix best d b limit end a₀ a = end - a
+μ-loop slopes prefix best d b limit end a₀ a = end - a
 
 -- what is asked of the caller
 asked : (c : tie.Start Inv-loop μ-loop) → let a = c .args in Next (a .prefix) × (a .prefix .tables + 1 ≡ a .prefix .design .m)

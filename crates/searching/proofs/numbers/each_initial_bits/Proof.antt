@@ -14,22 +14,22 @@ use Rattle.design.specs.Limits.{leastInitialBits, mostInitialBits, mostTables}
 use Rattle.searching.specs.declared.SizedDesign.{SizedDesign}
 use Rattle.searching.specs.Designs.{bare, continued}
 use Rattle.searching.specs.Best.{bestOf}
-use Rattle.searching.specs.Search.{Started, SpreadsFor, SpreadsOf, withTables}
+use Rattle.searching.specs.Search.{Started, SlopesFor, SlopesOf, withTables}
 use Rattle.searching.proofs.BestLaws.{best-first, best-one, best-rest}
 use Rattle.searching.proofs.BeginLaws.{by-alpha, no-alpha}
 use Rattle.searching.proofs.numbers.each_initial_bits.Statement.{statement}
 use Rattle.searching.proofs.numbers.each_initial_bits.Tie as tie
 
-record Inv (kind w q g : ℕ) (spreads : List ℕ) (best found : SizedDesign) (alpha : ℕ) : Type 0 where
+record Inv (kind w q g : ℕ) (slopes : List ℕ) (best found : SizedDesign) (alpha : ℕ) : Type 0 where
   low : leastInitialBits ≤ alpha
   high : alpha ≤ mostInitialBits + 1
-  known : SpreadsOf kind w (q + g) spreads
+  known : SlopesOf kind w (q + g) slopes
   so-far : bestOf best (joined leastInitialBits (alpha - leastInitialBits) (by-alpha kind w q g)) ≡ found
 
 module _ (kind w q g end : ℕ) (passed : verdict (widthChecks (limitsOf kind) kind w q g) ≡ Verdict.Passed)
     (end-is : end ≡ min w (mostInitialBits + 1)) where
-  begin : (spreads : List ℕ) (best : SizedDesign) → SpreadsOf kind w (q + g) spreads → Inv kind w q g spreads best best leastInitialBits
-  begin spreads best known =
+  begin : (slopes : List ℕ) (best : SizedDesign) → SlopesOf kind w (q + g) slopes → Inv kind w q g slopes best best leastInitialBits
+  begin slopes best known =
       record { low = omega arith; high = omega arith; known = known; so-far = best-first leastInitialBits (by-alpha kind w q g) best }
 
   -- the design of which alpha is chosen
@@ -40,14 +40,14 @@ module _ (kind w q g end : ℕ) (passed : verdict (widthChecks (limitsOf kind) k
         rw is
         (record { widths = passed; alpha-low = low; alpha-high = omega (arith, end-is, below); alpha-below = omega (arith, end-is, below) })
 
-    spreads-kept : (spreads : List ℕ) → SpreadsOf kind w (q + g) spreads → SpreadsFor made spreads
+    slopes-kept : (slopes : List ℕ) → SlopesOf kind w (q + g) slopes → SlopesFor made slopes
     unfolding bare
-    spreads-kept spreads known = rw is known
+    slopes-kept slopes known = rw is known
 
-    turn : (spreads : List ℕ) (best found now : SizedDesign) → Inv kind w q g spreads best found alpha
-        → now ≡ bestOf found (forEach 1 mostTables (λ m. continued m (withTables made m) 0)) → Inv kind w q g spreads best now (alpha + 1)
+    turn : (slopes : List ℕ) (best found now : SizedDesign) → Inv kind w q g slopes best found alpha
+        → now ≡ bestOf found (forEach 1 mostTables (λ m. continued m (withTables made m) 0)) → Inv kind w q g slopes best now (alpha + 1)
     unfolding bare
-    turn spreads best found now inv e =
+    turn slopes best found now inv e =
         record {
           low = omega arith;
           high = omega (arith, end-is, below);
@@ -55,17 +55,17 @@ module _ (kind w q g end : ℕ) (passed : verdict (widthChecks (limitsOf kind) k
           so-far = best-one leastInitialBits (by-alpha kind w q g) best found alpha low (inv .so-far) ∙ sym (rw is at e);
         }
 
-  done : (spreads : List ℕ) (best found : SizedDesign) (alpha : ℕ) → Inv kind w q g spreads best found alpha → end ≤ alpha
+  done : (slopes : List ℕ) (best found : SizedDesign) (alpha : ℕ) → Inv kind w q g slopes best found alpha → end ≤ alpha
       → bestOf best (forEach leastInitialBits mostInitialBits (by-alpha kind w q g)) ≡ found
-  done spreads best found alpha inv ended =
+  done slopes best found alpha inv ended =
       best-rest leastInitialBits (by-alpha kind w q g) best found alpha (mostInitialBits + 1) (inv .low) (inv .high)
       (inv .so-far) (λ other from to. no-alpha kind w q g found other (omega (arith, end-is, ended, from, to)))
 
 abbrev Inv-loop : tie.InvT-loop
-Inv-loop kind w q g spreads end found₀ alpha₀ found alpha = Inv kind w q g spreads found₀ found alpha
+Inv-loop kind w q g slopes end found₀ alpha₀ found alpha = Inv kind w q g slopes found₀ found alpha
 
 abbrev μ-loop : tie.MeasureT-loop
-μ-loop kind w q g spreads end found₀ alpha₀ found alpha = end - alpha
+μ-loop kind w q g slopes end found₀ alpha₀ found alpha = end - alpha
 
 returns : tie.Need-returns Inv-loop μ-loop
 returns c =
@@ -79,11 +79,11 @@ loop-again c =
     turn _ _ _ _ _ (smaller .before .before .pre) (smaller .smaller .ensures) _ (loop .before .loop .inv .low) (loop .loop-test .taken) _
     (c .before .bare .ensures) _ _ _ _ (loop .before .loop .inv) (c .each-table-count .ensures)
 
-spreads-of-requires : tie.Need-spreads-of-requires Inv-loop μ-loop
-spreads-of-requires c κs = c .pre
+slopes-of-requires : tie.Need-slopes-of-requires Inv-loop μ-loop
+slopes-of-requires c κs = c .pre
 
 loop-holds : tie.Need-loop-holds Inv-loop μ-loop
-loop-holds c = begin _ _ _ _ _ (c .before .before .pre) (c .smaller .ensures) _ _ (c .before .spreads-of .ensures)
+loop-holds c = begin _ _ _ _ _ (c .before .before .pre) (c .smaller .ensures) _ _ (c .before .slopes-of .ensures)
 
 slice-aggregate-each-table-count : tie.Need-slice-aggregate-each-table-count Inv-loop μ-loop
 slice-aggregate-each-table-count c = sym (c .before .before .loop .inv .known .long)
@@ -95,7 +95,7 @@ each-table-count-requires c κs =
     let inv = loop .before .loop .inv in (
       started _ _ _ _ _ (smaller .before .before .pre) (smaller .smaller .ensures) _ (inv .low) (loop .loop-test .taken) _
           (c .bare .ensures),
-      spreads-kept _ _ _ _ _ (smaller .before .before .pre) (smaller .smaller .ensures) _ (inv .low) (loop .loop-test .taken) _
+      slopes-kept _ _ _ _ _ (smaller .before .before .pre) (smaller .smaller .ensures) _ (inv .low) (loop .loop-test .taken) _
           (c .bare .ensures) _
           (inv .known),
     )
@@ -112,7 +112,7 @@ each-initial-bits-spec =
     (tie.spec
     Inv-loop
     μ-loop
-    spreads-of-requires
+    slopes-of-requires
     (λ c. search needs)
     (λ c κs. search needs)
     loop-holds

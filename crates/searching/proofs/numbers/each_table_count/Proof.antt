@@ -15,7 +15,7 @@ use Rattle.searching.specs.declared.SizedDesign.{SizedDesign}
 use Rattle.searching.specs.declared.prefix.Prefix.{Prefix}
 use Rattle.searching.specs.Designs.{bare, continued}
 use Rattle.searching.specs.Best.{bestOf}
-use Rattle.searching.specs.Search.{prefixOf, Started, SpreadsFor, Least, LeastOf, withTables}
+use Rattle.searching.specs.Search.{prefixOf, Started, SlopesFor, Least, LeastOf, withTables}
 use Rattle.searching.proofs.BestLaws.{best-first, best-one}
 use Rattle.searching.proofs.BeginLaws.{first-next, not-shared, turn-skipped, over-limit}
 use Rattle.searching.proofs.numbers.each_table_count.Statement.{statement}
@@ -27,23 +27,23 @@ record Inv (d : Design) (best found : SizedDesign) (m : ℕ) : Type 0 where
   so-far : bestOf best (joined 1 (m - 1) (λ m. continued m (withTables d m) 0)) ≡ found
 
 abbrev Inv-loop : tie.InvT-loop
-Inv-loop spreads d left limit least found₀ m₀ found m = Inv d found₀ found m
+Inv-loop slopes d left limit least found₀ m₀ found m = Inv d found₀ found m
 
 abbrev μ-loop : tie.MeasureT-loop
-μ-loop spreads d left limit least found₀ m₀ found m = mostTables + 1 - m
+μ-loop slopes d left limit least found₀ m₀ found m = mostTables + 1 - m
 
--- what is known of the spreads is known of the design with its tables
-module _ (d : Design) (m : ℕ) (spreads : List ℕ) (known : SpreadsFor d spreads) (first : Prefix) (is : first ≡ prefixOf
+-- what is known of the slopes is known of the design with its tables
+module _ (d : Design) (m : ℕ) (slopes : List ℕ) (known : SlopesFor d slopes) (first : Prefix) (is : first ≡ prefixOf
     (withTables d m) 0) where
-  spreads-kept : SpreadsFor (first .design) spreads
+  slopes-kept : SlopesFor (first .design) slopes
   unfolding bare
-  spreads-kept = rw is known
+  slopes-kept = rw is known
 
-  least-kept : Started d → (least : ℕ) → LeastOf spreads (d .alpha) least → Least (first .design) least
+  least-kept : Started d → (least : ℕ) → LeastOf slopes (d .alpha) least → Least (first .design) least
   unfolding bare
   least-kept u least none-below = rw is kept where
     kept : Least d least
-    kept a one high few = rw (← known .at a one few (omega (arith, high, u .alpha-below))) (none-below a one high few)
+    kept a one high few = rw (← known .spread-at a one few (omega (arith, high, u .alpha-below))) (none-below a one high few)
 
 module _ (d : Design) (u : Started d) (best found : SizedDesign) (m : ℕ) (inv : Inv d best found m) (below : m < mostTables + 1) where
   skipped : bestOf best (joined 1 (m + 1 - 1) (λ m. continued m (withTables d m) 0)) ≡ found → Inv d best found (m + 1)
@@ -96,7 +96,7 @@ limit-of-requires c κs =
     omega (arith, widths-of _ _ _ _ (u .widths) .room .s-small)
 
 least-spread-requires : tie.Need-least-spread-requires Inv-loop μ-loop
-least-spread-requires c κs = c .before .before .before .pre .1 .long
+least-spread-requires c κs = omega (arith, c .before .before .before .pre .1 .long)
 
 loop-holds : tie.Need-loop-holds Inv-loop μ-loop
 loop-holds c = record { low = omega arith; high = omega arith; so-far = best-first 1 _ _ }
@@ -116,7 +116,7 @@ each-segment-bits-requires c κs =
     let e = start .pre in
     let d = start .args .d in
     let is = first .first-prefix .ensures in (
-      (spreads-kept d _ _ (e .1) _ is, least-kept d _ _ (e .1) _ is (e .0) _ (least .least-spread .ensures)),
+      (slopes-kept d _ _ (e .1) _ is, least-kept d _ _ (e .1) _ is (e .0) _ (least .least-spread .ensures)),
       first-next d (e .0) _ _ is (loop .before .loop .inv .low) (le-of-suc-le-suc (loop .loop-test .taken))
           (c .before .before .before .if1 .taken)
           (leb-true _ _ (c .before .before .if2 .taken)) (rw (← least .before .limit-of .ensures) (ltb-true _ _ (c .if3 .taken))),

@@ -13,7 +13,7 @@ use Rattle.design.specs.declared.Design.{Design}
 use Rattle.design.specs.Cut.{row, fractionBits, position}
 use Rattle.searching.specs.declared.prefix.Prefix.{Prefix}
 use Rattle.searching.specs.Designs.{withPair}
-use Rattle.searching.specs.Search.{budgetBefore, Fitting, Next, SpreadsFor}
+use Rattle.searching.specs.Search.{budgetBefore, Fitting, Next, SlopesFor}
 use Rattle.searching.proofs.OpenLaws.{budget-next, budget-kept, position-kept}
 use Rattle.searching.proofs.SmallLaws.{widths, reach-few, share-few, budget-few}
 use Rattle.searching.proofs.prefix.Prefix.budget_with.Statement.{statement}
@@ -28,17 +28,17 @@ module _ (prefix : Prefix) (a b high low : ℕ) (n : Next prefix) (fit : Fitting
   reach-is : (high - 1) * low ≡ (2 ^ b - 1) * 2 ^ position d (prefix .tables)
   reach-is = rw (high-is, low-is, position-kept prefix n)
 
-  module _ (spreads : List ℕ) (known : SpreadsFor d spreads) where
-    spread-is : getD spreads a 0 ≡ largestSpread (row d) (d .w) (fractionBits d) a
+  module _ (slopes : List ℕ) (known : SlopesFor d slopes) where
+    spread-is : getD slopes a 0 ≡ largestSpread (row d) (d .w) (fractionBits d) a
     spread-is =
-        known .at a (fit .a-low) (omega (arith, fit .b-low, fit .sum-high)) (omega
+        known .spread-at a (fit .a-low) (omega (arith, fit .b-low, fit .sum-high)) (omega
         (arith, fit .a-high, n .so-far .begun .started .alpha-below))
 
-    share-is : (high - 1) * low * getD spreads a 0 ≡ (2 ^ b - 1) * 2 ^ position d (prefix .tables) * largestSpread (row d) (d .w)
+    share-is : (high - 1) * low * getD slopes a 0 ≡ (2 ^ b - 1) * 2 ^ position d (prefix .tables) * largestSpread (row d) (d .w)
         (fractionBits d) a
     share-is = rw (reach-is, spread-is)
 
-    grown : prefix .budget + (high - 1) * low * getD spreads a 0 ≡ budgetBefore (withPair d (prefix .tables) a b) (prefix .tables + 1)
+    grown : prefix .budget + (high - 1) * low * getD slopes a 0 ≡ budgetBefore (withPair d (prefix .tables) a b) (prefix .tables + 1)
     grown =
         let begun = n .so-far .begun in
         rw (share-is, budget-kept prefix n) (sym (budget-next d (prefix .tables) a b (n .more) (begun .places) (begun .m-high)))

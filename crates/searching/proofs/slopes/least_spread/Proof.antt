@@ -1,29 +1,29 @@
--- `searching::spreads::least_spread` meets its contract: before the turn of a, no spread before it is below the least.
+-- `searching::slopes::least_spread` meets its contract: before the turn of a, no spread before it is below the least.
 use mathlib.Core.Path.{_≡_}
 use mathlib.Core.List.{List}
 use mathlib.Core.Logic.{⊎-elim}
 use Prim.Native.Nat.{ℕ, _+_, _-_, _≤_, _<_}
 use borrow.Author.Count.{falls}
 use borrow.Author.Tests.{ltb-true, ltb-false}
-use native.Mathlib.Nat.{le-of-lt, le-refl, le-trans}
+use native.Mathlib.Nat.{le-of-lt, le-refl, le-trans, lt-of-lt-of-le}
 use native.Mathlib.Numerals.{add-one}
 use native.Mathlib.Omega.{arith}
 use lib.ListN.{getD}
 use Rattle.general.proofs.Sums.{below-suc}
 use Rattle.design.specs.Limits.{mostTableBits}
-use Rattle.searching.proofs.spreads.least_spread.Statement.{statement}
-use Rattle.searching.proofs.spreads.least_spread.Tie as tie
+use Rattle.searching.proofs.slopes.least_spread.Statement.{statement}
+use Rattle.searching.proofs.slopes.least_spread.Tie as tie
 
-record Inv (spreads : List ℕ) (alpha least a : ℕ) : Type 0 where
+record Inv (slopes : List ℕ) (alpha least a : ℕ) : Type 0 where
   low : 2 ≤ a
   high : a ≤ mostTableBits
-  least-so-far : (k : ℕ) → 1 ≤ k → k < a → k ≤ alpha → least ≤ getD spreads k 0
+  least-so-far : (k : ℕ) → 1 ≤ k → k < a → k ≤ alpha → least ≤ getD slopes k 0
 
 -- one more: the least of those before is kept, or a smaller one
-module _ {spreads : List ℕ} {alpha least a : ℕ} (inv : Inv spreads alpha least a) (below : a < mostTableBits) (now : ℕ)
+module _ {slopes : List ℕ} {alpha least a : ℕ} (inv : Inv slopes alpha least a) (below : a < mostTableBits) (now : ℕ)
     (fewer : now ≤ least)
-    (here : a ≤ alpha → now ≤ getD spreads a 0) where
-  one-more : Inv spreads alpha now (a + 1)
+    (here : a ≤ alpha → now ≤ getD slopes a 0) where
+  one-more : Inv slopes alpha now (a + 1)
   one-more =
       record {
         low = omega (arith, inv .low);
@@ -33,10 +33,10 @@ module _ {spreads : List ℕ} {alpha least a : ℕ} (inv : Inv spreads alpha lea
       }
 
 abbrev Inv-loop : tie.InvT-loop
-Inv-loop spreads alpha least₀ a₀ least a = Inv spreads alpha least a
+Inv-loop slopes alpha least₀ a₀ least a = Inv slopes alpha least a
 
 abbrev μ-loop : tie.MeasureT-loop
-μ-loop spreads alpha least₀ a₀ least a = mostTableBits - a
+μ-loop slopes alpha least₀ a₀ least a = mostTableBits - a
 
 loop-again : tie.Need-loop-again Inv-loop μ-loop
 loop-again c =
@@ -61,7 +61,7 @@ mul-here : tie.Need-mul-here Inv-loop μ-loop
 mul-here c = omega (arith, c .loop-test .taken)
 
 shared-slice-read-here : tie.Need-shared-slice-read-here Inv-loop μ-loop
-shared-slice-read-here c = rw (c .before .before .before .before .pre) (c .before .loop-test .taken)
+shared-slice-read-here c = lt-of-lt-of-le (c .before .loop-test .taken) (c .before .before .before .before .pre)
 
 add-a : tie.Need-add-a Inv-loop μ-loop
 add-a c = omega (arith, c .before .before .loop-test .taken)
