@@ -5,3 +5,4 @@ pub mod StoredLaws
 pub mod BudgetLaws
 pub mod SameLaws
 pub mod Opened
+pub mod AdmittedLaws

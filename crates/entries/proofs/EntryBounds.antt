@@ -7,7 +7,9 @@ use lib.IntN.{natAbs}
 use lib.Pow.{pow-add, pow-mono, pow-pos, shr-mono}
 use Rattle.general.proofs.SignedLaws.{difference-small}
 use Rattle.values.specs.Room.{finestUnit, floorBound, entryBound}
+use Rattle.values.specs.declared.rows.Row.{Row}
 use Rattle.values.specs.Inputs.{InRange, FloorInput, SlopeInput}
+use Rattle.values.specs.Slopes.{hi, slopeSum}
 use Rattle.values.proofs.FloorLaws.{floor-high}
 use Rattle.values.proofs.Bounds.{start-input, end-input, slopes-scaled}
 use Rattle.design.specs.declared.Design.{Design}
@@ -15,7 +17,7 @@ use Rattle.design.specs.Limits.{leastInitialBits, mostTables}
 use Rattle.design.specs.Cut.{aOf, bOf, row, fractionBits, sumLimit, position}
 use Rattle.design.specs.Stored.{initialCount}
 use Rattle.design.proofs.LegalLaws.{Limits, lawful, slopewise, bits-end, room, sum-limit-small}
-use Rattle.entries.specs.Inputs.{reachBound, offsetBound}
+use Rattle.entries.specs.Inputs.{reachBound, offsetBound, OffsetInput}
 use Rattle.entries.specs.Entries.{valueAt, endValues, initialAt, hiAt, loAt, oddNumber, magnitude}
 
 -- What the calls of the values ask, at a legal design
@@ -85,16 +87,32 @@ pub magnitude-small : (slopes b p B : ℕ) → slopes * 2 ^ (b + p) ≤ reachBou
 unfolding magnitude
 magnitude-small slopes b p B small B-lt = quotient-small slopes b p _ small (odd-small b B B-lt) (2 ^ p) (le-refl _)
 
--- Hi + Lo of a segment of table i, with 2^(b+p)
-module _ (d : Design) (l : Limits d) (i A : ℕ) (h : i < d .m) (A-lt : A < 2 ^ aOf d i) where
-  pub slopes-reach : (hiAt d i A + loAt d i A) * 2 ^ (bOf d i + position d i) ≤ reachBound
-  unfolding hiAt loAt
-  slopes-reach =
-      let bits = bOf d i + position d i in
-      let fits : bits + leastInitialBits ≤ d .w = omega (arith, bits-end d l i h, l .alpha-low, l .alpha-below) in
-      let wide = pow-mono {i = bits + leastInitialBits} {j = d .w} fits in
+-- Hi + Lo of a segment, with 2^(b+p): offsets of as many bits as a design leaves below alpha can be asked for.
+module _ (row : Row) (w P a A b p : ℕ) (fit : SlopeInput row w P a) (A-lt : A < 2 ^ a) (below : b + p + leastInitialBits ≤ w) where
+  pub sum-reach : slopeSum row w P a A * 2 ^ (b + p) ≤ reachBound
+  unfolding slopeSum
+  sum-reach =
+      let wide = pow-mono {i = b + p + leastInitialBits} {j = w} below in
       omega (
         arith,
-        mul-le-mul-left (hiAt d i A + loAt d i A) (rw (pow-add 2 bits leastInitialBits) at wide),
-        slopes-scaled (row d) (d .w) (fractionBits d) (aOf d i) A (slopewise d l i h) A-lt,
+        mul-le-mul-left (slopeSum row w P a A) (rw (pow-add 2 (b + p) leastInitialBits) at wide),
+        slopes-scaled row w P a A fit A-lt,
       )
+
+  pub sum-input : 1 ≤ b → OffsetInput (slopeSum row w P a A) b p
+  unfolding slopeSum hi
+  sum-input b-low = record { b-low = b-low; slopes-low = omega arith; bits = omega (arith, below, fit .room .w-small); small = sum-reach }
+
+-- So they can in table i of a design.
+module _ (d : Design) (l : Limits d) (i A : ℕ) (h : i < d .m) (A-lt : A < 2 ^ aOf d i) where
+  bits-below : bOf d i + position d i + leastInitialBits ≤ d .w
+  bits-below = omega (arith, bits-end d l i h, l .alpha-low, l .alpha-below)
+
+  pub slopes-reach : (hiAt d i A + loAt d i A) * 2 ^ (bOf d i + position d i) ≤ reachBound
+  unfolding hiAt loAt slopeSum
+  slopes-reach = sum-reach (row d) (d .w) (fractionBits d) (aOf d i) A (bOf d i) (position d i) (slopewise d l i h) A-lt bits-below
+
+  pub offset-input : OffsetInput (hiAt d i A + loAt d i A) (bOf d i) (position d i)
+  unfolding hiAt loAt slopeSum
+  offset-input =
+      sum-input (row d) (d .w) (fractionBits d) (aOf d i) A (bOf d i) (position d i) (slopewise d l i h) A-lt bits-below (l .table i h .b-low)

@@ -4,16 +4,15 @@ use mathlib.Core.List.{List}
 use Prim.Native.Nat.{ℕ, _≤_, _<_}
 use lib.IntN.{ℤ}
 use lib.ListN.{length}
-use borrow.Author.Tests.{lt-ltb, le-ltb}
 use Rattle.general.specs.Lists.{over}
 use Rattle.general.proofs.WritingLaws.{over-start}
 use Rattle.refusal.specs.declared.Cause.{Cause}
 use Rattle.refusal.specs.declared.Verdict.{Verdict}
 use Rattle.refusal.specs.Numbers.{verdictNumber}
 use Rattle.refusal.specs.Checks.{verdict}
-use Rattle.refusal.proofs.Checks.{verdict-append}
 use Rattle.design.specs.declared.Design.{Design}
-use Rattle.design.specs.Budget.{budget, limit, withinLimit, admittedCheck}
+use Rattle.design.specs.Budget.{budget, limit}
+use Rattle.design.proofs.AdmittedLaws as AdmittedLaws
 use Rattle.tables.specs.Set.{setChecks}
 use Rattle.filling.specs.Fill.{fillVerdict, initialEntries, offsetEntries, initialAfter, offsetsAfter}
 
@@ -22,16 +21,16 @@ module _ (d : Design) (initial offsets : ℕ) where
   pub refused-before : {cause : Cause} → verdict (setChecks d initial offsets) ≡ Verdict.Refused cause
       → fillVerdict d initial offsets ≡ Verdict.Refused cause
   unfolding fillVerdict
-  refused-before e = rw (verdict-append, e)
+  refused-before e = AdmittedLaws.refused-before d (setChecks d initial offsets) _ e
 
   module _ (passed : verdict (setChecks d initial offsets) ≡ Verdict.Passed) where
     pub not-admitted : limit d ≤ budget d → fillVerdict d initial offsets ≡ Verdict.Refused Cause.NotAdmitted
-    unfolding fillVerdict admittedCheck withinLimit
-    not-admitted h = rw (verdict-append, passed, le-ltb _ _ h)
+    unfolding fillVerdict
+    not-admitted = AdmittedLaws.not-admitted d (setChecks d initial offsets) passed
 
     pub admitted : budget d < limit d → fillVerdict d initial offsets ≡ Verdict.Passed
-    unfolding fillVerdict admittedCheck withinLimit
-    admitted h = rw (verdict-append, passed, lt-ltb _ _ h)
+    unfolding fillVerdict
+    admitted = AdmittedLaws.admitted d (setChecks d initial offsets) passed
 
 module _ (d : Design) (initial : List ℕ) (offsets : List ℤ) where
   -- what is promised of an answer and of what the tables are left with

@@ -15,7 +15,7 @@ use Rattle.general.proofs.Sums.{sum-mono, sum-step, sum-next}
 use Rattle.general.proofs.ListLaws.{list-length, list-add, list-congruence}
 use Rattle.general.proofs.WritingLaws.{over-none, over-more}
 use Rattle.values.specs.declared.rows.Row.{Row}
-use Rattle.values.specs.Slopes.{hi, slopeSum}
+use Rattle.values.specs.Slopes.{slopeSum}
 use Rattle.design.specs.declared.Design.{Design}
 use Rattle.design.specs.Cut.{aOf, bOf, row, fractionBits, position}
 use Rattle.design.specs.Stored.{offsetCount, tableStart, offsetTotal, storedCount, storedWord}
@@ -78,18 +78,6 @@ module _ (d : Design) (i : ℕ) where
 pub table-room : (d : Design) (n : ℕ) → n < d .m → tableStart d n ≤ offsetTotal d
 unfolding offsetTotal tableStart
 table-room d n h = sum-mono (offsetCount d) n (d .m) (le-of-lt h)
-
--- The offsets of each segment can be asked for.
-pub offset-input : (d : Design) → Limits d → (i A : ℕ) → i < d .m → A < 2 ^ aOf d i
-    → OffsetInput (hiAt d i A + loAt d i A) (bOf d i) (position d i)
-unfolding hiAt hi
-offset-input d l i A h A-lt =
-    record {
-      slopes-low = omega arith;
-      b-low = l .table i h .b-low;
-      bits = omega (arith, bits-end d l i h, l .widths .room .w-small);
-      small = slopes-reach d l i A h A-lt;
-    }
 
 -- The first n segments of table i are written over what the offsets held before, and the next one begins at this place.
 pub record Segments (d : Design) (i : ℕ) (before table : List ℤ) (at n : ℕ) : Type 0 where

@@ -1,7 +1,7 @@
 -- How large a sum of signed numbers gets, and a difference of two counts; numbers that add up to -1.
 use mathlib.Core.Path.{_≡_, refl}
 use mathlib.Core.Bool.{Bool, true, false, cond}
-use Prim.Native.Nat.{ℕ, zero, suc, _+_, _-_, _*_, _≤_}
+use Prim.Native.Nat.{ℕ, zero, suc, _+_, _-_, _*_, _≤_, _<_}
 use native.Mathlib.Omega.{arith}
 use borrow.Author.Tests.{ltb-true, ltb-false, le-ltb}
 use lib.Dec.{ltb}
@@ -30,11 +30,18 @@ mirror-mag (pos zero) = refl
 mirror-mag (pos (suc n)) = omega arith
 mirror-mag (negsuc n) = rw (le-ltb (suc n) 1 (omega arith)) (omega arith)
 
--- The difference of two counts, the first at most twice the second, is no more than the second.
+-- The difference of two counts: no more than the second if the first is at most twice that, and less if it is not 0 and below twice that;
 module _ (a b : ℕ) where
-  no-more : a ≤ 2 * b → (t : Bool) → ltb a b ≡ t → natAbs (cond t (negsuc (b - suc a)) (pos (a - b))) ≤ b
-  no-more double true e = omega (arith, ltb-true a b e)
-  no-more double false e = omega (arith, ltb-false a b e)
+  no-more : (n : ℕ) → b ≤ a + n → a ≤ b + n → (t : Bool) → ltb a b ≡ t → natAbs (cond t (negsuc (b - suc a)) (pos (a - b))) ≤ n
+  no-more n low high true e = omega (arith, ltb-true a b e)
+  no-more n low high false e = omega (arith, ltb-false a b e)
 
   pub difference-small : a ≤ 2 * b → natAbs (subℕ a b) ≤ b
-  difference-small double = no-more double (ltb a b) refl
+  difference-small double = no-more b (omega arith) (omega arith) (ltb a b) refl
+
+  pub difference-less : 0 < a → a < 2 * b → natAbs (subℕ a b) ≤ b - 1
+  difference-less some double = no-more (b - 1) (omega arith) (omega arith) (ltb a b) refl
+
+  -- and what is left if the first is the larger.
+  pub difference-is : b ≤ a → natAbs (subℕ a b) ≡ a - b
+  difference-is more = rw (le-ltb a b more)

@@ -13,6 +13,12 @@ both false b e = absurd (true≢false (sym e))
 pub both-so : (a b : Bool) → a ≡ true → b ≡ true → a && b ≡ true
 both-so a b e f = rw (e, f) refl
 
+-- Two tests that hold together are one.
+pub same-test : (a b : Bool) → (a ≡ true → b ≡ true) → (b ≡ true → a ≡ true) → a ≡ b
+same-test true b one other = sym (one refl)
+same-test false true one other = other refl
+same-test false false one other = refl
+
 -- What a branch on a call's answer tells of the test that the call promises.
 pub tested : {test result answer : Bool} → result ≡ test → result ≡ answer → test ≡ answer
 tested promise branch = sym promise ∙ branch

@@ -10,7 +10,8 @@ use Rattle.design.specs.Limits.{mostInTable, mostTableBits}
 use Rattle.design.specs.Cut.{aOf}
 use Rattle.design.proofs.LegalLaws.{limits, slopewise}
 use Rattle.entries.specs.Entries.{hiAt, loAt}
-use Rattle.filling.proofs.TableLaws.{Segments, slopes-are, segments-start, segments-next, segments-end, segment-room, offset-input}
+use Rattle.entries.proofs.EntryBounds.{offset-input}
+use Rattle.filling.proofs.TableLaws.{Segments, slopes-are, segments-start, segments-next, segments-end, segment-room}
 use Rattle.filling.proofs.fill_table.Statement.{statement}
 use Rattle.filling.proofs.fill_table.Tie as tie
 
