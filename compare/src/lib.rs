@@ -1,5 +1,5 @@
-//! Document 01 and requests A1, A2, A4 and A5 written a second time, in Rust, and what is needed
-//! to hold them against the proved library.
+//! Document 01 and requests A1, A2 and A4 to A6 written a second time, in Rust, and what is
+//! needed to hold them against the proved library.
 
 // The reference is compiled twice on purpose, see `wide` and `narrow`.
 #![allow(clippy::duplicate_mod)]

@@ -165,8 +165,9 @@ pub fn value(kind: u32, w: u32, q: u32, g: u32, x: u32) -> Result<i64, u8> {
     settled(refusal, value, UNTOUCHED as i64)
 }
 
+/// The budget is refused for the same causes as the design itself.
 pub fn legal(d: &Design) -> Result<(), u8> {
-    size(d).map(|_| ())
+    budget(d).map(|_| ())
 }
 
 pub fn budget(d: &Design) -> Result<u64, u8> {

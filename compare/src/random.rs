@@ -192,6 +192,20 @@ impl Random {
         }
     }
 
+    /// A legal design of a kind and w.
+    pub fn legal_of_width(&mut self, kind: u32, w: u32) -> Design {
+        loop {
+            let d = self.design(Given {
+                kind: Some(kind),
+                w: Some(w),
+                ..Given::default()
+            });
+            if reference::legal(&d).is_ok() {
+                return d;
+            }
+        }
+    }
+
     /// An admitted design.
     pub fn admitted(&mut self, kind: u32) -> Design {
         loop {

@@ -42,6 +42,7 @@ fn named_narrow(checked: narrow::Checked) -> Option<u32> {
 fn compare_set(random: &mut Random, d: &wide::Design) {
     let n = same(d);
     assert_eq!(wide::budget(d), narrow::budget(&n), "{d:?}");
+    assert_eq!(wide::size(d), narrow::size(&n), "{d:?}");
     let mut left = random.filled(d);
     let mut right = left.clone();
     let filled = wide::fill(d, &mut left.initial, &mut left.offsets);

@@ -159,7 +159,12 @@ impl Calls {
         if budget.is_ok_and(|budget| budget >> 32 != 0) {
             self.tally.note("budget of 2^32 or more");
         }
-        let _ = self.same_answer("size", (reference::size(d), library::size(d)), input);
+        let _ = self.size(d);
+    }
+
+    pub fn size(&mut self, d: &Design) -> Result<u64, u8> {
+        let sizes = (reference::size(d), library::size(d));
+        self.same_answer("size", sizes, || format!("{d:?}\n"))
     }
 
     pub fn fill(&mut self, d: &Design, before: &Tables) -> Result<Tables, u8> {
@@ -417,8 +422,8 @@ impl Calls {
         let refusal = refused
             .and_then(|number| number.trim_end().parse().ok())
             .unwrap_or(0);
-        if reference.ends_with("NOT ADMITTED\n") {
-            self.tally.note("report: NOT ADMITTED");
+        if reference.ends_with("BITS 0 NOT ADMITTED\n") {
+            self.tally.note("report: BITS 0 NOT ADMITTED");
         } else if refusal == 0 {
             self.tally.note("report: ADMITTED");
         }

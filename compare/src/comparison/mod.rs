@@ -6,6 +6,7 @@ mod limits;
 mod lines;
 mod records;
 mod sets;
+mod sizes;
 mod smallest;
 mod spoilt_records;
 mod tally;
@@ -23,7 +24,7 @@ pub struct Comparison {
 type Part = fn(&mut Comparison);
 
 /// The parts of the comparison, each with a seed of its own.
-const PARTS: [(&str, Part); 27] = [
+const PARTS: [(&str, Part); 29] = [
     ("values", Comparison::values),
     ("designs", Comparison::designs),
     ("fills", Comparison::fills),
@@ -60,6 +61,8 @@ const PARTS: [(&str, Part); 27] = [
         Comparison::smallest_cuts_of_all_widths,
     ),
     ("searches refused", Comparison::searches_refused),
+    ("sizes of all designs", Comparison::sizes_of_all),
+    ("sizes of all widths", Comparison::sizes_of_all_widths),
 ];
 
 /// Ends the program at the first difference. Returns whether all that should come up did.

@@ -105,11 +105,6 @@ impl Legal {
     pub fn entries(&self) -> usize {
         self.initial() + self.offsets
     }
-
-    /// "The size in bits is 24 times the number of entries."
-    pub fn size(&self) -> u64 {
-        24 * self.entries() as u64
-    }
 }
 
 /// p_0 = 0 and p_(i+1) = p_i + b_i; offset tables lie one after another, table 0 first.
@@ -129,9 +124,4 @@ fn lay_out(pairs: &[(u32, u32)]) -> ([Table; 4], usize) {
 /// "A design is legal when none of 1 to 9 turns it down."
 pub fn legal(d: &Design) -> Result<(), u8> {
     Legal::new(d).map(|_| ())
-}
-
-/// The size in bits; refusals 1 to 9.
-pub fn size(d: &Design) -> Result<u64, u8> {
-    Ok(Legal::new(d)?.size())
 }

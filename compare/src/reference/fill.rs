@@ -9,7 +9,7 @@ use super::{fitting, refusal, Int};
 pub fn fill(d: &Design, initial: &mut [u32], offsets: &mut [i32]) -> Result<(), u8> {
     let legal = Legal::new(d)?;
     legal.fits(initial, offsets)?;
-    if legal.budget() >= legal.limit() {
+    if !legal.is_admitted() {
         return Err(refusal::NOT_ADMITTED);
     }
     fill_initial(&legal, &mut initial[..legal.initial()]);
@@ -33,7 +33,7 @@ fn fill_initial(legal: &Legal, entries: &mut [u32]) {
 }
 
 /// One table: the entries of each A_i lie together, B_i rising.
-fn fill_offsets(function: &Function, table: &Table, entries: &mut [i32]) {
+pub fn fill_offsets(function: &Function, table: &Table, entries: &mut [i32]) {
     for (number, segment) in entries.chunks_exact_mut(1 << table.b).enumerate() {
         let (hi, lo) = slopes(function, table, number);
         fill_segment(function.row.rises, (hi + lo) << table.p, segment);

@@ -1,5 +1,5 @@
-//! Document 01: multipartite tables for reciprocal, root and reciprocal root; and requests A1, A2,
-//! A4 and A5.
+//! Document 01: multipartite tables for reciprocal, root and reciprocal root; and requests A1, A2
+//! and A4 to A6.
 //!
 //! Names are the document's: kind, w, q, g, alpha, m, a, b, P, hi, lo, budget. `Int` is the type
 //! of every intermediate product, `Signed` that of sums; both come from the module that includes this
@@ -22,6 +22,7 @@ mod quick_smallest;
 mod records;
 pub mod refusal;
 mod report;
+mod size;
 mod slopes;
 mod smallest;
 #[cfg(test)]
@@ -29,7 +30,7 @@ mod tests;
 
 pub use check::{check, Checked};
 pub use count::{count, Counts};
-pub use design::{legal, size, Design};
+pub use design::{legal, Design};
 pub use evaluate::{evaluate, evaluate_batch, sum};
 pub use fill::fill;
 pub use function::value;
@@ -37,8 +38,9 @@ pub use lines::{write_line, Reading};
 pub use quick_smallest::quick_smallest;
 pub use records::{write_record, HexReading};
 pub use report::report;
+pub use size::size;
 pub use slopes::budget;
-pub use smallest::smallest;
+pub use smallest::{every_legal, smallest};
 
 /// The same number in a narrower type. Document 01's numbers fit; if one did not, nothing should
 /// go on as if it did.

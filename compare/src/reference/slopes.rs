@@ -43,9 +43,14 @@ impl Legal {
         tables.sum::<Int>() + ((self.m as Int + 2) << 17)
     }
 
-    /// 2^(g+17): the budget of an admitted design is less.
+    /// 2^(g+17).
     pub fn limit(&self) -> Int {
         1 << (self.function.g + 17)
+    }
+
+    /// "A legal design is **admitted** when the budget is less than 2^(g+17)."
+    pub fn is_admitted(&self) -> bool {
+        self.budget() < self.limit()
     }
 }
 

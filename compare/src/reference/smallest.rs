@@ -1,4 +1,5 @@
-//! Request A5, "The smallest cut for given widths", as it stands: every legal design is tried.
+//! Request A5, "The smallest cut for given widths", as it stands: every legal design is tried. "The
+//! least size of A5 is meant in these bits", those of request A6.
 
 use super::design::{Design, Legal};
 use super::function::Function;
@@ -13,9 +14,11 @@ pub fn smallest(kind: u32, w: u32, q: u32) -> Result<(Design, u64), u8> {
     check_widths(kind, w, q)?;
     let mut found: Option<(Design, u64)> = None;
     every_legal(kind, w, q, |d, legal| {
+        if !legal.is_admitted() {
+            return;
+        }
         let bits = legal.size();
-        let smaller = found.is_none_or(|(_, fewest)| bits < fewest);
-        if legal.budget() < legal.limit() && smaller {
+        if found.is_none_or(|(_, fewest)| bits < fewest) {
             found = Some((*d, bits));
         }
     });

@@ -1,9 +1,10 @@
-//! The document's examples, starred or not, and its traps; then those of requests A1, A2, A4 and
-//! A5.
+//! The document's examples, starred or not, and its traps; then those of requests A1, A2 and A4 to
+//! A6.
 
-use super::design::Legal;
+use super::design::{Legal, Table};
 use super::function::Function;
-use super::smallest::every_legal;
+use super::size::{holds, width};
+use super::slopes::slopes;
 use super::*;
 use crate::frames::record;
 use crate::random::{Random, Tables};
@@ -26,6 +27,21 @@ fn with_pair(a: u32, b: u32) -> Design {
     let mut d = example();
     d.pairs[0] = (a, b);
     d
+}
+
+/// A design of kind, w, q, g and alpha, with zeros beyond its pairs.
+fn cut([kind, w, q, g, alpha]: [u32; 5], pairs: &[(u32, u32)]) -> Design {
+    let mut all = [(0, 0); 4];
+    all[..pairs.len()].copy_from_slice(pairs);
+    Design {
+        kind,
+        w,
+        q,
+        g,
+        alpha,
+        m: pairs.len() as u32,
+        pairs: all,
+    }
 }
 
 /// An admitted design with three tables.
@@ -106,7 +122,6 @@ fn budgets() {
     }
     assert_eq!(initial, vec![7; 32]);
     assert_eq!(offsets, vec![7; 64]);
-    assert_eq!(size(&example()), Ok(2304));
 }
 
 #[test]
@@ -379,11 +394,11 @@ fn tables_come_last() {
 fn reports() {
     assert_eq!(
         report(b"010008080405010303DF"),
-        "BUDGET 1895955 LIMIT 2097152 BITS 2304 ADMITTED\n"
+        "BUDGET 1895955 LIMIT 2097152 BITS 896 ADMITTED\n"
     );
     assert_eq!(
         report(b"010008080405010203E0"),
-        "BUDGET 3008038 LIMIT 2097152 BITS 1536 NOT ADMITTED\n"
+        "BUDGET 3008038 LIMIT 2097152 BITS 0 NOT ADMITTED\n"
     );
     assert_eq!(report(b""), "REFUSED 15\n");
     assert_eq!(report(b"0400619B"), "REFUSED 16\n");
@@ -631,11 +646,10 @@ fn counts_and_verdicts_agree() {
     for d in all_numbers_of_tables() {
         let (initial, offsets) = filled(&d);
         assert!(agreed(&d, &initial, &offsets));
-        let entries = size(&d).unwrap() as usize / 24;
+        let of_set = Legal::new(&d).unwrap().offsets;
         for reach in (0..64).map(|round| 1 << (round / 4)) {
             let (mut initial, mut offsets) = (initial.clone(), offsets.clone());
-            let of_set = &mut offsets[..entries - 32];
-            move_entries(&mut random, reach, &mut initial, of_set);
+            move_entries(&mut random, reach, &mut initial, &mut offsets[..of_set]);
             verdicts[usize::from(agreed(&d, &initial, &offsets))] += 1;
         }
     }
@@ -938,44 +952,181 @@ fn addresses_of_two_bytes() {
     );
 }
 
-/// "Among equals take the first": two admitted designs with kind 0, w 8 and q 8 have 1632 bits,
-/// none has fewer, and the second has a larger m.
-#[test]
-fn first_of_two_smallest() {
-    let first = Design {
-        g: 6,
-        m: 2,
-        pairs: [(1, 1), (3, 2), (0, 0), (0, 0)],
-        ..example()
-    };
-    let second = Design {
-        m: 3,
-        pairs: [(1, 1), (3, 1), (3, 1), (0, 0)],
-        ..first
-    };
-    let mut at_most = vec![];
-    every_legal(0, 8, 8, |d, legal| {
-        if legal.budget() < legal.limit() && legal.size() <= 1632 {
-            at_most.push((*d, legal.size()));
-        }
-    });
-    assert_eq!(at_most, [(first, 1632), (second, 1632)]);
-    assert_eq!(smallest(0, 8, 8), Ok((first, 1632)));
-    assert_eq!(quick_smallest(0, 8, 8), Ok((first, 1632)));
+/// The widths of a design's tables.
+fn widths(d: &Design) -> Vec<u32> {
+    let legal = Legal::new(d).unwrap();
+    let of_table = |table| width(&legal.function, table);
+    legal.tables().iter().map(of_table).collect()
 }
 
-/// The smallest cut of the widest reciprocal.
+/// Initial entries of P+2 bits, and each table at its own width. The offsets are at most 50 for G,
+/// and at least -51; for the next ones at most 13, 28 and 57; 3, 7 and 43; 23, 94 and 381; 0, 1 and
+/// 10.
 #[test]
-fn smallest_of_sixteen_bits() {
-    let d = Design {
-        w: 16,
-        q: 16,
-        alpha: 10,
-        m: 3,
-        pairs: [(5, 2), (6, 2), (7, 2), (0, 0)],
-        ..example()
-    };
-    assert_eq!(quick_smallest(0, 16, 16), Ok((d, 46080)));
+fn sizes() {
+    for (d, bits_of_tables, bits) in [
+        (example(), vec![7], 32 * 14 + 64 * 7),
+        (
+            cut([0, 8, 8, 5, 5], &[(2, 1), (3, 1), (3, 1)]),
+            vec![5, 6, 7],
+            32 * 15 + 8 * 5 + 16 * 6 + 16 * 7,
+        ),
+        (
+            cut([1, 8, 8, 4, 4], &[(1, 1), (1, 1), (1, 2)]),
+            vec![3, 4, 7],
+            16 * 14 + 4 * 3 + 4 * 4 + 8 * 7,
+        ),
+        (
+            cut([0, 16, 16, 4, 10], &[(5, 2), (6, 2), (7, 2)]),
+            vec![6, 8, 10],
+            1024 * 22 + 128 * 6 + 256 * 8 + 512 * 10,
+        ),
+        (
+            cut([1, 7, 6, 3, 3], &[(1, 1), (1, 1), (1, 2)]),
+            vec![1, 2, 5],
+            8 * 11 + 4 + 4 * 2 + 8 * 5,
+        ),
+    ] {
+        assert_eq!(widths(&d), bits_of_tables, "{d:?}");
+        assert_eq!(size(&d), Ok(bits), "{d:?}");
+    }
+    assert_eq!(size(&example()), Ok(896));
+}
+
+/// 7 bits hold -64 to 63. The offsets of these designs' last tables are at most 124, 63, 89, 62 and
+/// 44, by kind.
+#[test]
+fn sizes_at_powers_of_two() {
+    for (kind, last, bits) in [
+        (0, 8, 1616),
+        (1, 7, 1472),
+        (2, 8, 1616),
+        (3, 7, 1472),
+        (4, 7, 1472),
+    ] {
+        let d = three_tables(kind);
+        assert_eq!(widths(&d)[2], last, "kind {kind}");
+        assert_eq!(size(&d), Ok(bits), "kind {kind}");
+    }
+    let (_, offsets) = filled(&three_tables(1));
+    let last = offsets[80..144].iter();
+    assert_eq!((last.clone().min(), last.max()), (Some(&-64), Some(&63)));
+    for (bits, end) in [(1, 1), (2, 2), (7, 64), (31, 1 << 30)] {
+        let ends = [-end - 1, -end, end - 1, end];
+        let held = ends.map(|offset| holds(bits, offset));
+        assert_eq!(held, [false, true, true, false], "{bits} bits");
+    }
+}
+
+/// 11 comes after 1 to 9. The budget of the last design is the limit itself.
+#[test]
+fn sizes_refused() {
+    for d in [
+        with_pair(2, 3),
+        Design { g: 3, ..example() },
+        cut([1, 12, 8, 3, 5], &[(3, 2), (5, 2), (1, 2), (2, 1)]),
+    ] {
+        assert_eq!(legal(&d), Ok(()));
+        assert_eq!(size(&d), Err(11));
+    }
+    let d = with_pair(2, 3);
+    assert_eq!(size(&Design { kind: 5, w: 5, ..d }), Err(1));
+    assert_eq!(size(&Design { g: 7, ..d }), Err(4));
+    assert_eq!(size(&with_pair(6, 9)), Err(7));
+    assert_eq!(size(&with_pair(2, 9)), Err(8));
+    assert_eq!(size(&with_pair(2, 2)), Err(9));
+}
+
+/// The width of a table by its greatest T alone, which comes with the largest Hi + Lo and
+/// |j| = 2^b - 1.
+fn width_by_greatest(function: &Function, table: &Table) -> u32 {
+    let sums = (0..1 << table.a).map(|number| {
+        let (hi, lo) = slopes(function, table, number);
+        hi + lo
+    });
+    let reach: Int = ((1 << table.b) - 1) << table.p;
+    let greatest = (sums.max().unwrap() * reach) >> 18;
+    1 + greatest.checked_ilog2().map_or(0, |log| log + 1)
+}
+
+/// Every table of legal designs of a w: a is at most alpha, and alpha at least 2.
+fn every_table(w: u32) -> impl Iterator<Item = Table> {
+    let pairs = (1..12).flat_map(|a| (1..=8.min(12 - a)).map(move |b| (a, b)));
+    pairs.flat_map(move |(a, b)| {
+        let places = 0..(w + 1).saturating_sub(a.max(2) + b);
+        places.map(move |p| Table { a, b, p, start: 0 })
+    })
+}
+
+/// The greatest offset of a table decides its width, and the next a has no fewer bits.
+#[test]
+fn widths_by_greatest_offset() {
+    let mut widths = [0; 32];
+    for kind in 0..5 {
+        for (w, q, g) in [(6, 6, 2), (6, 16, 4), (9, 10, 3), (16, 6, 2), (16, 16, 4)] {
+            let function = Function::new(kind, w, q, g).unwrap();
+            for table in every_table(w) {
+                let width = width(&function, &table);
+                assert_eq!(width, width_by_greatest(&function, &table), "{table:?}");
+                let a = table.a + 1;
+                let next = width_by_greatest(&function, &Table { a, ..table });
+                assert!(2 * next >= width, "{table:?}");
+                widths[width as usize] += 1;
+            }
+        }
+    }
+    assert!(
+        widths[1..=18].iter().all(|&tables| tables > 4),
+        "{widths:?}"
+    );
+}
+
+/// "Among equals take the first": each of these has two admitted designs with the fewest bits, and
+/// the second has a larger g, a larger m or a larger b_0.
+#[test]
+fn first_of_two_smallest() {
+    for (first, second, bits) in [
+        (
+            cut([0, 6, 8, 3, 5], &[(3, 1)]),
+            cut([0, 6, 8, 4, 5], &[(2, 1)]),
+            496,
+        ),
+        (
+            cut([3, 7, 8, 4, 4], &[(2, 2), (3, 1)]),
+            cut([3, 7, 8, 4, 4], &[(1, 1), (3, 1), (3, 1)]),
+            416,
+        ),
+        (
+            cut([2, 6, 6, 3, 3], &[(1, 1), (1, 2)]),
+            cut([2, 6, 6, 3, 3], &[(1, 2), (1, 1)]),
+            140,
+        ),
+    ] {
+        let Design { kind, w, q, .. } = first;
+        let mut at_most = vec![];
+        every_legal(kind, w, q, |d, legal| {
+            if legal.is_admitted() && legal.size() <= bits {
+                at_most.push((*d, legal.size()));
+            }
+        });
+        assert_eq!(at_most, [(first, bits), (second, bits)]);
+        assert_eq!(smallest(kind, w, q), Ok((first, bits)));
+        assert_eq!(quick_smallest(kind, w, q), Ok((first, bits)));
+    }
+}
+
+/// The fewest bits of words of 8 bits, by both versions, and of the widest reciprocal.
+#[test]
+fn smallest_designs() {
+    for (d, bits) in [
+        (cut([0, 8, 8, 5, 5], &[(2, 1), (3, 1), (3, 1)]), 728),
+        (cut([1, 8, 8, 4, 4], &[(1, 1), (1, 1), (1, 2)]), 308),
+    ] {
+        assert_eq!(smallest(d.kind, 8, 8), Ok((d, bits)));
+        assert_eq!(quick_smallest(d.kind, 8, 8), Ok((d, bits)));
+    }
+    let d = cut([0, 16, 16, 4, 10], &[(5, 2), (6, 2), (7, 2)]);
+    assert_eq!(quick_smallest(0, 16, 16), Ok((d, 30464)));
 }
 
 /// n over k.
@@ -1051,10 +1202,19 @@ fn kinds_and_precisions() -> impl Iterator<Item = (u32, u32)> {
     (0..5).flat_map(|kind| (6..=16).map(move |q| (kind, q)))
 }
 
-/// With w 11 one table is not enough for alpha 2.
+/// Those of 6 to 8 bits agree where it is looked for 24. With w 11 one table is not enough for
+/// alpha 2.
 #[test]
 fn both_searches_of_wider_words() {
-    for (kind, w, q) in [(0, 9, 16), (1, 9, 6), (2, 10, 11), (3, 10, 15), (0, 11, 16)] {
+    for (kind, w, q) in [
+        (0, 9, 16),
+        (1, 9, 6),
+        (3, 9, 9),
+        (4, 9, 8),
+        (2, 10, 11),
+        (3, 10, 15),
+        (0, 11, 16),
+    ] {
         assert_eq!(smallest(kind, w, q), quick_smallest(kind, w, q));
     }
 }

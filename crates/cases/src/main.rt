@@ -83,9 +83,9 @@ fn show_value(label: &[u8], kind: u32, w: u32, q: u32, g: u32, x: u32) {
 }
 
 // Whether a design of 16 bits, of which 8 are initial, is turned down.
-fn show_size(label: &[u8], a: u32, b: u32) {
+fn show_legal(label: &[u8], a: u32, b: u32) {
     io::write_all(STDOUT_FILENO, label);
-    match design::size(of_one_table(16, 8, a, b)) {
+    match design::budget(of_one_table(16, 8, a, b)) {
         Measured::Is(_) => print_passed(),
         Measured::Refused(cause) => print_refused(cause),
     }
@@ -94,8 +94,8 @@ fn show_size(label: &[u8], a: u32, b: u32) {
 fn refusals() {
     show_value(b"q 16, g 4: ", 0, 8, 16, 4, 0);
     show_value(b"q 16, g 5: ", 0, 8, 16, 5, 0);
-    show_size(b"a_0 + b_0 = 12: ", 4, 8);
-    show_size(b"a_0 + b_0 = 13: ", 5, 8);
+    show_legal(b"a_0 + b_0 = 12: ", 4, 8);
+    show_legal(b"a_0 + b_0 = 13: ", 5, 8);
     show_value(b"kind 5, w 5: ", 5, 5, 8, 4, 0);
     show_value(b"w 8, x 255: ", 0, 8, 8, 4, 255);
     show_value(b"w 8, x 256: ", 0, 8, 8, 4, 256);
@@ -125,6 +125,7 @@ fn show_smallest(label: &[u8], kind: u32, w: u32, q: u32) {
 
 fn smallest_designs() {
     show_smallest(b"the smallest of kind 0, w 8, q 8: ", 0, 8, 8);
+    show_smallest(b"the smallest of kind 1, w 8, q 8: ", 1, 8, 8);
     show_smallest(b"the smallest of kind 0, w 16, q 16: ", 0, 16, 16);
     show_smallest(b"the smallest of kind 0, w 6, q 12: ", 0, 6, 12);
 }

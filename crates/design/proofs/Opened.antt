@@ -15,13 +15,13 @@ use Rattle.design.specs.Stored.{
   storedPlace,
 }
 use Rattle.design.specs.Legal.{breaks, tableBreaks, cutChecks, designChecks, designVerdict}
-use Rattle.design.specs.Budget.{reach, tableBudget, budget, limit, withinLimit, admittedCheck, size}
-use Rattle.design.specs.Answers.{budgetAnswer, sizeAnswer}
+use Rattle.design.specs.Budget.{reach, tableBudget, budget, limit, withinLimit, admittedCheck}
+use Rattle.design.specs.Answers.{budgetAnswer}
 
 unfoldable pub design-opened : Unit {0}
 unfolding
     values-opened tables pairAt sumBelow position initialWord segmentWord offsetWord initialCount storedCount storedIndex offsetFrom
     storedWord offsetCount tableStart offsetTotal storedPlace
     offsetPlace someBelow breaks tableBreaks cutChecks designChecks designVerdict reach tableBudget budget limit withinLimit
-    admittedCheck size budgetAnswer sizeAnswer
+    admittedCheck budgetAnswer
 design-opened = tt

@@ -1,14 +1,14 @@
 -- Designs of which the same is read differ in their pairs alone, and are measured alike.
-use mathlib.Core.Path.{_≡_, _∙_}
+use mathlib.Core.Path.{_≡_, ap, _∙_}
 use mathlib.Core.List.{List}
 use Prim.Native.Nat.{ℕ}
+use Rattle.general.proofs.Sums.{sum-congruence}
 use Rattle.design.specs.declared.Pair.{Pair}
 use Rattle.design.specs.declared.Design.{Design}
 use Rattle.design.specs.Cut.{tables, pairAt, aOf, bOf, position}
-use Rattle.design.specs.Stored.{initialCount, storedCount, offsetCount, tableStart, offsetTotal}
 use Rattle.design.specs.Same.{Same}
 use Rattle.design.specs.Legal.{tableBreaks, cutChecks, designChecks, designVerdict}
-use Rattle.design.specs.Budget.{reach, tableBudget, budget, limit, size}
+use Rattle.design.specs.Budget.{reach, tableBudget, budget, limit}
 
 -- The design with other pairs
 abbrev pub with-pairs : Design → List Pair → Design
@@ -25,6 +25,10 @@ module _ (d e : Design) (s : Same d e) where
   unfolding pairAt
   pair-same i = rw (s .tables)
 
+  pub position-same : (i : ℕ) → position d i ≡ position e i
+  unfolding position
+  position-same i = sum-congruence i (bOf d) (bOf e) (λ j h. ap (λ (pair : Pair). pair .b) (pair-same j))
+
   pub verdict-same : designVerdict d ≡ designVerdict e
   unfolding pairAt position tableBreaks cutChecks designChecks designVerdict
   verdict-same = only-pairs (λ e. designVerdict d ≡ designVerdict e) d e s (λ pairs t. rw (t, aOf, bOf, tableBreaks))
@@ -36,7 +40,3 @@ module _ (d e : Design) (s : Same d e) where
   pub limit-same : limit d ≡ limit e
   unfolding limit
   limit-same = rw (s .g)
-
-  pub size-same : size d ≡ size e
-  unfolding pairAt initialCount storedCount offsetCount tableStart offsetTotal size
-  size-same = only-pairs (λ e. size d ≡ size e) d e s (λ pairs t. rw (t, aOf, bOf, storedCount, offsetCount))

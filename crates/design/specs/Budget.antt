@@ -1,4 +1,4 @@
--- Document 01, "Slopes and budget" and "Bits, lines and the report": budget, admitted, size in bits.
+-- Document 01, "Slopes and budget": budget, its limit, admitted.
 use mathlib.Core.Bool.{Bool, not}
 use Prim.Native.Nat.{ℕ, _+_, _-_, _*_, _^_, _<_}
 use lib.Dec.{ltb}
@@ -9,7 +9,6 @@ use Rattle.values.specs.Slopes.{largestSpread}
 use Rattle.design.specs.declared.Design.{Design}
 use Rattle.design.specs.Legal.{Legal}
 use Rattle.design.specs.Cut.{aOf, bOf, row, fractionBits, position}
-use Rattle.design.specs.Stored.{initialCount, offsetTotal}
 
 -- "D_i = (2^(b_i) - 1)·2^(p_i)"
 unfoldable pub reach : Design → ℕ → ℕ
@@ -37,10 +36,3 @@ admittedCheck d = not (withinLimit d) ↝ Cause.NotAdmitted
 pub record Admitted (d : Design) : Type 0 where
   pub legal : Legal d
   pub within : budget d < limit d
-
--- "The size in bits is 24 times the number of entries.": of so many entries, and of all
-abbrev pub bitsOf : ℕ → ℕ
-bitsOf entries = 24 * entries
-
-unfoldable pub size : Design → ℕ
-size d = bitsOf (initialCount d + offsetTotal d)

@@ -6,4 +6,3 @@ pub mod Same
 pub mod Legal
 pub mod Budget
 pub mod Answers
-pub mod Inner

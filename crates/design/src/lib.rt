@@ -1,8 +1,7 @@
 // A design: how the input word is cut up, how many entries that takes, its error budget and whether that is below the limit.
 
 ghost use mathlib.Core.Path.{_≡_};
-ghost use Rattle.design.specs.Answers.{budgetAnswer, sizeAnswer, toldBy, budgetTold, sizeTold};
-ghost use Rattle.design.specs.Inner.{answerTo, toldOf};
+ghost use Rattle.design.specs.Answers.{budgetAnswer, toldBy, budgetTold};
 
 pub mod legal;
 pub mod limits;
@@ -10,7 +9,6 @@ pub mod measure;
 
 use legal::design_verdict;
 use measure::budget_of;
-use measure::size_of;
 use refusal::Cause;
 use refusal::Verdict;
 
@@ -34,40 +32,19 @@ pub struct Design {
     pub pairs: [Pair; 4],
 }
 
-// What `budget` and `size` answer.
+// What `budget` answers, and `size` in the crate above.
 pub enum Measured {
     Is(u64),
     Refused(Cause),
 }
 
-// What is asked of a design.
-enum Quantity {
-    Budget,
-    Size,
-}
-
-fn answer(d: Design, quantity: Quantity) -> Measured
-    ensures { λ r. ⌜ (r ≡ answerTo quantity d) × (toldBy r ≡ toldOf quantity d) ⌝ }
-{
-    if let Verdict::Refused(cause) = design_verdict(d) {
-        return Measured::Refused(cause);
-    }
-    match quantity {
-        Quantity::Budget => Measured::Is(budget_of(d)),
-        Quantity::Size => Measured::Is(size_of(d)),
-    }
-}
-
+// The budget of a legal design, or the refusal: 1 to 9.
 pub fn budget(d: Design) -> Measured
     ensures answer { λ r. ⌜ r ≡ budgetAnswer d ⌝ }
     ensures told { λ r. ⌜ toldBy r ≡ budgetTold d ⌝ }
 {
-    answer(d, Quantity::Budget)
-}
-
-pub fn size(d: Design) -> Measured
-    ensures answer { λ r. ⌜ r ≡ sizeAnswer d ⌝ }
-    ensures told { λ r. ⌜ toldBy r ≡ sizeTold d ⌝ }
-{
-    answer(d, Quantity::Size)
+    if let Verdict::Refused(cause) = design_verdict(d) {
+        return Measured::Refused(cause);
+    }
+    Measured::Is(budget_of(d))
 }

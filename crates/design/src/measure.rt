@@ -1,11 +1,11 @@
-// Budget, limit and size of a legal design.
+// Budget and limits of a legal design, and how many offsets it has.
 ghost use mathlib.Core.Path.{_≡_};
-ghost use Prim.Native.Nat.{_^_, _≤_, _<_};
+ghost use Prim.Native.Nat.{_≤_, _<_};
 ghost use Rattle.values.specs.Room.{finestUnit};
 ghost use Rattle.design.specs.Stored.{offsetCount, offsetTotal};
 ghost use Rattle.design.specs.Cut as Cut;
 ghost use Rattle.design.specs.Legal.{Legal};
-ghost use Rattle.design.specs.Budget.{tableBudget, budget, limit, bitsOf, size};
+ghost use Rattle.design.specs.Budget.{tableBudget, budget, limit};
 use crate::Design;
 use crate::legal::pair_at;
 use general::pow2;
@@ -76,20 +76,4 @@ pub fn offset_total(d: Design) -> u64
         entries += offset_count(d, i);
     }
     entries
-}
-
-// inner: the size in bits of so many entries.
-pub fn bits_of(entries: u64) -> u64
-    requires { ⌜ bitsOf entries < 2 ^ 64 ⌝ }
-    ensures { λ r. ⌜ r ≡ bitsOf entries ⌝ }
-{
-    24 * entries
-}
-
-// inner: the size in bits of a legal design.
-pub fn size_of(d: Design) -> u64
-    requires { ⌜ Legal d ⌝ }
-    ensures { λ r. ⌜ r ≡ size d ⌝ }
-{
-    bits_of(pow2(d.alpha) + offset_total(d))
 }

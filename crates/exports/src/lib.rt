@@ -6,7 +6,8 @@ ghost use lib.ListN.{length};
 ghost use Rattle.refusal.specs.Numbers.{verdictNumber};
 ghost use Rattle.refusal.specs.Told.{numberTold};
 ghost use Rattle.values.specs.Value.{valueTold};
-ghost use Rattle.design.specs.Answers.{toldBy, budgetTold, sizeTold};
+ghost use Rattle.design.specs.Answers.{toldBy, budgetTold};
+ghost use Rattle.sizing.specs.Size.{sizeTold};
 ghost use Rattle.filling.specs.Fill.{fillVerdict, initialAfter, offsetsAfter};
 ghost use Rattle.evaluating.specs.Evaluate.{evaluateTold};
 ghost use Rattle.evaluating.specs.Batch.{batchTold, outputAfter};
@@ -88,7 +89,7 @@ pub extern "C" fn dorykleth_size(design: &[u32; 14], bits: &mut u64) -> u8
     ensures number { λ r. ⌜ r ≡ numberTold (sizeTold (designOf (now (design .entry)))) ⌝ }
     ensures bits { λ _. ⌜ now (bits .exit) ≡ behind (sizeTold (designOf (now (design .entry)))) (now (bits .entry)) ⌝ }
 {
-    put_measure(design::size(design_of(design)), bits)
+    put_measure(sizing::size(design_of(design)), bits)
 }
 
 // The smallest design of a kind, w and q as its numbers, and its size in bits.

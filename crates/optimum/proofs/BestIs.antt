@@ -9,7 +9,7 @@ use native.Mathlib.Decide.{decLt}
 use native.Mathlib.Omega.{arith}
 use Rattle.general.proofs.JoinedLaws.{All, Some, Ordered}
 use Rattle.design.specs.declared.Design.{Design}
-use Rattle.design.specs.Budget.{size}
+use Rattle.sizing.specs.Size.{size}
 use Rattle.searching.specs.declared.SizedDesign.{SizedDesign}
 use Rattle.searching.specs.Best.{isAdmitted, better, bestOf}
 use Rattle.searching.proofs.BestLaws.{better-not, better-so}

@@ -19,10 +19,11 @@ use Rattle.design.specs.declared.Pair.{Pair}
 use Rattle.design.specs.declared.Design.{Design}
 use Rattle.design.specs.Cut.{aOf, bOf}
 use Rattle.design.specs.Same.{Same}
-use Rattle.design.specs.Budget.{Admitted, size}
+use Rattle.design.specs.Budget.{Admitted}
 use Rattle.design.proofs.LegalLaws.{Limits, limits}
-use Rattle.design.proofs.StoredLaws.{initial-count-small, offset-total-small}
-use Rattle.design.proofs.SameLaws.{pair-same, verdict-same, budget-same, limit-same, size-same}
+use Rattle.design.proofs.SameLaws.{pair-same, verdict-same, budget-same, limit-same}
+use Rattle.sizing.specs.Size.{size}
+use Rattle.sizing.proofs.SizeLaws.{size-same, size-small}
 use Rattle.searching.specs.Designs.{designs}
 use Rattle.searching.specs.Best.{isAdmitted, noBits, nothing, smallestOf, smallestChecks, smallestVerdict}
 use Rattle.searching.proofs.AdmittedLaws.{admitted-so, so-admitted}
@@ -36,8 +37,7 @@ use Rattle.optimum.proofs.Sorted.{sorted}
 
 -- A legal design has fewer bits than none.
 size-few : (d : Design) → Limits d → size d < noBits
-unfolding size
-size-few d l = omega (arith, initial-count-small d l, offset-total-small d l)
+size-few d l = omega (arith, size-small d l)
 
 -- What is admitted of a design is so of one of which the same is read.
 admitted-same : (c e : Design) → Same c e → Admitted e → Admitted c

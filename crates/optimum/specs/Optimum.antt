@@ -10,7 +10,8 @@ use Rattle.values.specs.Widths.{limitsOf, functionChecks}
 use Rattle.design.specs.declared.Design.{Design}
 use Rattle.design.specs.Cut.{noPair}
 use Rattle.design.specs.Same.{Same}
-use Rattle.design.specs.Budget.{Admitted, size}
+use Rattle.design.specs.Budget.{Admitted}
+use Rattle.sizing.specs.Size.{size}
 use Rattle.searching.specs.declared.SizedDesign.{SizedDesign}
 use Rattle.searching.specs.Best.{smallestOf, smallestVerdict}
 use Rattle.optimum.specs.Order.{Before}

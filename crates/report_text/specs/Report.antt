@@ -8,7 +8,8 @@ use Rattle.refusal.specs.declared.Verdict.{Verdict}
 use Rattle.refusal.specs.Numbers.{numberOf}
 use Rattle.refusal.specs.Checks.{verdict, ifPassed}
 use Rattle.design.specs.declared.Design.{Design}
-use Rattle.design.specs.Budget.{budget, limit, withinLimit, size}
+use Rattle.design.specs.Budget.{budget, limit, withinLimit}
+use Rattle.sizing.specs.Size.{size}
 use Rattle.frames.specs.Hex.{bytesOf}
 use Rattle.frames.specs.Line.{lineChecks}
 use Rattle.frames.specs.DesignFrame.{frameDesign, firstChecks}
@@ -21,9 +22,10 @@ lineText b l n within =
     ascii "BUDGET " ++ decimal b ++ ascii " LIMIT " ++ decimal l ++ ascii " BITS " ++ decimal n
     ++ cond within (ascii " ADMITTED\n") (ascii " NOT ADMITTED\n")
 
--- "budget, 2^(g+17), size, verdict (`ADMITTED` or `NOT ADMITTED`), all decimal"
+-- "budget, 2^(g+17), size, verdict (`ADMITTED` or `NOT ADMITTED`), all decimal"; document 02, A6: "The size applies to admitted designs
+-- only; .. the report prints `BITS 0` for" the others
 unfoldable pub designText : Design → List ℕ
-designText d = lineText (budget d) (limit d) (size d) (withinLimit d)
+designText d = lineText (budget d) (limit d) (cond (withinLimit d) (size d) 0) (withinLimit d)
 
 -- "`REFUSED`, a space, its number and a newline"
 unfoldable pub refusedText : Cause → List ℕ

@@ -1,18 +1,22 @@
 // The report's one line of text.
 ghost use mathlib.Core.Path.{_≡_};
+ghost use mathlib.Core.Bool.{cond};
 ghost use mathlib.Core.List.{List, [], _++_};
 ghost use Prim.Native.Nat.{ℕ, _+_, _≤_};
 ghost use lib.ListN.{length};
+ghost use Rattle.design.specs.Legal.{Legal};
+ghost use Rattle.sizing.specs.Size.{size};
 ghost use Rattle.report_text.specs.Words.{decimal, textOf};
 ghost use Rattle.report_text.specs.Report.{lineText, refusedText, reportOf};
+use design::Design;
 use design::measure::budget_of;
 use design::measure::limit_of;
-use design::measure::size_of;
 use frames::decode;
 use frames::first_verdict;
 use frames::frame_design;
 use refusal::Cause;
 use refusal::Verdict;
+use sizing::size_of;
 
 // Text of at most 96 bytes: the bytes with zeros behind them, and how many there are.
 pub struct Text {
@@ -94,6 +98,17 @@ fn measured(budget: u64, limit: u64, bits: u64, admitted: bool) -> Text
     }
 }
 
+// The size of a legal design if it is admitted, else 0.
+fn bits_if(admitted: bool, d: Design) -> u64
+    requires { ⌜ Legal d ⌝ }
+    ensures { λ r. ⌜ r ≡ cond admitted (size d) 0 ⌝ }
+{
+    if admitted {
+        return size_of(d);
+    }
+    0
+}
+
 // The report on a design's line: the checks in order, each passed before the next is tried, then the numbers.
 pub fn report(line: &[u8]) -> Text
     ensures { λ r. ⌜ r ≡ reportOf (now (line .entry)) ⌝ }
@@ -110,5 +125,7 @@ pub fn report(line: &[u8]) -> Text
     let d = frame_design(bytes);
     let budget = budget_of(d);
     let limit = limit_of(d);
-    measured(budget, limit, size_of(d), budget < limit)
+    let admitted = budget < limit;
+    let bits = bits_if(admitted, d);
+    measured(budget, limit, bits, admitted)
 }

@@ -13,9 +13,10 @@ use Rattle.design.specs.declared.Design.{Design}
 use Rattle.design.specs.Limits.{mostOffsetBits}
 use Rattle.design.specs.Cut.{position}
 use Rattle.design.specs.Legal.{designVerdict}
-use Rattle.design.specs.Budget.{budget, limit, withinLimit, Admitted, size}
+use Rattle.design.specs.Budget.{budget, limit, withinLimit, Admitted}
 use Rattle.design.proofs.LegalLaws.{Limits, limits}
 use Rattle.general.specs.Below.{sumBelow}
+use Rattle.sizing.specs.Size.{size}
 use Rattle.searching.specs.declared.SizedDesign.{SizedDesign}
 use Rattle.searching.specs.Designs.{continued}
 use Rattle.searching.specs.Best.{isAdmitted}

@@ -10,7 +10,7 @@ use lib.Dec.{ltb}
 use Rattle.general.specs.Below.{joined}
 use Rattle.general.proofs.JoinedLaws.{All, joined-next}
 use Rattle.design.specs.declared.Design.{Design}
-use Rattle.design.specs.Budget.{size}
+use Rattle.sizing.specs.Size.{size}
 use Rattle.searching.specs.declared.SizedDesign.{SizedDesign}
 use Rattle.searching.specs.Best.{isAdmitted, better, bestOf}
 

@@ -9,21 +9,22 @@ use lib.ListN.{length, length-set}
 use borrow.Author.Tests.{le-ltb}
 use Rattle.general.proofs.Sums.{below-suc, sum-next}
 use Rattle.refusal.proofs.Checks.{not-outside}
-use Rattle.values.specs.Slopes.{largestSpread}
+use Rattle.values.specs.Slopes.{largestSpread, largestSum}
 use Rattle.values.proofs.WidthLaws.{widths-of}
 use Rattle.design.specs.declared.Pair.{Pair}
 use Rattle.design.specs.declared.Design.{Design}
 use Rattle.design.specs.declared.legal.TableRule.{TableRule}
 use Rattle.design.specs.Limits.{mostTables, mostOffsetBits, mostTableBits}
 use Rattle.design.specs.Cut.{pairAt, aOf, bOf, row, fractionBits, position}
-use Rattle.design.specs.Stored.{offsetCount}
 use Rattle.design.specs.Legal.{breaks, tableBreaks}
-use Rattle.design.specs.Budget.{reach, tableBudget, limit, bitsOf}
+use Rattle.design.specs.Budget.{reach, tableBudget, limit}
 use Rattle.design.proofs.LegalLaws.{Limits, within}
-use Rattle.design.proofs.StoredLaws.{count-is}
+use Rattle.sizing.specs.Size.{tableSize}
+use Rattle.sizing.proofs.SizeLaws.{table-size-is}
+use Rattle.sizing.proofs.GrowthLaws.{sizeBy}
 use Rattle.searching.specs.declared.prefix.Prefix.{Prefix}
 use Rattle.searching.specs.Designs.{withPair}
-use Rattle.searching.specs.Search.{tableSize, sizeBefore, budgetBefore, Open, Fitting, Next}
+use Rattle.searching.specs.Search.{sizeBefore, budgetBefore, Open, Fitting, Next}
 use Rattle.searching.proofs.AdmittedLaws.{bits-between}
 use Rattle.searching.proofs.PrefixLaws.{
   Agrees,
@@ -72,11 +73,13 @@ module _ (d : Design) (i a b : ℕ) (h : i < d .m) (places : length (d .pairs) �
   unfolding position
   position-next = omega (arith, sum-next i (bOf next), position-same d next i before i (le-refl i), b-here)
 
-  pub size-next : sizeBefore next (i + 1) ≡ sizeBefore d i + bitsOf (2 ^ (a + b))
-  unfolding sizeBefore tableSize
-  size-next =
-      let more : offsetCount next i ≡ 2 ^ (a + b) = count-is next i ∙ rw (a-here, b-here) in
-      omega (arith, sum-next i (tableSize next), size-before-same d next i before, more)
+  size-here : tableSize next i ≡ sizeBy (largestSum (row d) (d .w) (fractionBits d) a) a b (position d i)
+  unfolding withPair
+  size-here = table-size-is next i ∙ rw (a-here, b-here, ← position-same d next i before i (le-refl i))
+
+  pub size-next : sizeBefore next (i + 1) ≡ sizeBefore d i + sizeBy (largestSum (row d) (d .w) (fractionBits d) a) a b (position d i)
+  unfolding sizeBefore
+  size-next = omega (arith, sum-next i (tableSize next), size-before-same d next i before, size-here)
 
   share-here : tableBudget next i ≡ (2 ^ b - 1) * 2 ^ position d i * largestSpread (row d) (d .w) (fractionBits d) a
   unfolding tableBudget reach withPair

@@ -15,10 +15,12 @@ use Rattle.design.specs.declared.Pair.{Pair}
 use Rattle.design.specs.declared.Design.{Design}
 use Rattle.design.specs.Limits.{mostOffsetBits}
 use Rattle.design.specs.Cut.{noPair, tables, pairAt, bOf, row, fractionBits, position}
-use Rattle.design.specs.Stored.{initialCount, storedCount, offsetCount, tableStart, offsetTotal}
-use Rattle.design.specs.Budget.{reach, tableBudget, budget, limit, bitsOf, size}
+use Rattle.design.specs.Stored.{initialCount}
+use Rattle.design.specs.Budget.{reach, tableBudget, budget, limit}
+use Rattle.sizing.specs.Size.{initialSize, tableSize, size}
+use Rattle.sizing.proofs.SizeLaws.{table-size-same}
 use Rattle.searching.specs.Designs.{withPair, continued}
-use Rattle.searching.specs.Search.{initialSize, tableSize, sizeBefore, budgetBefore}
+use Rattle.searching.specs.Search.{sizeBefore, budgetBefore}
 
 -- Two designs with the same numbers, and the same first i pairs
 pub record Agrees (d e : Design) (i : ℕ) : Type 0 where
@@ -79,13 +81,12 @@ module _ (d e : Design) (i : ℕ) (same : Agrees d e i) where
   unfolding position
   position-same j h = sum-congruence j (bOf d) (bOf e) (λ k below. ap (λ (pair : Pair). pair .b) (same .pairs k (lt-of-lt-of-le below h)))
 
-  table-size-same : (k : ℕ) → k < i → tableSize d k ≡ tableSize e k
-  unfolding tableSize offsetCount storedCount
-  table-size-same k below = ap (λ (pair : Pair). bitsOf (2 ^ pair .a * 2 ^ pair .b)) (same .pairs k below)
-
   pub size-before-same : sizeBefore d i ≡ sizeBefore e i
   unfolding sizeBefore initialSize initialCount
-  size-before-same = rw (sum-congruence i (tableSize d) (tableSize e) table-size-same, same .alpha)
+  size-before-same =
+      let tables = sum-congruence i (tableSize d) (tableSize e) (λ k below.
+      table-size-same d e k (same .kind) (same .w) (same .q) (same .g) (same .pairs k below) (position-same k (le-of-lt below))) in
+      rw (tables, same .alpha, same .q, same .g)
 
   share-same : (k : ℕ) → k < i → tableBudget d k ≡ tableBudget e k
   unfolding tableBudget reach
@@ -103,14 +104,9 @@ module _ (d e : Design) (i : ℕ) (same : Agrees d e i) where
   limit-same = rw (same .g)
 
 -- and no more than what is counted of all. With all tables it is the size.
-all-tables : (d : Design) (n : ℕ) → sumBelow n (tableSize d) ≡ bitsOf (sumBelow n (offsetCount d))
-unfolding sumBelow tableSize
-all-tables d zero = refl
-all-tables d (suc n) = omega (arith, all-tables d n)
-
 pub size-whole : (d : Design) → sizeBefore d (d .m) ≡ size d
-unfolding sizeBefore initialSize size tableStart offsetTotal
-size-whole d = omega (arith, all-tables d (d .m))
+unfolding sizeBefore size
+size-whole d = refl
 
 pub size-before-mono : (d : Design) (i : ℕ) → i ≤ d .m → sizeBefore d i ≤ size d
 unfolding sizeBefore
@@ -125,8 +121,8 @@ pub position-first : (d : Design) → position d 0 ≡ 0
 unfolding position sumBelow
 position-first d = refl
 
-pub size-first : (d : Design) → sizeBefore d 0 ≡ bitsOf (initialCount d)
-unfolding sizeBefore initialSize sumBelow
+pub size-first : (d : Design) → sizeBefore d 0 ≡ 2 ^ d .alpha * (fractionBits d + 2)
+unfolding sizeBefore initialSize initialCount sumBelow
 size-first d = omega arith
 
 pub budget-first : (d : Design) → budgetBefore d 0 ≡ (d .m + 2) * 2 ^ 17

@@ -7,18 +7,27 @@ use lib.Pow.{ones-lt, pow-mono, shl-lt}
 use Rattle.general.proofs.Sums.{sum-bounded}
 use Rattle.values.specs.Room.{widestWord, finestUnit, wordBound, slopeBound}
 use Rattle.values.specs.Inputs.{SlopeInput}
-use Rattle.values.specs.Slopes.{largestSpread}
+use Rattle.values.specs.Slopes.{largestSpread, largestSum}
 use Rattle.values.proofs.WidthLaws.{Widths, widths-of}
 use Rattle.design.specs.declared.Design.{Design}
 use Rattle.design.specs.declared.legal.TableRule.{TableRule}
-use Rattle.design.specs.Limits.{mostInitialBits, mostTableBits, mostInitial, mostInTable, mostOffsets}
+use Rattle.design.specs.Limits.{mostTables}
 use Rattle.design.specs.Cut.{row, fractionBits, position}
 use Rattle.design.specs.Stored.{initialCount}
-use Rattle.design.specs.Budget.{limit, bitsOf}
+use Rattle.design.specs.Budget.{limit}
 use Rattle.design.proofs.LegalLaws.{within}
-use Rattle.design.proofs.StoredLaws.{count-is}
 use Rattle.design.proofs.BudgetLaws.{shareBound, largest-spread-small}
-use Rattle.searching.specs.Search.{initialSize, tableSize, sizeBefore, restFrom, Begun, Open, Fitting, Least}
+use Rattle.entries.specs.Inputs.{OffsetInput}
+use Rattle.sizing.specs.Size.{initialSize, tableSize}
+use Rattle.sizing.proofs.SizeLaws.{
+  tableBound,
+  initialBound,
+  largest-input,
+  table-size-is,
+  size-by-small,
+  initial-by-small,
+}
+use Rattle.searching.specs.Search.{sizeBefore, restFrom, Begun, Open, Fitting, Least}
 
 module _ (d : Design) (begun : Begun d) where
   pub widths : Widths (d .kind) (d .w) (d .q) (d .g)
@@ -26,10 +35,6 @@ module _ (d : Design) (begun : Begun d) where
 
   pub guard-few : d .g ≤ finestUnit
   guard-few = omega (arith, widths .room .s-small)
-
-  pub initial-few : initialCount d ≤ mostInitial
-  unfolding initialCount
-  initial-few = pow-mono {j = mostInitialBits} (begun .started .alpha-high)
 
   -- No number that no spread is below is larger than a spread can be.
   least-few : (least : ℕ) → Least d least → least ≤ slopeBound
@@ -51,37 +56,39 @@ module _ (d : Design) (begun : Begun d) where
       mul-le-mul (le-trans (sub-le (2 ^ (d .w - d .alpha)) (2 ^ p)) all) (least-few least none-below)
 
 module _ (d : Design) (i : ℕ) (o : Open d i) where
-  table-size-few : (j : ℕ) → j < i → tableSize d j ≤ bitsOf mostInTable
-  unfolding tableSize
+  table-size-few : (j : ℕ) → j < i → tableSize d j ≤ tableBound
   table-size-few j h =
-      let within-limits = within d j (o .tables TableRule.SegmentBits j h) (o .tables TableRule.OffsetBits j h) in
-      omega (arith, count-is d j, pow-mono {j = mostTableBits} (within-limits .sum-high))
+      rw (table-size-is d j)
+      (size-by-small _ _ _ (within d j (o .tables TableRule.SegmentBits j h) (o .tables TableRule.OffsetBits j h) .sum-high))
 
-  pub size-few : sizeBefore d i ≤ bitsOf (mostInitial + mostOffsets)
-  unfolding sizeBefore initialSize
+  pub size-few : sizeBefore d i ≤ initialBound + mostTables * tableBound
+  unfolding sizeBefore initialSize initialCount
   size-few =
       omega (
         arith,
-        initial-few d (o .begun),
-        sum-bounded i (bitsOf mostInTable) (tableSize d) table-size-few,
+        initial-by-small _ _ (o .begun .started .alpha-high) (widths d (o .begun) .room .s-small),
+        sum-bounded i tableBound (tableSize d) table-size-few,
         o .chosen,
         o .begun .m-high,
       )
 
   -- what a fitting pair adds
   module _ (a b : ℕ) (fit : Fitting d i a b) where
-    pub entries-few : 2 ^ (a + b) ≤ mostInTable
-    entries-few = pow-mono {j = mostTableBits} (fit .sum-high)
+    pub slopes : SlopeInput (row d) (d .w) (fractionBits d) a
+    slopes =
+        let w = widths d (o .begun) in
+        record { lawful = w .lawful; room = w .room; a-small = omega (arith, fit .a-high, o .begun .started .alpha-below) }
+
+    -- its offsets can be asked for
+    pub widest-asked : OffsetInput (largestSum (row d) (d .w) (fractionBits d) a) b (position d i)
+    widest-asked =
+        largest-input (row d) (d .w) (fractionBits d) a b (position d i) slopes (fit .b-low)
+        (omega (arith, fit .left-low, o .begun .started .alpha-low, o .begun .started .alpha-below))
 
     pub reach-few : (2 ^ b - 1) * 2 ^ position d i < wordBound
     reach-few =
         lt-of-lt-of-le (shl-lt b (position d i) (ones-lt b))
         (pow-mono {j = widestWord} (omega (arith, fit .left-low, widths d (o .begun) .room .w-small)))
-
-    pub slopes : SlopeInput (row d) (d .w) (fractionBits d) a
-    slopes =
-        let w = widths d (o .begun) in
-        record { lawful = w .lawful; room = w .room; a-small = omega (arith, fit .a-high, o .begun .started .alpha-below) }
 
     pub share-few : (2 ^ b - 1) * 2 ^ position d i * largestSpread (row d) (d .w) (fractionBits d) a ≤ shareBound
     share-few = mul-le-mul (le-of-lt reach-few) (largest-spread-small (row d) (d .w) (fractionBits d) a slopes)

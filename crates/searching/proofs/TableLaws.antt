@@ -4,14 +4,17 @@ use mathlib.Core.List.{List}
 use Prim.Native.Nat.{ℕ, suc, _+_, _-_, _^_, _≤_, _<_}
 use native.Mathlib.Nat.{add-le-add, le-refl, le-trans}
 use native.Mathlib.Omega.{arith}
-use lib.Pow.{pow-mono}
 use Rattle.general.specs.Below.{joined, forEach}
 use Rattle.general.proofs.JoinedLaws.{All, all-joined}
+use Rattle.values.specs.Inputs.{SlopeInput}
+use Rattle.values.specs.Slopes.{largestSum}
 use Rattle.design.specs.declared.Design.{Design}
 use Rattle.design.specs.Limits.{mostOffsetBits}
-use Rattle.design.specs.Cut.{position}
-use Rattle.design.specs.Budget.{budget, limit, Admitted, bitsOf, size}
+use Rattle.design.specs.Cut.{row, fractionBits, position}
+use Rattle.design.specs.Budget.{budget, limit, Admitted}
 use Rattle.design.proofs.LegalLaws.{limits, legal-of}
+use Rattle.sizing.specs.Size.{size}
+use Rattle.sizing.proofs.GrowthLaws.{sizeBy, grows}
 use Rattle.searching.specs.declared.SizedDesign.{SizedDesign}
 use Rattle.searching.specs.Designs.{withPair, continued}
 use Rattle.searching.specs.Best.{better, bestOf}
@@ -20,6 +23,7 @@ use Rattle.searching.proofs.BestLaws.{NotBetter, better-not, better-so,
 use Rattle.searching.proofs.AdmittedLaws.{so-admitted, no-fewer, none-better, too-large}
 use Rattle.searching.proofs.PrefixLaws.{Agrees, size-whole}
 use Rattle.searching.proofs.OpenLaws.{open-limits, open-next, fitting, size-next}
+use Rattle.searching.proofs.SmallLaws.{widths}
 
 -- With all tables, the budget so far is the design's.
 pub budget-whole : (d : Design) → budgetBefore d (d .m) ≡ budget d
@@ -41,11 +45,17 @@ module _ (d : Design) (i : ℕ) (o : Open d i) (h : i < d .m) where
   pub unfit : (now : SizedDesign) (n a b : ℕ) → (Fitting d i a b → ⊥) → All (NotBetter now) (by-b n a b)
   unfit now n a b not = none-better now n (withPair d i a b) (i + 1) (λ e same admitted. absurd (not (fits a b e same admitted)))
 
-  -- The size grows with a and b.
-  grows : (a b a' b' : ℕ) → a ≤ a' → b ≤ b' → sizeBefore (withPair d i a b) (i + 1) ≤ sizeBefore (withPair d i a' b') (i + 1)
-  grows a b a' b' a-more b-more =
-      rw (size-of a b, size-of a' b') (omega (arith, pow-mono {i = a + b} {j = a' + b'} (add-le-add a-more b-more))) where
-        size-of : (a b : ℕ) → sizeBefore (withPair d i a b) (i + 1) ≡ sizeBefore d i + bitsOf (2 ^ (a + b))
+  -- The size grows with a and b, as far as pairs fit.
+  size-grows : (a b a' b' : ℕ) → a ≤ a' → b ≤ b' → Fitting d i a' b' → sizeBefore (withPair d i a b) (i + 1) ≤ sizeBefore (withPair d i a' b') (i + 1)
+  size-grows a b a' b' a-more b-more fit =
+      let within : a' ≤ d .w = omega (arith, fit .a-high, o .begun .started .alpha-below) in
+      let w = widths d (o .begun) in
+      let slopes : SlopeInput (row d) (d .w) (fractionBits d) a
+      = record { lawful = w .lawful; room = w .room; a-small = le-trans a-more within } in
+      rw (size-of a b, size-of a' b')
+      (add-le-add (le-refl (sizeBefore d i)) (grows (row d) (d .w) (fractionBits d) a b a' b' (position d i) slopes a-more within b-more)) where
+        size-of : (a b : ℕ) → sizeBefore (withPair d i a b) (i + 1)
+            ≡ sizeBefore d i + sizeBy (largestSum (row d) (d .w) (fractionBits d) a) a b (position d i)
         size-of a b = size-next d i a b h (o .begun .places) (o .begun .m-high)
 
   -- The best by b, over those below k: those before the first one do not count, and what is left then.
@@ -74,10 +84,10 @@ module _ (d : Design) (i : ℕ) (o : Open d i) (h : i < d .m) where
 
   -- What has no fewer bits than the best with a and b has none with larger ones.
   pub still-many : (now : SizedDesign) (a b a' b' : ℕ) → a ≤ a' → b ≤ b' → now .bits ≤ sizeBefore (withPair d i a b) (i + 1)
-      → (e : Design) → Agrees (withPair d i a' b') e (i + 1) → now .bits ≤ size e
+      → (e : Design) → Agrees (withPair d i a' b') e (i + 1) → Admitted e → now .bits ≤ size e
   unfolding withPair
-  still-many now a b a' b' a-more b-more many e same =
-      le-trans many (le-trans (grows a b a' b' a-more b-more) (no-fewer (withPair d i a' b') e (i + 1) same (omega arith)))
+  still-many now a b a' b' a-more b-more many e same admitted =
+      le-trans many (le-trans (size-grows a b a' b' a-more b-more (fits a' b' e same admitted)) (no-fewer (withPair d i a' b') e (i + 1) same (omega arith)))
 
   -- The last table's b is all that is left.
   module _ (now : SizedDesign) (a b : ℕ) (last : i + 1 ≡ d .m) (b-is : b ≡ d .w - d .alpha - position d i) where

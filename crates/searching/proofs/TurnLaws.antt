@@ -161,7 +161,7 @@ module _ (prefix : Prefix) (n : Next prefix) (more : prefix .tables + 1 < prefix
             → bestOf best (forEach 1 mostOffsetBits by) ≡ found
         left-many bits bits-are many =
             last-b d i o (n .more) best later a found b (one b (t .from)) (t .high)
-            (λ other from e same admitted. still-many d i o (n .more) found a b a other (le-refl a) from (rw bits-are at many) e same)
+            (λ other from e same admitted. still-many d i o (n .more) found a b a other (le-refl a) from (rw bits-are at many) e same admitted)
             (t .so-far)
 
         -- with another b, budget and rest are no more than the budget of any design, and so below the limit

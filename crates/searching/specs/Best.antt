@@ -10,7 +10,8 @@ use Rattle.refusal.specs.Told.{Told, told}
 use Rattle.values.specs.Widths.{limitsOf, functionChecks}
 use Rattle.design.specs.declared.Design.{Design}
 use Rattle.design.specs.Legal.{designVerdict}
-use Rattle.design.specs.Budget.{withinLimit, size}
+use Rattle.design.specs.Budget.{withinLimit}
+use Rattle.sizing.specs.Size.{size}
 use Rattle.searching.specs.declared.SizedDesign.{SizedDesign}
 use Rattle.searching.specs.declared.Found.{Found}
 use Rattle.searching.specs.Designs.{noDesign, designs}

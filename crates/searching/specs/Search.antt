@@ -14,18 +14,11 @@ use Rattle.design.specs.declared.Design.{Design}
 use Rattle.design.specs.declared.legal.TableRule.{TableRule}
 use Rattle.design.specs.Limits.{leastInitialBits, mostInitialBits, mostTables, mostOffsetBits, mostTableBits}
 use Rattle.design.specs.Cut.{row, fractionBits, position}
-use Rattle.design.specs.Stored.{initialCount, offsetCount}
 use Rattle.design.specs.Legal.{tableBreaks}
-use Rattle.design.specs.Budget.{tableBudget, limit, bitsOf}
+use Rattle.design.specs.Budget.{tableBudget, limit}
+use Rattle.sizing.specs.Size.{initialSize, tableSize}
 use Rattle.searching.specs.declared.prefix.Prefix.{Prefix}
 use Rattle.searching.specs.Designs.{bare}
-
--- The size of the initial table, and of table i
-unfoldable pub initialSize : Design → ℕ
-initialSize d = bitsOf (initialCount d)
-
-unfoldable pub tableSize : Design → ℕ → ℕ
-tableSize d i = bitsOf (offsetCount d i)
 
 -- The size and the budget of a design's first i tables, with all that is not a table's: at i = m its size and its budget
 unfoldable pub sizeBefore : Design → ℕ → ℕ

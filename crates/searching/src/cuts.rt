@@ -50,7 +50,7 @@ fn last_table(slopes: &[u64], prefix: Prefix, best: SizedDesign) -> SizedDesign
     let limit = limit_of(d);
     let end = smaller(d.alpha + 1, MOST_TABLE_BITS as u32 + 1 - b);
     for a in 1..end {
-        let bits = prefix.size_with(a, b);
+        let bits = prefix.size_with(slopes, a, b);
         if best.bits <= bits {
             return best;
         }
@@ -114,7 +114,7 @@ fn each_offset_bits(
     let mut found = best;
     for b in first..end {
         let position = prefix.position + b;
-        let bits = prefix.size_with(a, b);
+        let bits = prefix.size_with(slopes, a, b);
         let budget = prefix.budget_with(slopes, a, b);
         if found.bits <= bits || limit <= budget + rest_from(d, least, position) {
             return found;

@@ -21,10 +21,9 @@ use design::limits::LEAST_INITIAL_BITS;
 use design::limits::MOST_INITIAL_BITS;
 use design::limits::MOST_OFFSET_BITS;
 use design::limits::MOST_TABLES;
-use design::measure::bits_of;
 use design::measure::limit_of;
-use general::pow2;
 use general::smaller;
+use sizing::initial_size;
 use values::widths::limits_of;
 
 // More bits than any legal design has.
@@ -39,7 +38,7 @@ fn first_prefix(d: Design, m: u32) -> Prefix
         design: bare(d.kind, d.w, d.q, d.g, d.alpha, m),
         tables: 0,
         position: 0,
-        bits: bits_of(pow2(d.alpha)),
+        bits: initial_size(d.alpha, d.q + d.g),
         budget: (m as u64 + 2) * (1 << 17),
     }
 }

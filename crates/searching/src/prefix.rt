@@ -6,11 +6,12 @@ ghost use Rattle.design.specs.Limits.{mostTables};
 ghost use Rattle.searching.specs.Designs.{noDesign, withPair};
 ghost use Rattle.searching.specs.Designs as Designs;
 ghost use Rattle.searching.specs.Search.{sizeBefore, budgetBefore, restFrom, Begun, Fitting, Next, SlopesFor, Least};
+use crate::slopes::SPREADS;
 use design::Design;
 use design::NO_PAIR;
 use design::Pair;
-use design::measure::bits_of;
 use general::pow2;
+use sizing::bits_of;
 
 // A design whose first pairs are chosen, `tables` of them: where the bits of the next table begin, and size and budget so far.
 pub struct Prefix {
@@ -71,12 +72,14 @@ pub fn rest_from(d: Design, least: u64, position: u32) -> u64
 }
 
 impl Prefix {
-    // The size with a pair for the next table.
-    pub fn size_with(self, a: u32, b: u32) -> u64
+    // The size with a pair for the next table. How many bits its offsets have goes by the largest Hi + Lo by its a, which is looked up.
+    pub fn size_with(self, slopes: &[u64], a: u32, b: u32) -> u64
+        requires { ⌜ SlopesFor (self .design) (now slopes) ⌝ }
         requires { ⌜ Next self × Fitting (self .design) (self .tables) a b ⌝ }
         ensures { λ r. ⌜ r ≡ sizeBefore (withPair (self .design) (self .tables) a b) (self .tables + 1) ⌝ }
     {
-        self.bits + bits_of(pow2(a + b))
+        let sum = slopes[SPREADS + a as usize];
+        self.bits + pow2(a + b) * bits_of(sum, b, self.position) as u64
     }
 
     // The budget with it. A table's share takes its reach and the largest Hi - Lo by its a, which is looked up.

@@ -4,3 +4,4 @@ pub mod WidthLaws
 pub mod GrowthLaws
 pub mod SizeLaws
 pub mod FewestLaws
+pub mod Opened

@@ -1,7 +1,7 @@
 -- To unfold `calls-opened` is to unfold every definition that the calls over a set promise by: the fill, the evaluation, the
 -- check and the counts.
 use Rattle.general.specs.Below.{listBelow, countBelow}
-use Rattle.entries.proofs.Opened.{entries-opened}
+use Rattle.sizing.proofs.Opened.{sizing-opened}
 use Rattle.tables.proofs.Opened.{tables-opened}
 use Rattle.filling.specs.Fill.{
   fillVerdict,
@@ -31,7 +31,7 @@ use Rattle.counting.specs.Count.{classOf, classAt, countOf, countsBelow, countV
 
 unfoldable pub calls-opened : Unit {0}
 unfolding
-    entries-opened tables-opened fillVerdict listBelow initialEntries storedOffset tableEntries offsetsBelow offsetEntries
+    sizing-opened tables-opened fillVerdict listBelow initialEntries storedOffset tableEntries offsetsBelow offsetEntries
     initialAfter offsetsAfter wordChecks evaluateVerdict evaluateAnswer evaluateTold outputCheck roomVerdict batchBelow placeVerdict
     batchAnswer checksBelow batchVerdict outputAfter passing batchTold faithfulAt findingBelow checkVerdict checkAnswer checkTold countBelow
     classOf classAt countOf countsBelow countVerdict countAnswer countTold

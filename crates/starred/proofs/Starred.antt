@@ -21,7 +21,7 @@ use Rattle.error_bound.proofs.Holds.{error-bound}
 use Rattle.starred.proofs.Opened.{calls-opened}
 
 -- "G is kind 0, w 8, q 8, g 4, alpha 5, m 1, (3,3)", here with the guard bits and the first pair given
-abbrev G-with : ℕ → ℕ → ℕ → Design
+abbrev pub G-with : ℕ → ℕ → ℕ → Design
 G-with g a b =
     record {
       kind = 0;

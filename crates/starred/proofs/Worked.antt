@@ -19,7 +19,10 @@ use Rattle.values.specs.Value.{valueOf}
 use Rattle.design.specs.declared.Pair.{Pair}
 use Rattle.design.specs.declared.Design.{Design}
 use Rattle.design.specs.declared.Measured.{Measured}
-use Rattle.design.specs.Answers.{budgetAnswer, sizeAnswer}
+use Rattle.design.specs.Legal.{designVerdict}
+use Rattle.design.specs.Answers.{budgetAnswer}
+use Rattle.sizing.specs.Width.{holds, offsetBits}
+use Rattle.sizing.specs.Size.{sizeAnswer}
 use Rattle.entries.specs.Entries.{oddNumber, offsetAt}
 use Rattle.entries.specs.Signs.{signOf, magnitudeAt}
 use Rattle.filling.specs.Fill.{initialEntries, offsetEntries}
@@ -63,7 +66,7 @@ use Rattle.word_text.specs.declared.ReadWord.{ReadWord}
 use Rattle.word_text.specs.Decimal as Decimal
 use Rattle.word_text.specs.Decimal.{wordIn}
 use Rattle.starred.proofs.Opened.{calls-opened}
-use Rattle.starred.proofs.Starred.{G}
+use Rattle.starred.proofs.Starred.{G, G-with}
 
 abbrev pair : ℕ → ℕ → Pair
 pair a b = record { a = a; b = b }
@@ -77,6 +80,18 @@ two-tables =
 abbrev widest : Design
 widest =
     record { kind = 0; w = 16; q = 16; g = 4; alpha = 13; m = 1; pairs = pair 9 3 ∷ pair 0 0 ∷ pair 0 0 ∷ pair 0 0 ∷ [] }
+
+-- The smallest designs of kinds 0 and 1 for w 8 and q 8
+abbrev three-tables : Design
+three-tables =
+    record { kind = 0; w = 8; q = 8; g = 5; alpha = 5; m = 3; pairs = pair 2 1 ∷ pair 3 1 ∷ pair 3 1 ∷ pair 0 0 ∷ [] }
+
+abbrev of-root-tables : ℕ → ℕ → ℕ → ℕ → Design
+of-root-tables w q g alpha =
+    record { kind = 1; w = w; q = q; g = g; alpha = alpha; m = 3; pairs = pair 1 1 ∷ pair 1 1 ∷ pair 1 2 ∷ pair 0 0 ∷ [] }
+
+abbrev root-tables : Design
+root-tables = of-root-tables 8 8 4 4
 
 -- The table with the largest T: kind 0, w 10, q 16, g 4, alpha 2, m 1, (2,8)
 abbrev largest-offsets : Design
@@ -186,16 +201,28 @@ pub record Worked : Type 0 where
       × (valueOf 3 8 8 4 255 ≡ Valued.Value (record { 0 = pos 2899 }))
   -- 2 before 3: w 5 with q 5
   pub w-before-q : valueOf 0 5 5 4 0 ≡ Valued.Refused Cause.InputWidth
-  -- alpha 13 passes, and so do w 16, q 16, q+g 20 and a+b 12: 8192 and 4096 entries of 24 bits
-  pub widest-size : sizeAnswer widest ≡ Measured.Is 294912
+  -- alpha 13 passes, and so do w 16, q 16, q+g 20 and a+b 12
+  pub widest-legal : designVerdict widest ≡ Verdict.Passed
   -- (m+2)·2^17 in the budget of two tables
   pub two-tables-budget : budgetAnswer two-tables ≡ Measured.Is 1318223
   -- and in their report
-  pub two-tables-report : Reports "0104080804040204020302D6" "BUDGET 1318223 LIMIT 2097152 BITS 2688 ADMITTED\n"
+  pub two-tables-report : Reports "0104080804040204020302D6" "BUDGET 1318223 LIMIT 2097152 BITS 736 ADMITTED\n"
   -- The report of document 01's example
-  pub admitted : Reports G-line "BUDGET 1895955 LIMIT 2097152 BITS 2304 ADMITTED\n"
-  -- The report on G with (2,3)
-  pub not-admitted : Reports "010008080405010203E0" "BUDGET 3008038 LIMIT 2097152 BITS 1536 NOT ADMITTED\n"
+  pub admitted : Reports G-line "BUDGET 1895955 LIMIT 2097152 BITS 896 ADMITTED\n"
+  -- The report on G with (2,3): "the report prints `BITS 0`"
+  pub not-admitted : Reports "010008080405010203E0" "BUDGET 3008038 LIMIT 2097152 BITS 0 NOT ADMITTED\n"
+  -- "two's complement range": 7 bits hold 63 and -64, and neither 64 nor -65; 1 bit holds 0 and -1
+  pub ranges : (map (holds 7) (pos 63 ∷ pos 64 ∷ negsuc 63 ∷ negsuc 64 ∷ []) ≡ true ∷ false ∷ true ∷ false ∷ [])
+      × (map (holds 1) (pos 0 ∷ pos 1 ∷ negsuc 0 ∷ negsuc 1 ∷ []) ≡ true ∷ false ∷ true ∷ false ∷ [])
+  -- "G then has 896 bits": 32·14 + 64·7
+  pub size-of-G : sizeAnswer G ≡ Measured.Is 896
+  -- "each table at its own width": 32·15 + 8·5 + 16·6 + 16·7, "728 bits"; a root, 16·14 + 4·3 + 4·4 + 8·7, "308 bits"
+  pub own-widths : (sizeAnswer three-tables ≡ Measured.Is 728) × (map (offsetBits three-tables) (0 ∷ 1 ∷ 2 ∷ []) ≡ 5 ∷ 6 ∷ 7 ∷ [])
+  pub root-widths : (sizeAnswer root-tables ≡ Measured.Is 308) × (map (offsetBits root-tables) (0 ∷ 1 ∷ 2 ∷ []) ≡ 3 ∷ 4 ∷ 7 ∷ [])
+  -- "at least 1": offsets that are all 0 or -1
+  pub one-bit : offsetBits (of-root-tables 6 6 2 2) 0 ≡ 1
+  -- "the size call refuses the others with 11, after 9": G with (2,3); with (2,2), whose b_0 is not 3, 9
+  pub size-refused : (sizeAnswer (G-with 4 2 3) ≡ Measured.Refused Cause.NotAdmitted) × (sizeAnswer (G-with 4 2 2) ≡ Measured.Refused Cause.CutSum)
   -- 15: an empty line, one digit too many, lower case, a wrong sum, 34 digits
   pub unsound : map (λ line. reportOf (ascii line))
       ("" ∷ "010008080405010303DF0" ∷ "010008080405010303df" ∷ "010008080405010303DE" ∷ "0000000000000000000000000000000000" ∷ [])
@@ -357,11 +384,17 @@ worked =
       numbers = refl;
       other-kinds = (refl, refl);
       w-before-q = refl;
-      widest-size = refl;
+      widest-legal = refl;
       two-tables-budget = refl;
       two-tables-report = refl;
       admitted = refl;
       not-admitted = refl;
+      ranges = (refl, refl);
+      size-of-G = refl;
+      own-widths = (refl, refl);
+      root-widths = (refl, refl);
+      one-bit = refl;
+      size-refused = (refl, refl);
       unsound = refl;
       too-short-for-m = refl;
       kind-first = refl;

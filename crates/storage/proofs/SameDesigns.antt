@@ -20,10 +20,12 @@ use Rattle.design.specs.Stored.{
 }
 use Rattle.design.specs.Same.{Same}
 use Rattle.design.specs.Legal.{tableBreaks, cutChecks, designChecks, designVerdict}
-use Rattle.design.specs.Budget.{reach, tableBudget, budget, limit, withinLimit, admittedCheck, size}
-use Rattle.design.specs.Answers.{budgetAnswer, sizeAnswer, budgetTold, sizeTold}
+use Rattle.design.specs.Budget.{reach, tableBudget, budget, limit, withinLimit, admittedCheck}
+use Rattle.design.specs.Answers.{budgetAnswer, budgetTold}
 use Rattle.design.proofs.SameLaws.{with-pairs, only-pairs}
 use Rattle.entries.specs.Entries.{valueAt, endValues, initialAt, hiAt, loAt, offsetAt}
+use Rattle.sizing.specs.Size.{size, sizeVerdict, sizeAnswer, sizeTold}
+use Rattle.sizing.proofs.SizeLaws.{size-same}
 use Rattle.tables.specs.Sum.{offsetFor, sumAt, sumOutside, wordOf, wordAt}
 use Rattle.tables.specs.Set.{tablesCheck, setChecks}
 use Rattle.filling.specs.Fill.{
@@ -55,7 +57,7 @@ unfoldable opened : Unit {0}
 unfolding
     pairAt position initialWord segmentWord offsetWord initialCount storedCount storedIndex offsetFrom storedWord offsetCount tableStart
     offsetTotal storedPlace offsetPlace storedOffset
-    tableBreaks cutChecks designChecks designVerdict reach tableBudget budget limit withinLimit size budgetAnswer sizeAnswer
+    tableBreaks cutChecks designChecks designVerdict reach tableBudget budget limit withinLimit budgetAnswer sizeVerdict sizeAnswer
     valueAt endValues initialAt hiAt loAt offsetAt offsetFor sumAt sumOutside wordOf wordAt
     tablesCheck setChecks admittedCheck fillVerdict initialEntries tableEntries offsetEntries initialAfter offsetsAfter
     wordChecks evaluateVerdict evaluateAnswer roomVerdict placeVerdict batchAnswer outputAfter faithfulAt checkVerdict checkAnswer
@@ -144,7 +146,7 @@ answers-same d e s =
     record {
       design = rw (t, insides);
       budget = rw (t, insides);
-      size = rw (t, insides);
+      size = rw (size-same d (with-pairs d pairs) same, t, insides);
       set = λ initial offsets. rw (t, insides);
       fill = λ initial offsets. rw (t, insides);
       initial-table = λ initial offsets. rw (t, insides);
@@ -164,7 +166,7 @@ answers-same d e s =
       read-record = λ s text. rw (t, insides);
       records-finished = λ state. rw (t, insides);
       budget-told = rw (t, insides);
-      size-told = rw (t, insides);
+      size-told = rw (size-same d (with-pairs d pairs) same, t, insides);
       evaluate-told = λ initial offsets x. rw (t, insides);
       batch-told = λ initial offsets words output. rw (t, insides);
       check-told = λ initial offsets. rw (t, insides);

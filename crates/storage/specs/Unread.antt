@@ -11,7 +11,8 @@ use Rattle.design.specs.declared.Design.{Design}
 use Rattle.design.specs.Cut.{noPair}
 use Rattle.design.specs.Same.{Same}
 use Rattle.design.specs.Legal.{designVerdict}
-use Rattle.design.specs.Answers.{budgetAnswer, sizeAnswer, budgetTold, sizeTold}
+use Rattle.design.specs.Answers.{budgetAnswer, budgetTold}
+use Rattle.sizing.specs.Size.{sizeAnswer, sizeTold}
 use Rattle.tables.specs.Sum.{sumAt}
 use Rattle.tables.specs.Set.{setChecks}
 use Rattle.filling.specs.Fill.{fillVerdict, initialAfter, offsetsAfter}

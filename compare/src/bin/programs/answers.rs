@@ -15,7 +15,7 @@ struct Wanted {
 const WANTED: [Wanted; 8] = [
     Wanted {
         name: "report",
-        answers: &["ADMITTED", "NOT ADMITTED"],
+        answers: &["ADMITTED", "BITS 0 NOT ADMITTED"],
         refused: "REFUSED",
         refusals: &REFUSALS,
     },
@@ -96,13 +96,14 @@ impl Wanted {
     }
 }
 
-/// The answers in a printed line: the line without the numbers that only say where, or the classes
-/// that are not empty.
+/// The answers in a printed line: the line without the numbers that only say where or how much, or
+/// the classes that are not empty.
 fn answers_in(line: &str) -> Vec<String> {
     let words: Vec<&str> = line.split(' ').collect();
     let answer = match words[..] {
         ["OUTSIDE", ..] => return classes(&words),
         ["LINE", _, "REFUSED", refusal] => format!("LINE REFUSED {refusal}"),
+        ["BUDGET", _, "LIMIT", _, "BITS", "0", ..] => words[4..].join(" "),
         ["BUDGET", _, "LIMIT", _, "BITS", _, ref verdict @ ..] => verdict.join(" "),
         ["UNFAITHFUL" | "UNFINISHED", _] => words[0].into(),
         _ if line.starts_with(|c: char| c.is_ascii_digit()) => "digits".into(),

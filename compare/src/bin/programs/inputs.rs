@@ -9,8 +9,8 @@ use compare::frames::{design_line, initial_line, sealed};
 use compare::random::{is_admitted, largest, lengths, sum_limit, Given, Tables, LARGEST};
 use compare::wide::reference::Design;
 
-/// Empty lines; G, G with (2,3) and G behind an empty line; the longest report that there is, and the
-/// greatest budget.
+/// Empty lines; G, G with (2,3) and G behind an empty line; two of the longest reports that there
+/// are, the second with the greatest budget.
 const LINES: [&str; 9] = [
     "",
     "\n",

@@ -1,5 +1,6 @@
 -- `report_text::report` meets its contract: the verdict of each check in turn, and the numbers of a design that passed them all.
 use mathlib.Core.Path.{_≡_, _∙_}
+use mathlib.Core.Bool.{cond}
 use Prim.Native.Nat.{ℕ}
 use borrow.Author.Needs.{needs}
 use Rattle.refusal.specs.declared.Verdict.{Verdict}
@@ -8,8 +9,9 @@ use Rattle.design.specs.declared.Design.{Design}
 use Rattle.design.specs.Legal.{Legal}
 use lib.Dec.{ltb}
 use lib.ListN.{length}
-use Rattle.design.specs.Budget.{budget, limit, withinLimit, size}
+use Rattle.design.specs.Budget.{budget, limit, withinLimit}
 use Rattle.design.proofs.LegalLaws.{limits, guard-small}
+use Rattle.sizing.specs.Size.{size}
 use Rattle.frames.specs.Hex.{bytesOf}
 use Rattle.frames.specs.Line.{lineChecks}
 use Rattle.frames.specs.DesignFrame.{frameDesign, firstChecks}
@@ -51,10 +53,10 @@ legal : (c : tie.After-frame-design) → Legal (c .frame-design .result)
 legal c = rw (design-is c) (first-frame _ _ (first-passed (c .before)) .legal)
 
 -- The numbers that the calls give make the design's text.
-text-is : (d e : Design) (b l n : ℕ) → b ≡ budget d → l ≡ limit d → n ≡ size d → d ≡ e
+text-is : (d e : Design) (b l n : ℕ) → b ≡ budget d → l ≡ limit d → n ≡ cond (ltb b l) (size d) 0 → d ≡ e
     → textOf (lineText b l n (ltb b l)) ≡ textOf (designText e)
 unfolding designText withinLimit
-text-is d e b l n b-is l-is n-is same = rw (b-is, l-is, n-is, same)
+text-is d e b l n b-is l-is n-is same = rw (n-is, b-is, l-is, same)
 
 returns : tie.Need-returns
 returns c =
@@ -76,16 +78,16 @@ budget-of-requires c κs = legal c
 limit-of-requires : tie.Need-limit-of-requires
 limit-of-requires c κs = guard-small _ (limits _ (legal (c .before)))
 
-size-of-requires : tie.Need-size-of-requires
-size-of-requires c κs = legal (c .before .before)
+bits-if-requires : tie.Need-bits-if-requires
+bits-if-requires c κs = legal (c .before .before)
 
 returns-3 : tie.Need-returns-3
 returns-3 c =
-    let size = c .before in
-    let budget = size .before .before in
+    let bits = c .before in
+    let budget = bits .before .before in
     let a = budget .before in
     c .measured .ensures
-    ∙ text-is _ _ _ _ _ (budget .budget-of .ensures) (size .before .limit-of .ensures) (size .size-of .ensures) (design-is a)
+    ∙ text-is _ _ _ _ _ (budget .budget-of .ensures) (bits .before .limit-of .ensures) (bits .bits-if .ensures) (design-is a)
     ∙ frame-passed _ (line-passed (a .before .before .before .before .before)) (first-passed (a .before))
 
 pub report-spec : {M : Type 1} → statement M
@@ -105,6 +107,6 @@ report-spec =
     (λ c κs. search needs)
     budget-of-requires
     limit-of-requires
-    size-of-requires
+    bits-if-requires
     (λ c κs. search needs)
     returns-3)

@@ -251,7 +251,9 @@ b-add-position t c =
     position-fits _ _ _ _ _ _ (position-kept _ (fit .0)) (fit .1 .left-low) (widths _ (fit .0 .so-far .begun) .room .w-small)
 
 b-size-with-requires : (t : ℕ) → b-lts.Need-size-with-requires (b-calls t) (by-b-at t) by-b.Post b-Inv b-μ
-b-size-with-requires t c κs = b-fits t (c .before)
+b-size-with-requires t c κs =
+    let loop = c .before in
+    (loop .before .before .before .before .before .before .before .before .before .before .pre .1 .0 .0, b-fits t loop)
 
 b-budget-with-requires : (t : ℕ) → b-lts.Need-budget-with-requires (b-calls t) (by-b-at t) by-b.Post b-Inv b-μ
 b-budget-with-requires t c κs =

@@ -11,7 +11,8 @@ use Rattle.general.specs.Below.{joined, forEach}
 use Rattle.design.specs.declared.Design.{Design}
 use Rattle.design.specs.Limits.{mostInitialBits, mostOffsetBits, mostTableBits}
 use Rattle.design.specs.Cut.{position}
-use Rattle.design.specs.Budget.{limit, Admitted, size}
+use Rattle.design.specs.Budget.{limit, Admitted}
+use Rattle.sizing.specs.Size.{size}
 use Rattle.searching.specs.declared.SizedDesign.{SizedDesign}
 use Rattle.searching.specs.declared.prefix.Prefix.{Prefix}
 use Rattle.searching.specs.Designs.{withPair, continued}
@@ -119,7 +120,7 @@ module _ (prefix : Prefix) (n : Next prefix) (last : prefix .tables + 1 ≡ pref
             → (a' other : ℕ) → k ≤ a' → (e : Design) → Agrees (withPair d i a' other) e (i + 1) → Admitted e → now .bits ≤ size e
         from-here now k later many a' other from e same admitted =
             let other-is = b-same a' other (tables.fits d i o (n .more) a' other e same admitted) in
-            still-many d i o (n .more) now a b a' other (le-trans later from) (rw other-is (le-refl b)) many e same
+            still-many d i o (n .more) now a b a' other (le-trans later from) (rw other-is (le-refl b)) many e same admitted
 
         module _ (bits : ℕ) (bits-are : bits ≡ sizeBefore (withPair d i a b) (i + 1)) where
           stops : best .bits ≤ bits → best ≡ bestOf best (continued 1 d i)
@@ -241,7 +242,7 @@ next-fits c =
     (e .0, fits _ (e .0) (e .1) _ refl _ (end-is smaller) _ (c .before .loop .inv .low) (c .loop-test .taken))
 
 size-with-requires : tie.Need-size-with-requires Inv-loop μ-loop
-size-with-requires c κs = next-fits c
+size-with-requires c κs = (c .before .before .before .before .before .before .before .before .before .pre .0, next-fits c)
 
 budget-with-requires : tie.Need-budget-with-requires Inv-loop μ-loop
 budget-with-requires c κs =
