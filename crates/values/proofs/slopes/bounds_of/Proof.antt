@@ -2,6 +2,7 @@
 use mathlib.Core.Path.{_≡_}
 use borrow.Author.Needs.{needs}
 use Rattle.values.specs.Inputs.{FloorInput}
+use Rattle.values.specs.Slopes as Slopes
 use Rattle.values.proofs.Bounds.{start-input, end-input}
 use Rattle.values.proofs.slopes.bounds_of.Statement.{statement}
 use Rattle.values.proofs.slopes.bounds_of.Tie as tie
@@ -23,7 +24,10 @@ lo-requires c κs = search (ends (c .before))
 returns : tie.Need-returns
 returns c =
     let b = c .before .before in
-    rw (c .lo .ensures, c .before .hi .ensures, b .segment-end .ensures, b .before .segment-start .ensures)
+    let a = b .before .before .args in
+    let low : c .lo .result ≡ Slopes.lo (a .row) (a .w) (a .p) (Slopes.segmentEnd (a .w) (a .a) (a .segment))
+    = rw (← b .segment-end .ensures) (c .lo .ensures) in
+    rw (low, c .before .hi .ensures, b .before .segment-start .ensures)
 
 pub bounds-of-spec : {M : Type 1} → statement M
 bounds-of-spec =
