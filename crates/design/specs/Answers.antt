@@ -1,4 +1,4 @@
--- What the call `budget` answers: "budget and size 1 to 9", else the number. What it answers, the call `size` does, too.
+-- What the call `budget` answers: "budget and size 1 to 9", else the number. The call `size` answers in the same form.
 use Prim.Native.Nat.{ℕ}
 use Rattle.refusal.specs.Checks.{ifPassed}
 use Rattle.refusal.specs.Numbers.{numberOf}

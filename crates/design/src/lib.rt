@@ -32,7 +32,7 @@ pub struct Design {
     pub pairs: [Pair; 4],
 }
 
-// What `budget` answers, and `size` in the crate above.
+// What `budget` answers, and `sizing::size`.
 pub enum Measured {
     Is(u64),
     Refused(Cause),

@@ -2,6 +2,7 @@
 ghost use mathlib.Core.Path.{_≡_};
 ghost use Prim.Native.Nat.{_≤_, _<_};
 ghost use Rattle.values.specs.Room.{finestUnit};
+ghost use Rattle.values.specs.Slopes.{largestSpread, largestSum};
 ghost use Rattle.design.specs.Stored.{offsetCount, offsetTotal};
 ghost use Rattle.design.specs.Cut as Cut;
 ghost use Rattle.design.specs.Legal.{Legal};
@@ -10,7 +11,22 @@ use crate::Design;
 use crate::legal::pair_at;
 use general::pow2;
 use values::rows::row_of;
+use values::slopes::Steepest;
 use values::slopes::steepest_of;
+
+// inner: the largest Hi - Lo and the largest Hi + Lo over the segments of table i of a legal design.
+pub fn slopes_of(d: Design, i: u32) -> Steepest
+    requires { ⌜ Legal d ⌝ }
+    requires { ⌜ i < d .m ⌝ }
+    ensures { λ r.
+        ⌜ r ≡ record {
+          spread = largestSpread (Cut.row d) (d .w) (Cut.fractionBits d) (Cut.aOf d i);
+          sum = largestSum (Cut.row d) (d .w) (Cut.fractionBits d) (Cut.aOf d i);
+        } ⌝ }
+{
+    let pair = pair_at(d, i);
+    steepest_of(row_of(d.kind), d.w, d.q + d.g, pair.a)
+}
 
 // D_i times the largest Hi - Lo, for table i of a legal design, whose b_i bits begin at p_i.
 fn table_budget(d: Design, i: u32, position: u32) -> u64
@@ -19,8 +35,7 @@ fn table_budget(d: Design, i: u32, position: u32) -> u64
     ensures { λ r. ⌜ r ≡ tableBudget d i ⌝ }
 {
     let pair = pair_at(d, i);
-    let row = row_of(d.kind);
-    let slopes = steepest_of(row, d.w, d.q + d.g, pair.a);
+    let slopes = slopes_of(d, i);
     (pow2(pair.b) - 1) * pow2(position) * slopes.spread
 }
 

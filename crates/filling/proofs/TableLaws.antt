@@ -19,10 +19,7 @@ use Rattle.values.specs.Slopes.{slopeSum}
 use Rattle.design.specs.declared.Design.{Design}
 use Rattle.design.specs.Cut.{aOf, bOf, row, fractionBits, position}
 use Rattle.design.specs.Stored.{offsetCount, tableStart, offsetTotal, storedCount, storedWord}
-use Rattle.design.proofs.LegalLaws.{Limits, bits-end}
 use Rattle.entries.specs.Entries.{offsetAt, hiAt, loAt, offsetOf}
-use Rattle.entries.specs.Inputs.{OffsetInput}
-use Rattle.entries.proofs.EntryBounds.{slopes-reach}
 use Rattle.filling.specs.Fill.{tableEntries, offsetsBelow, storedOffset}
 use Rattle.filling.specs.Segment.{segmentOffsets}
 use Rattle.filling.proofs.EntryLaws.{offsets-length}

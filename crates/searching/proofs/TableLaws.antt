@@ -1,7 +1,7 @@
 -- One table more: the best by its b, and which b count at all; and the best with the last table.
 use mathlib.Core.Path.{_≡_, refl, _∙_}
 use mathlib.Core.List.{List}
-use Prim.Native.Nat.{ℕ, suc, _+_, _-_, _^_, _≤_, _<_}
+use Prim.Native.Nat.{ℕ, suc, _+_, _-_, _≤_, _<_}
 use native.Mathlib.Nat.{add-le-add, le-refl, le-trans}
 use native.Mathlib.Omega.{arith}
 use Rattle.general.specs.Below.{joined, forEach}

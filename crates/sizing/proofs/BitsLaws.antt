@@ -7,7 +7,6 @@ use native.Mathlib.Omega.{arith}
 use borrow.Author.Tests.{ltb-true, lt-ltb}
 use lib.Dec.{ltb}
 use lib.Pow.{pow-mono}
-use Rattle.general.specs.Below.{firstFrom}
 use Rattle.general.specs.Digits.{Digits}
 use Rattle.general.proofs.FirstLaws.{first-low, first-high, first-passes, first-least}
 use Rattle.sizing.specs.Width.{mostBits}

@@ -2,7 +2,7 @@
 -- so an offset loses one bit at most, while there are twice as many.
 use mathlib.Core.Path.{_≡_, sym, ap, _∙_}
 use Prim.Native.Nat.{ℕ, suc, _+_, _-_, _*_, _/_, _^_, _≤_, _<_}
-use native.Mathlib.Nat.{le-refl, le-trans, mul-assoc, mul-le-mul, mul-le-mul-left, mul-le-mul-right, pow-suc}
+use native.Mathlib.Nat.{le-trans, mul-assoc, mul-le-mul, mul-le-mul-left, mul-le-mul-right, pow-suc}
 use native.Mathlib.Decide.{decLt}
 use native.Mathlib.Omega.{arith}
 use lib.Pow.{pow-add, pow-mono, pow-pos, shl-lt, shr-mono}

@@ -18,12 +18,11 @@ use design::legal::pair_at;
 use design::measure::budget_of;
 use design::measure::limit_of;
 use design::measure::offset_count;
+use design::measure::slopes_of;
 use general::digit_count;
 use general::pow2;
 use refusal::Cause;
 use refusal::Verdict;
-use values::rows::row_of;
-use values::slopes::steepest_of;
 
 // inner: the bits of each offset of a table, by the largest Hi + Lo of its segments, its b and its p. The widest offset is T or -1 - T of
 // the largest |j|; either takes T's digits and one bit for the sign.
@@ -50,8 +49,7 @@ fn offset_bits(d: Design, i: u32, position: u32) -> u32
     ensures { λ r. ⌜ r ≡ offsetBits d i ⌝ }
 {
     let pair = pair_at(d, i);
-    let row = row_of(d.kind);
-    let slopes = steepest_of(row, d.w, d.q + d.g, pair.a);
+    let slopes = slopes_of(d, i);
     bits_of(slopes.sum, pair.b, position)
 }
 

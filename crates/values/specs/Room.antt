@@ -2,7 +2,7 @@
 -- number on the way, for a row.
 use mathlib.Core.Bool.{false}
 use mathlib.Core.Path.{_≡_}
-use Prim.Native.Nat.{ℕ, _+_, _*_, _/_, _^_, _≤_}
+use Prim.Native.Nat.{ℕ, _+_, _*_, _^_, _≤_}
 use Rattle.values.specs.declared.rows.Row.{Row}
 
 -- The highest degree whose power and whose Newton step the code has

@@ -1,13 +1,7 @@
 -- `entries::slope_sum` meets its contract: the slopes of a segment are small.
-use mathlib.Core.Path.{_≡_}
-use Prim.Native.Nat.{ℕ, _+_, _^_, _≤_, _<_}
 use borrow.Author.Needs.{needs}
 use native.Mathlib.Omega.{arith}
-use Rattle.values.specs.declared.rows.Row.{Row}
-use Rattle.values.specs.declared.slopes.SlopeBounds.{SlopeBounds}
-use Rattle.values.specs.Room.{productBound}
-use Rattle.values.specs.Inputs.{SlopeInput}
-use Rattle.values.specs.Slopes.{segmentStart, segmentEnd, hi, lo, slopeSum}
+use Rattle.values.specs.Slopes.{slopeSum}
 use Rattle.values.proofs.Bounds.{slopes-small}
 use Rattle.entries.proofs.slope_sum.Statement.{statement}
 use Rattle.entries.proofs.slope_sum.Tie as tie

@@ -1,6 +1,6 @@
 -- `general::digit_count` meets its contract: leading zeros and digits make 64.
 use mathlib.Core.Path.{_≡_}
-use Prim.Native.Nat.{ℕ, _+_, _-_, _^_, _≤_, _<_}
+use Prim.Native.Nat.{ℕ, _-_, _^_, _<_}
 use native.Mathlib.Omega.{arith}
 use lib.Count.{leadingZeros, leading-le, leading-length}
 use Rattle.general.specs.Digits.{Digits}

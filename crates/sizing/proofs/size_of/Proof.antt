@@ -1,6 +1,6 @@
 -- `sizing::size_of` meets its contract: after n turns `bits` is the size of the initial table and the first n, and `position` is p_n.
 use mathlib.Core.Path.{_≡_, refl, sym, ap, ap₂, _∙_}
-use Prim.Native.Nat.{ℕ, _+_, _*_, _-_, _≤_, _<_}
+use Prim.Native.Nat.{ℕ, _+_, _*_, _-_, _≤_}
 use native.Mathlib.Omega.{arith}
 use Rattle.general.specs.Below.{sumBelow}
 use Rattle.general.proofs.Sums.{sum-next}

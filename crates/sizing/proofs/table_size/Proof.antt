@@ -1,5 +1,4 @@
 -- `sizing::table_size` meets its contract: as many offsets as the table stores, each of its bits.
-use mathlib.Core.Path.{_≡_}
 use borrow.Author.Needs.{needs}
 use native.Mathlib.Omega.{arith}
 use Rattle.design.proofs.LegalLaws.{limits}

@@ -2,18 +2,18 @@
 -- with the largest spread.
 use mathlib.Core.Path.{_≡_}
 use Prim.Native.Nat.{ℕ, _-_, _*_, _^_}
+use borrow.Author.Needs.{needs}
 use native.Mathlib.Nat.{lt-trans, lt-of-le-of-lt}
 use native.Mathlib.Omega.{arith}
 use lib.Dec.{lit<}
 use lib.Pow.{pow-pos}
-use Rattle.values.specs.declared.rows.Row.{Row}
 use Rattle.values.specs.declared.slopes.Steepest.{Steepest}
 use Rattle.values.specs.Slopes.{largestSpread, largestSum}
 use Rattle.design.specs.declared.Pair.{Pair}
 use Rattle.design.specs.declared.Design.{Design}
-use Rattle.design.specs.Cut.{row, fractionBits, pairAt, position}
+use Rattle.design.specs.Cut.{aOf, row, fractionBits, pairAt, position}
 use Rattle.design.specs.Budget.{reach, tableBudget}
-use Rattle.design.proofs.LegalLaws.{limits, slopewise, bits-end}
+use Rattle.design.proofs.LegalLaws.{limits, bits-end}
 use Rattle.design.proofs.BudgetLaws.{reach-small, table-budget-small}
 use Rattle.design.proofs.measure.table_budget.Statement.{statement}
 use Rattle.design.proofs.measure.table_budget.Tie as tie
@@ -25,65 +25,52 @@ module _ (d : Design) (i at high low : ℕ) (pair : Pair) (place : at ≡ positi
   unfolding reach
   reach-is = rw (high-is, low-is, place, pair-is)
 
-  budget-is : (slopes : Steepest) (r : Row) → r ≡ row d
+  budget-is : (slopes : Steepest)
       → slopes ≡ record {
-        spread = largestSpread r (d .w) (fractionBits d) (pair .a);
-        sum = largestSum r (d .w) (fractionBits d) (pair .a);
+        spread = largestSpread (row d) (d .w) (fractionBits d) (aOf d i);
+        sum = largestSum (row d) (d .w) (fractionBits d) (aOf d i);
       }
       → (high - 1) * low * slopes .spread ≡ tableBudget d i
   unfolding tableBudget
-  budget-is slopes r row-is slopes-are = rw (reach-is, slopes-are, row-is, pair-is)
+  budget-is slopes slopes-are = rw (reach-is, slopes-are)
 
 pair-at-requires : tie.Need-pair-at-requires
 pair-at-requires c κs = (c .pre .1 .0, limits _ (c .pre .0) .m-high)
 
-row-of-requires : tie.Need-row-of-requires
-row-of-requires c κs = limits _ (c .before .pre .0) .widths .kind-known
-
-add-steepest-of : tie.Need-add-steepest-of
-add-steepest-of c = omega (arith, limits _ (c .before .before .before .pre .0) .widths)
-
-steepest-of-requires : tie.Need-steepest-of-requires
-steepest-of-requires c κs =
-    let e = c .before .before .before .pre in
-    rw (c .before .row-of .ensures, c .before .before .pair-at .ensures) (slopewise _ (limits _ (e .0)) _ (e .1 .0))
-
 pow2-requires : tie.Need-pow2-requires
 pow2-requires c κs =
-    let e = c .before .before .before .before .pre in
-    rw (c .before .before .before .pair-at .ensures) (omega (arith, limits _ (e .0) .table _ (e .1 .0)))
+    let e = c .before .before .pre in
+    rw (c .before .pair-at .ensures) (omega (arith, limits _ (e .0) .table _ (e .1 .0)))
 
 sub-result : tie.Need-sub-result
 sub-result c = rw (c .pow2 .ensures) (pow-pos _)
 
 pow2-requires-2 : tie.Need-pow2-requires-2
 pow2-requires-2 c κs =
-    let e = c .before .before .before .before .before .pre in
+    let e = c .before .before .before .pre in
     omega (arith, e .1 .1, bits-end _ (limits _ (e .0)) _ (e .1 .0), limits _ (e .0) .widths)
 
 -- the product of this call
-product : (c : tie.After-pow22) →
-    let b = c .before .before .before .before in
-    (c .before .pow2 .result - 1) * c .pow22 .result * c .before .before .steepest-of .result .spread
-    ≡ tableBudget (b .before .before .args .d) (b .before .before .args .i)
+product : (c : tie.After-pow22) → let s = c .before .before .before .before in
+    (c .before .pow2 .result - 1) * c .pow22 .result * c .before .before .slopes-of .result .spread ≡ tableBudget (s .args .d) (s .args .i)
 product c =
-    let b = c .before .before .before .before in
-    budget-is _ _ _ _ _ _ (b .before .before .pre .1 .1) (b .before .pair-at .ensures) (c .before .pow2 .ensures)
-    (c .pow22 .ensures) _ _ (b .row-of .ensures) (c .before .before .steepest-of .ensures)
+    let slopes = c .before .before in
+    budget-is _ _ _ _ _ _ (slopes .before .before .pre .1 .1) (slopes .before .pair-at .ensures) (c .before .pow2 .ensures)
+    (c .pow22 .ensures) _ (slopes .slopes-of .ensures)
 
 returns : tie.Need-returns
 returns c = product (c .before)
 
 mul-result : tie.Need-mul-result
 mul-result c =
-    let b = c .before .before .before .before in
-    let e = b .before .before .pre in
-    rw (reach-is _ _ _ _ _ _ (e .1 .1) (b .before .pair-at .ensures) (c .before .pow2 .ensures) (c .pow22 .ensures))
+    let pair = c .before .before .before in
+    let e = pair .before .pre in
+    rw (reach-is _ _ _ _ _ _ (e .1 .1) (pair .pair-at .ensures) (c .before .pow2 .ensures) (c .pow22 .ensures))
     (record { fits = lt-trans (reach-small _ (limits _ (e .0)) _ (e .1 .0)) (lit< tt) })
 
 mul-result-2 : tie.Need-mul-result-2
 mul-result-2 c =
-    let e = c .before .before .before .before .before .before .before .pre in
+    let e = c .before .before .before .before .before .pre in
     rw (product (c .before)) (record { fits = lt-of-le-of-lt (table-budget-small _ (limits _ (e .0)) _ (e .1 .0)) (lit< tt) })
 
 pub table-budget-spec : {M : Type 1} → statement M
@@ -91,9 +78,7 @@ table-budget-spec =
     tie.close
     (tie.spec
     pair-at-requires
-    row-of-requires
-    add-steepest-of
-    steepest-of-requires
+    (λ c κs. search needs)
     pow2-requires
     sub-result
     pow2-requires-2

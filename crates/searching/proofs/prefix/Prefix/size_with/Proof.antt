@@ -12,7 +12,6 @@ use Rattle.design.specs.Cut.{row, fractionBits, position}
 use Rattle.entries.specs.Inputs.{OffsetInput}
 use Rattle.sizing.specs.Widest.{widestOffset, bitsFor}
 use Rattle.sizing.proofs.SizeLaws.{tableBound, size-by-small}
-use Rattle.sizing.proofs.GrowthLaws.{sizeBy}
 use Rattle.searching.specs.declared.prefix.Prefix.{Prefix}
 use Rattle.searching.specs.Designs.{withPair}
 use Rattle.searching.specs.Search.{sizeBefore, Fitting, Next, SlopesFor}
