@@ -78,7 +78,9 @@ fn time_design(d: &Design) {
     print_row("count", count);
     print_ratios("count over check", count, check);
     print_row("fill", time_fill(&mut set));
-    print_row("budget", time_budget(&set));
+    print_row("budget", time_measure(&set, library::budget, rust::budget));
+    let size = time_measure(&set, library::size, rust::size);
+    print_row("size, in Rust from every offset", size);
     time_storage(&mut set);
 }
 
@@ -262,10 +264,15 @@ fn time_fill(set: &mut Set) -> [f64; 2] {
     ])
 }
 
-fn time_budget(set: &Set) -> [f64; 2] {
+/// A number of the design, its budget or its size.
+fn time_measure(
+    set: &Set,
+    by_library: impl Fn(&Design) -> Result<u64, u8>,
+    by_rust: impl Fn(&rust::Design) -> Result<u64, u8>,
+) -> [f64; 2] {
     medians([
-        &mut || ignore(black_box(library::budget(black_box(&set.d)))),
-        &mut || ignore(black_box(rust::budget(black_box(&set.same)))),
+        &mut || ignore(black_box(by_library(black_box(&set.d)))),
+        &mut || ignore(black_box(by_rust(black_box(&set.same)))),
     ])
 }
 

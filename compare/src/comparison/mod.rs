@@ -61,7 +61,7 @@ const PARTS: [(&str, Part); 29] = [
         Comparison::smallest_cuts_of_all_widths,
     ),
     ("searches refused", Comparison::searches_refused),
-    ("sizes of all designs", Comparison::sizes_of_all),
+    ("sizes of all narrow designs", Comparison::sizes_of_narrow),
     ("sizes of all widths", Comparison::sizes_of_all_widths),
 ];
 

@@ -20,8 +20,8 @@ fn greatest_offsets(d: &Design) -> Vec<u32> {
 }
 
 impl Comparison {
-    /// Every legal design of few bits, admitted or not.
-    pub fn sizes_of_all(&mut self) {
+    /// Every legal design with words of 6 or 7 bits, admitted or not.
+    pub fn sizes_of_narrow(&mut self) {
         for w in 6..=7 {
             for kind in 0..=4 {
                 for q in 6..=16 {
@@ -65,8 +65,7 @@ impl Comparison {
     fn note_widths(&mut self, greatest: &[u32]) {
         let widths: Vec<u32> = greatest.iter().map(|t| 33 - t.leading_zeros()).collect();
         for (t, width) in greatest.iter().zip(&widths) {
-            let s = if *width == 1 { "" } else { "s" };
-            self.note_size(&format!("table of {width} bit{s}"));
+            self.note_size(&format!("table of width {width}"));
             if *t > 1 && t.is_power_of_two() {
                 self.note_size("greatest offset just too wide for a bit less");
             }

@@ -2,7 +2,7 @@
 
 use super::calls::Search;
 use super::Comparison;
-use crate::wide::reference::{quick_smallest, smallest};
+use crate::wide::reference::{quick_smallest, size, smallest};
 
 /// The version that tries every design, and the quick one.
 const SEARCHES: [(&str, Search); 2] = [("by trial", smallest), ("by search", quick_smallest)];
@@ -52,11 +52,13 @@ impl Comparison {
         }
     }
 
-    /// The smallest cut, and its legality, budget and size.
+    /// The smallest cut, and its legality, budget and size. The bits that both searches tell are
+    /// the size of the tables when they are filled.
     fn smallest_cut(&mut self, (name, search): (&str, Search), kind: u32, w: u32, q: u32) {
         match self.calls.smallest(search, kind, w, q) {
-            Ok((d, _)) => {
+            Ok((d, bits)) => {
                 self.calls.design(&d);
+                assert_eq!(size(&d), Ok(bits), "{d:?}");
                 self.note_cut(&format!("{name}: kind {kind}"));
                 self.note_cut(&format!("{name}: g {}", d.g));
                 self.note_cut(&format!("{name}: m {}", d.m));

@@ -29,7 +29,7 @@ pub fn quick_smallest(kind: u32, w: u32, q: u32) -> Result<(Design, u64), u8> {
         pairs: [(0, 0); 4],
     };
     let mut search = Search {
-        slopes: [Slopes::default(); MOST_A + 1],
+        largest: [Largest::default(); MOST_A + 1],
         limit: 0,
         least_spread: 0,
         design,
@@ -45,14 +45,21 @@ pub fn quick_smallest(kind: u32, w: u32, q: u32) -> Result<(Design, u64), u8> {
 
 /// The largest Hi - Lo and the largest Hi + Lo of all segments of one a.
 #[derive(Clone, Copy, Default)]
-struct Slopes {
+struct Largest {
     spread: u64,
     sum: u64,
 }
 
-/// The slopes of each a, by a. Each segment begins where one of the shortest begins and ends where
-/// one ends, so all slopes come from these.
-fn all_slopes(function: &Function) -> [Slopes; MOST_A + 1] {
+/// The width of a table's offsets: both T and -1 - T take the bits of T and one more, and the
+/// greatest T is that of |j| = 2^b - 1 and the largest Hi + Lo, which is `sum`.
+pub fn width_of_greatest(sum: u64, b: u32, p: u32) -> u32 {
+    let reach: u64 = ((1 << b) - 1) << p;
+    65 - ((reach * sum) >> 18).leading_zeros()
+}
+
+/// Those of each a, by a. Each segment begins where one of the shortest begins and ends where one
+/// ends, so all slopes come from these.
+fn largest_by_a(function: &Function) -> [Largest; MOST_A + 1] {
     let most = MOST_A.min(function.w as usize - 1);
     let table = Table {
         a: most as u32,
@@ -64,7 +71,7 @@ fn all_slopes(function: &Function) -> [Slopes; MOST_A + 1] {
         let (hi, lo) = slopes(function, &table, number);
         *segment = (fitting(hi), fitting(lo));
     }
-    let mut all = [Slopes::default(); MOST_A + 1];
+    let mut all = [Largest::default(); MOST_A + 1];
     for (a, largest) in all.iter_mut().enumerate().take(most + 1) {
         let length = 1 << (most - a);
         for segment in shortest.chunks_exact(length) {
@@ -78,7 +85,7 @@ fn all_slopes(function: &Function) -> [Slopes; MOST_A + 1] {
 
 struct Search {
     /// By a.
-    slopes: [Slopes; MOST_A + 1],
+    largest: [Largest; MOST_A + 1],
     /// 2^(g+17).
     limit: u64,
     /// The least spread of all a up to alpha.
@@ -93,14 +100,14 @@ struct Search {
 impl Search {
     /// All designs of one g.
     fn designs(&mut self, function: &Function) {
-        self.slopes = all_slopes(function);
+        self.largest = largest_by_a(function);
         self.limit = 1 << (function.g + 17);
         self.design.g = function.g;
         for alpha in 2..=13.min(function.w - 1) {
             let initial = u64::from(function.p + 2) << alpha;
             let low = function.w - alpha;
-            let slopes = self.slopes[1..=MOST_A.min(alpha as usize)].iter();
-            self.least_spread = slopes.map(|slopes| slopes.spread).min().unwrap_or(0);
+            let largest = self.largest[1..=MOST_A.min(alpha as usize)].iter();
+            self.least_spread = largest.map(|of_a| of_a.spread).min().unwrap_or(0);
             for m in low.div_ceil(8)..=4.min(low) {
                 let pairs = [(0, 0); 4];
                 self.design = Design {
@@ -165,17 +172,16 @@ impl Search {
     }
 
     /// A table's bits and its share of the budget, which is D = (2^b - 1)·2^p times the largest
-    /// Hi - Lo. The greatest T is that of the largest Hi + Lo and |j| = 2^b - 1, and both T and
-    /// -1 - T take the bits of T and one more.
+    /// Hi - Lo.
     ///
     /// The bits do not fall with a: the segment with the largest Hi + Lo begins where one of half
     /// its length does, with the same Hi, which is half of that sum or more. The greatest T of the
     /// next a is then no less than half of this one, so that the width loses one bit at the most,
     /// and none if it has only one, while the entries double.
     fn shares(&self, a: u32, b: u32, p: u32) -> (u64, u64) {
-        let Slopes { spread, sum } = self.slopes[a as usize];
+        let Largest { spread, sum } = self.largest[a as usize];
         let d: u64 = ((1 << b) - 1) << p;
-        let width = 65 - ((d * sum) >> 18).leading_zeros();
+        let width = width_of_greatest(sum, b, p);
         (u64::from(width) << (a + b), d * spread)
     }
 }

@@ -3,6 +3,7 @@
 
 use super::design::{Legal, Table};
 use super::function::Function;
+use super::quick_smallest::width_of_greatest;
 use super::size::{holds, width};
 use super::slopes::slopes;
 use super::*;
@@ -1034,19 +1035,17 @@ fn sizes_refused() {
     assert_eq!(size(&Design { g: 7, ..d }), Err(4));
     assert_eq!(size(&with_pair(6, 9)), Err(7));
     assert_eq!(size(&with_pair(2, 9)), Err(8));
-    assert_eq!(size(&with_pair(2, 2)), Err(9));
+    // With three bits for B the budget is above the limit, so it is with four.
+    assert_eq!(size(&with_pair(2, 4)), Err(9));
 }
 
-/// The width of a table by its greatest T alone, which comes with the largest Hi + Lo and
-/// |j| = 2^b - 1.
+/// The width of a table by its greatest T alone.
 fn width_by_greatest(function: &Function, table: &Table) -> u32 {
     let sums = (0..1 << table.a).map(|number| {
         let (hi, lo) = slopes(function, table, number);
         hi + lo
     });
-    let reach: Int = ((1 << table.b) - 1) << table.p;
-    let greatest = (sums.max().unwrap() * reach) >> 18;
-    1 + greatest.checked_ilog2().map_or(0, |log| log + 1)
+    width_of_greatest(fitting(sums.max().unwrap()), table.b, table.p)
 }
 
 /// Every table of legal designs of a w: a is at most alpha, and alpha at least 2.
@@ -1202,7 +1201,7 @@ fn kinds_and_precisions() -> impl Iterator<Item = (u32, u32)> {
     (0..5).flat_map(|kind| (6..=16).map(move |q| (kind, q)))
 }
 
-/// Those of 6 to 8 bits agree where it is looked for 24. With w 11 one table is not enough for
+/// Words of 6 to 8 bits are compared where 24 is looked for. With w 11 one table is not enough for
 /// alpha 2.
 #[test]
 fn both_searches_of_wider_words() {

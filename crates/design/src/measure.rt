@@ -2,7 +2,7 @@
 ghost use mathlib.Core.Path.{_≡_};
 ghost use Prim.Native.Nat.{_≤_, _<_};
 ghost use Rattle.values.specs.Room.{finestUnit};
-ghost use Rattle.values.specs.Slopes.{largestSpread, largestSum};
+ghost use Rattle.values.specs.Slopes.{largestSlopes};
 ghost use Rattle.design.specs.Stored.{offsetCount, offsetTotal};
 ghost use Rattle.design.specs.Cut as Cut;
 ghost use Rattle.design.specs.Legal.{Legal};
@@ -11,21 +11,17 @@ use crate::Design;
 use crate::legal::pair_at;
 use general::pow2;
 use values::rows::row_of;
-use values::slopes::Steepest;
-use values::slopes::steepest_of;
+use values::slopes::LargestSlopes;
+use values::slopes::largest_slopes;
 
 // inner: the largest Hi - Lo and the largest Hi + Lo over the segments of table i of a legal design.
-pub fn slopes_of(d: Design, i: u32) -> Steepest
+pub fn table_slopes(d: Design, i: u32) -> LargestSlopes
     requires { ⌜ Legal d ⌝ }
     requires { ⌜ i < d .m ⌝ }
-    ensures { λ r.
-        ⌜ r ≡ record {
-          spread = largestSpread (Cut.row d) (d .w) (Cut.fractionBits d) (Cut.aOf d i);
-          sum = largestSum (Cut.row d) (d .w) (Cut.fractionBits d) (Cut.aOf d i);
-        } ⌝ }
+    ensures { λ r. ⌜ r ≡ largestSlopes (Cut.row d) (d .w) (Cut.fractionBits d) (Cut.aOf d i) ⌝ }
 {
     let pair = pair_at(d, i);
-    steepest_of(row_of(d.kind), d.w, d.q + d.g, pair.a)
+    largest_slopes(row_of(d.kind), d.w, d.q + d.g, pair.a)
 }
 
 // D_i times the largest Hi - Lo, for table i of a legal design, whose b_i bits begin at p_i.
@@ -35,7 +31,7 @@ fn table_budget(d: Design, i: u32, position: u32) -> u64
     ensures { λ r. ⌜ r ≡ tableBudget d i ⌝ }
 {
     let pair = pair_at(d, i);
-    let slopes = slopes_of(d, i);
+    let slopes = table_slopes(d, i);
     (pow2(pair.b) - 1) * pow2(position) * slopes.spread
 }
 

@@ -1,10 +1,10 @@
 -- How large the entries that the fill writes get, and the numbers that they are made of.
 use mathlib.Core.Path.{_≡_}
 use Prim.Native.Nat.{ℕ, suc, _+_, _-_, _*_, _/_, _^_, _≤_, _<_}
-use native.Mathlib.Nat.{le-refl, le-trans, le-of-lt, lt-of-lt-of-le, mul-le-mul-left, mul-le-mul-right, mul-assoc, pow-suc}
+use native.Mathlib.Nat.{le-trans, le-of-lt, lt-of-lt-of-le, mul-le-mul-left, mul-le-mul-right, mul-assoc, pow-suc}
 use native.Mathlib.Omega.{arith}
-use lib.IntN.{natAbs}
-use lib.Pow.{pow-add, pow-mono, pow-pos, shr-mono}
+use lib.IntN.{pos, natAbs}
+use lib.Pow.{pow-add, pow-mono, shr-mono}
 use Rattle.general.proofs.SignedLaws.{difference-small}
 use Rattle.values.specs.Room.{finestUnit, floorBound, entryBound}
 use Rattle.values.specs.declared.rows.Row.{Row}
@@ -68,24 +68,17 @@ unfolding oddNumber
 odd-small b B B-lt = difference-small (2 * B + 1) (2 ^ b) (omega arith)
 
 module _ (slopes b p size : ℕ) (small : slopes * 2 ^ (b + p) ≤ reachBound) (size-le : size ≤ 2 ^ b) where
-  whole : slopes * size * 2 ^ p ≤ reachBound
-  whole = le-trans (mul-le-mul-right (2 ^ p) (mul-le-mul-left slopes size-le)) (rw (mul-assoc, ← pow-add 2 b p) small)
+  pub product-small : slopes * size * 2 ^ p ≤ reachBound
+  product-small = le-trans (mul-le-mul-right (2 ^ p) (mul-le-mul-left slopes size-le)) (rw (mul-assoc, ← pow-add 2 b p) small)
 
-  -- the product with the size, alone and with 2^p or less
-  pub half-product-small : slopes * size ≤ reachBound
-  half-product-small = omega (arith, whole, mul-le-mul-left (slopes * size) (pow-pos p))
-
-  module _ (unit : ℕ) (unit-le : unit ≤ 2 ^ p) where
-    pub product-small : slopes * size * unit ≤ reachBound
-    product-small = le-trans (mul-le-mul-left (slopes * size) unit-le) whole
-
-    pub quotient-small : slopes * size * unit / 2 ^ 18 ≤ offsetBound
-    quotient-small = omega (arith, shr-mono 18 product-small)
+  pub quotient-small : magnitude slopes p (pos size) ≤ offsetBound
+  unfolding magnitude
+  quotient-small = omega (arith, shr-mono 18 product-small)
 
 pub magnitude-small : (slopes b p B : ℕ) → slopes * 2 ^ (b + p) ≤ reachBound → B < 2 ^ b
     → magnitude slopes p (oddNumber b B) ≤ offsetBound
 unfolding magnitude
-magnitude-small slopes b p B small B-lt = quotient-small slopes b p _ small (odd-small b B B-lt) (2 ^ p) (le-refl _)
+magnitude-small slopes b p B small B-lt = quotient-small slopes b p _ small (odd-small b B B-lt)
 
 -- Hi + Lo of a segment, with 2^(b+p): offsets of as many bits as a design leaves below alpha can be asked for.
 module _ (row : Row) (w P a A b p : ℕ) (fit : SlopeInput row w P a) (A-lt : A < 2 ^ a) (below : b + p + leastInitialBits ≤ w) where

@@ -1,17 +1,17 @@
 // What the fill writes, entry by entry: document 01, "Filling".
 ghost use mathlib.Core.Path.{_≡_};
-ghost use Prim.Native.Nat.{_+_, _^_, _≤_, _<_};
-ghost use lib.IntN.{natAbs};
-ghost use Rattle.values.specs.Room.{floorBound};
+ghost use Prim.Native.Nat.{_*_, _^_, _≤_, _<_};
+ghost use lib.IntN.{pos, natAbs};
+ghost use Rattle.values.specs.Room.{widestWord, floorBound};
 ghost use Rattle.values.specs.Inputs.{InRange, SlopeInput};
 ghost use Rattle.values.specs.Slopes.{slopeSum};
 ghost use Rattle.design.specs.Stored.{initialCount};
 ghost use Rattle.design.specs.Cut as Cut;
 ghost use Rattle.design.specs.Legal.{Legal};
-ghost use Rattle.entries.specs.Entries.{valueAt, initialAt, oddNumber, offsetOf};
+ghost use Rattle.entries.specs.Entries.{valueAt, initialAt, oddNumber, magnitude, offsetOf};
 ghost use Rattle.entries.specs.Signs.{sideOf, signOf, entryBy};
 ghost use Rattle.entries.specs.Meaning.{Meaning};
-ghost use Rattle.entries.specs.Inputs.{WordInput, OffsetInput, offsetBound};
+ghost use Rattle.entries.specs.Inputs.{WordInput, OffsetInput, reachBound, offsetBound};
 use design::Design;
 use general::pow2;
 use values::floor::floor_value;
@@ -95,6 +95,14 @@ fn with_sign(sign: u64, t: u64) -> i32
     (1 - 2 * s) * t as i32 - s
 }
 
+// inner: T, from Hi + Lo of a segment, the size of j and p of the table.
+pub fn magnitude_of(slopes: u64, size: u64, p: u32) -> u64
+    requires { ⌜ (slopes * size * 2 ^ p ≤ reachBound) × (p ≤ widestWord) ⌝ }
+    ensures { λ r. ⌜ r ≡ magnitude slopes p (pos size) ⌝ }
+{
+    slopes * size * pow2(p) / (1 << 18)
+}
+
 // inner: the offset of B = word, from Hi + Lo of its segment, b and p of its table and the function's sign; by arithmetic, with no choice.
 pub fn offset_of(slopes: u64, b: u32, p: u32, rising: bool, word: u64) -> i32
     requires { ⌜ OffsetInput slopes b p ⌝ }
@@ -103,6 +111,6 @@ pub fn offset_of(slopes: u64, b: u32, p: u32, rising: bool, word: u64) -> i32
     ensures { λ r. ⌜ Meaning slopes b p rising word r ⌝ }
 {
     let size = absolute(b, word);
-    let t = slopes * size * pow2(p) / (1 << 18);
+    let t = magnitude_of(slopes, size, p);
     with_sign(sign_of(rising, b, word), t)
 }

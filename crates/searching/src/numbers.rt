@@ -15,7 +15,7 @@ use crate::prefix::Prefix;
 use crate::prefix::bare;
 use crate::prefix::no_design;
 use crate::slopes::least_spread;
-use crate::slopes::slopes_of;
+use crate::slopes::slopes_by_a;
 use design::Design;
 use design::limits::LEAST_INITIAL_BITS;
 use design::limits::MOST_INITIAL_BITS;
@@ -68,7 +68,7 @@ fn each_initial_bits(kind: u32, w: u32, q: u32, g: u32, best: SizedDesign) -> Si
         ⌜ r ≡ bestOf best (forEach leastInitialBits mostInitialBits
         (λ alpha. forEach 1 mostTables (λ m. continued m (Designs.bare kind w q g alpha m) 0))) ⌝ }
 {
-    let slopes = slopes_of(kind, w, q, g);
+    let slopes = slopes_by_a(kind, w, q, g);
     let end = smaller(w, MOST_INITIAL_BITS + 1);
     let mut found = best;
     for alpha in LEAST_INITIAL_BITS..end {

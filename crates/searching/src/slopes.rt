@@ -9,16 +9,17 @@ ghost use Rattle.design.specs.Limits.{mostTableBits};
 ghost use Rattle.searching.specs.Search.{SlopesOf, LeastOf};
 use design::limits::MOST_TABLE_BITS;
 use values::rows::row_of;
-use values::slopes::steepest_of;
+use values::slopes::largest_slopes;
 
-// So many of each: a table has at least one bit of B, so a is below the highest a + b.
+// So many spreads, by a: a table has at least one bit of B, so a is below the highest a + b.
 pub const SPREADS: usize = MOST_TABLE_BITS as usize;
 
+// These, and behind them as many sums.
 pub const SLOPES: usize = 2 * SPREADS;
 
-// Both for kind and widths that pass: the largest Hi - Lo at place a, the largest Hi + Lo so many places behind it. Those of a at w and
-// beyond are left 0.
-pub fn slopes_of(kind: u32, w: u32, q: u32, g: u32) -> [u64; SLOPES]
+// Both for kind and widths that pass: the largest Hi - Lo at place a, the largest Hi + Lo behind all of those. Those of a at w and beyond
+// are left 0.
+pub fn slopes_by_a(kind: u32, w: u32, q: u32, g: u32) -> [u64; SLOPES]
     requires { ⌜ verdict (widthChecks (limitsOf kind) kind w q g) ≡ Verdict.Passed ⌝ }
     ensures { λ r. ⌜ SlopesOf kind w (q + g) r ⌝ }
 {
@@ -26,9 +27,9 @@ pub fn slopes_of(kind: u32, w: u32, q: u32, g: u32) -> [u64; SLOPES]
     let mut slopes = [0u64; SLOPES];
     for a in 1..SPREADS {
         if a < w as usize {
-            let steepest = steepest_of(row, w, q + g, a as u32);
-            slopes[a] = steepest.spread;
-            slopes[SPREADS + a] = steepest.sum;
+            let largest = largest_slopes(row, w, q + g, a as u32);
+            slopes[a] = largest.spread;
+            slopes[SPREADS + a] = largest.sum;
         }
     }
     slopes

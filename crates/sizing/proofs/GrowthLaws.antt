@@ -1,5 +1,5 @@
--- A table's size grows with its b and with its a, at one position. With more segments the largest Hi + Lo may fall, but not below half of it,
--- so an offset loses one bit at most, while there are twice as many.
+-- A table's size grows with its b and with its a, at one position. With more segments the largest Hi + Lo does not fall below half of it, so
+-- an offset loses one bit at most, while there are twice as many.
 use mathlib.Core.Path.{_≡_, sym, ap, _∙_}
 use Prim.Native.Nat.{ℕ, suc, _+_, _-_, _*_, _/_, _^_, _≤_, _<_}
 use native.Mathlib.Nat.{le-trans, mul-assoc, mul-le-mul, mul-le-mul-left, mul-le-mul-right, pow-suc}
@@ -11,6 +11,7 @@ use Rattle.values.specs.declared.rows.Row.{Row}
 use Rattle.values.specs.Inputs.{SlopeInput}
 use Rattle.values.specs.Slopes.{segmentStart, slopeSum, largestSum}
 use Rattle.values.proofs.Bounds.{ordered}
+use Rattle.entries.specs.Entries.{magnitude}
 use Rattle.sizing.specs.Widest.{widestOffset, bitsFor}
 use Rattle.sizing.proofs.BitsLaws.{bits-low, bits-mono, bits-double}
 
@@ -36,7 +37,7 @@ sum-half row w P a c fit more within =
 
 -- T grows with the slopes and with b, and with half the slopes it is half, or one less.
 widest-mono : (s b c p : ℕ) → b ≤ c → widestOffset s b p ≤ widestOffset s c p
-unfolding widestOffset
+unfolding magnitude widestOffset
 widest-mono s b c p more =
     shr-mono 18 (mul-le-mul-right (2 ^ p) (mul-le-mul-left s (omega (arith, pow-mono {i = b} {j = c} more))))
 
@@ -44,7 +45,7 @@ halved : (n k : ℕ) → n ≤ 2 * k → n / 2 ^ 18 ≤ 2 * (k / 2 ^ 18) + 1
 halved n k h = omega arith
 
 widest-half : (s t b p : ℕ) → s ≤ 2 * t → widestOffset s b p ≤ 2 * widestOffset t b p + 1
-unfolding widestOffset
+unfolding magnitude widestOffset
 widest-half s t b p h =
     halved (s * (2 ^ b - 1) * 2 ^ p) (t * (2 ^ b - 1) * 2 ^ p)
     (omega (arith, mul-le-mul-right (2 ^ p) (mul-le-mul-right (2 ^ b - 1) h)))

@@ -39,7 +39,7 @@ largest-input row w P a b p fit b-low below =
 -- T is small, and so are its digits.
 pub widest-small : (slopes b p : ℕ) → OffsetInput slopes b p → widestOffset slopes b p ≤ offsetBound
 unfolding widestOffset
-widest-small slopes b p fit = quotient-small slopes b p (2 ^ b - 1) (fit .small) (omega (arith, pow-pos b)) (2 ^ p) (le-refl _)
+widest-small slopes b p fit = quotient-small slopes b p (2 ^ b - 1) (fit .small) (omega (arith, pow-pos b))
 
 pub digits-few : (T count : ℕ) → T ≤ offsetBound → Digits T count → count < mostBits
 digits-few T count small digits =

@@ -18,7 +18,8 @@ use design::legal::pair_at;
 use design::measure::budget_of;
 use design::measure::limit_of;
 use design::measure::offset_count;
-use design::measure::slopes_of;
+use design::measure::table_slopes;
+use entries::magnitude_of;
 use general::digit_count;
 use general::pow2;
 use refusal::Cause;
@@ -30,7 +31,7 @@ pub fn bits_of(slopes: u64, b: u32, p: u32) -> u32
     requires { ⌜ OffsetInput slopes b p ⌝ }
     ensures { λ r. ⌜ r ≡ bitsFor (widestOffset slopes b p) ⌝ }
 {
-    let t = slopes * (pow2(b) - 1) * pow2(p) / (1 << 18);
+    let t = magnitude_of(slopes, pow2(b) - 1, p);
     digit_count(t) + 1
 }
 
@@ -49,7 +50,7 @@ fn offset_bits(d: Design, i: u32, position: u32) -> u32
     ensures { λ r. ⌜ r ≡ offsetBits d i ⌝ }
 {
     let pair = pair_at(d, i);
-    let slopes = slopes_of(d, i);
+    let slopes = table_slopes(d, i);
     bits_of(slopes.sum, pair.b, position)
 }
 

@@ -20,6 +20,7 @@ use Rattle.design.specs.declared.Pair.{Pair}
 use Rattle.design.specs.declared.Design.{Design}
 use Rattle.design.specs.declared.Measured.{Measured}
 use Rattle.design.specs.Legal.{designVerdict}
+use Rattle.design.specs.Budget.{withinLimit}
 use Rattle.design.specs.Answers.{budgetAnswer}
 use Rattle.sizing.specs.Width.{holds, offsetBits}
 use Rattle.sizing.specs.Size.{sizeAnswer}
@@ -92,6 +93,10 @@ of-root-tables w q g alpha =
 
 abbrev root-tables : Design
 root-tables = of-root-tables 8 8 4 4
+
+-- One whose first table has the narrowest offsets
+abbrev narrow-tables : Design
+narrow-tables = of-root-tables 7 6 3 3
 
 -- The table with the largest T: kind 0, w 10, q 16, g 4, alpha 2, m 1, (2,8)
 abbrev largest-offsets : Design
@@ -219,10 +224,11 @@ pub record Worked : Type 0 where
   -- "each table at its own width": 32·15 + 8·5 + 16·6 + 16·7, "728 bits"; a root, 16·14 + 4·3 + 4·4 + 8·7, "308 bits"
   pub own-widths : (sizeAnswer three-tables ≡ Measured.Is 728) × (map (offsetBits three-tables) (0 ∷ 1 ∷ 2 ∷ []) ≡ 5 ∷ 6 ∷ 7 ∷ [])
   pub root-widths : (sizeAnswer root-tables ≡ Measured.Is 308) × (map (offsetBits root-tables) (0 ∷ 1 ∷ 2 ∷ []) ≡ 3 ∷ 4 ∷ 7 ∷ [])
-  -- "at least 1": offsets that are all 0 or -1
-  pub one-bit : offsetBits (of-root-tables 6 6 2 2) 0 ≡ 1
-  -- "the size call refuses the others with 11, after 9": G with (2,3); with (2,2), whose b_0 is not 3, 9
-  pub size-refused : (sizeAnswer (G-with 4 2 3) ≡ Measured.Refused Cause.NotAdmitted) × (sizeAnswer (G-with 4 2 2) ≡ Measured.Refused Cause.CutSum)
+  -- "at least 1": offsets that are all 0 or -1, 8·11 + 4·1 + 4·2 + 8·5
+  pub one-bit : (sizeAnswer narrow-tables ≡ Measured.Is 140) × (map (offsetBits narrow-tables) (0 ∷ 1 ∷ 2 ∷ []) ≡ 1 ∷ 2 ∷ 5 ∷ [])
+  -- "the size call refuses the others with 11, after 9": G with (2,3); with (2,4), whose budget is over the limit, too, and whose b_0 is not 3, 9
+  pub size-refused : (sizeAnswer (G-with 4 2 3) ≡ Measured.Refused Cause.NotAdmitted)
+      × (withinLimit (G-with 4 2 4) ≡ false) × (sizeAnswer (G-with 4 2 4) ≡ Measured.Refused Cause.CutSum)
   -- 15: an empty line, one digit too many, lower case, a wrong sum, 34 digits
   pub unsound : map (λ line. reportOf (ascii line))
       ("" ∷ "010008080405010303DF0" ∷ "010008080405010303df" ∷ "010008080405010303DE" ∷ "0000000000000000000000000000000000" ∷ [])
@@ -393,8 +399,8 @@ worked =
       size-of-G = refl;
       own-widths = (refl, refl);
       root-widths = (refl, refl);
-      one-bit = refl;
-      size-refused = (refl, refl);
+      one-bit = (refl, refl);
+      size-refused = (refl, refl, refl);
       unsound = refl;
       too-short-for-m = refl;
       kind-first = refl;

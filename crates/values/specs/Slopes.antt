@@ -2,6 +2,7 @@
 use Prim.Native.Nat.{ℕ, _+_, _-_, _*_, _/_, _^_}
 use Rattle.general.specs.Below.{largest}
 use Rattle.values.specs.declared.rows.Row.{Row}
+use Rattle.values.specs.declared.slopes.LargestSlopes.{LargestSlopes}
 use Rattle.values.specs.Floor.{floorValue}
 
 -- "from X = s = 2^w + A_i·2^(w-a_i) to X = e = s + 2^(w-a_i) - 1"
@@ -34,3 +35,7 @@ slopeSum row w P a A = hi row w P (segmentStart w a A) + lo row w P (segmentEnd 
 
 unfoldable pub largestSum : Row → ℕ → ℕ → ℕ → ℕ
 largestSum row w P a = largest (2 ^ a) (slopeSum row w P a)
+
+-- Both of these largest
+abbrev pub largestSlopes : Row → ℕ → ℕ → ℕ → LargestSlopes
+largestSlopes row w P a = record { spread = largestSpread row w P a; sum = largestSum row w P a }

@@ -2,7 +2,7 @@
 ghost use mathlib.Core.Path.{_≡_};
 ghost use Prim.Native.Nat.{_+_, _*_, _^_, _<_};
 ghost use Rattle.values.specs.Floor.{floorValue};
-ghost use Rattle.values.specs.Slopes.{segmentStart, segmentEnd, largestSpread, largestSum};
+ghost use Rattle.values.specs.Slopes.{segmentStart, segmentEnd, largestSlopes};
 ghost use Rattle.values.specs.Slopes as Slopes;
 ghost use Rattle.values.specs.Room.{floorBound};
 ghost use Rattle.values.specs.Inputs.{FloorInput, SegmentInput, SlopeInput};
@@ -51,7 +51,7 @@ fn lo(row: Row, w: u32, p: u32, end: u64) -> u64
     floor_count(row, w, p, end) * 65536 / (row.k as u64 * end)
 }
 
-// Hi and Lo of a segment: what the slope on it is at most, and at least.
+// Hi and Lo of a segment: 65536 times the slope on it is at most Hi and at least Lo.
 pub struct SlopeBounds {
     pub hi: u64,
     pub lo: u64,
@@ -73,15 +73,15 @@ pub fn bounds_of(row: Row, w: u32, p: u32, a: u32, segment: u64) -> SlopeBounds
 }
 
 // The largest Hi - Lo and the largest Hi + Lo over the segments of a bits.
-pub struct Steepest {
+pub struct LargestSlopes {
     pub spread: u64,
     pub sum: u64,
 }
 
 // inner: both in one pass; two floor values a segment.
-pub fn steepest_of(row: Row, w: u32, p: u32, a: u32) -> Steepest
+pub fn largest_slopes(row: Row, w: u32, p: u32, a: u32) -> LargestSlopes
     requires { ⌜ SlopeInput row w p a ⌝ }
-    ensures { λ r. ⌜ r ≡ record { spread = largestSpread row w p a; sum = largestSum row w p a } ⌝ }
+    ensures { λ r. ⌜ r ≡ largestSlopes row w p a ⌝ }
 {
     let mut spread = 0;
     let mut sum = 0;
@@ -90,5 +90,5 @@ pub fn steepest_of(row: Row, w: u32, p: u32, a: u32) -> Steepest
         spread = larger(spread, here.hi - here.lo);
         sum = larger(sum, here.hi + here.lo);
     }
-    Steepest { spread, sum }
+    LargestSlopes { spread, sum }
 }

@@ -1,27 +1,25 @@
 -- `entries::offset_of` meets its contract: |j| is at most 2^b, so the product and T are small. What the entry means is
 -- a law of its definition.
 use mathlib.Core.Path.{_≡_, ap₂, _∙_}
-use Prim.Native.Nat.{_*_, _/_, _^_, _≤_}
+use Prim.Native.Nat.{_≤_, _^_}
 use native.Mathlib.Omega.{arith}
-use borrow.Author.Needs.{needs}
-use lib.Pow.{pow-pos}
 use mir.Syntax.{w32}
 use mir.Val.{toZ, ofZ}
 use mir.ValLaws.{toZ-ofZ}
 use Rattle.entries.specs.Entries.{oddNumber, magnitude, offsetOf}
 use Rattle.entries.specs.Inputs.{WordInput}
 use Rattle.entries.specs.Signs.{entryBy}
-use Rattle.entries.proofs.EntryBounds.{odd-small, half-product-small, product-small, quotient-small}
+use Rattle.entries.proofs.EntryBounds.{odd-small, product-small, magnitude-small}
 use Rattle.entries.proofs.MeaningLaws.{offset-means}
 use Rattle.entries.proofs.SignLaws.{sign-small, signed-by}
 use Rattle.entries.proofs.offset_of.Statement.{statement}
 use Rattle.entries.proofs.offset_of.Tie as tie
 
 -- T, and the result as its bits are read
-t-is : (c : tie.After-pow2) → let a = c .before .before .args in
-    a .slopes * c .before .absolute .result * c .pow2 .result / 2 ^ 18 ≡ magnitude (a .slopes) (a .p) (oddNumber (a .b) (a .word))
+t-is : (c : tie.After-magnitude-of) → let a = c .before .before .args in
+    c .magnitude-of .result ≡ magnitude (a .slopes) (a .p) (oddNumber (a .b) (a .word))
 unfolding magnitude
-t-is c = rw (c .pow2 .ensures, c .before .absolute .ensures)
+t-is c = c .magnitude-of .ensures ∙ rw (c .before .absolute .ensures)
 
 offset-is : (c : tie.After-with-sign) → let a = c .before .before .before .before .args in
     toZ w32 (ofZ w32 (c .with-sign .result)) ≡ offsetOf (a .slopes) (a .b) (a .p) (a .rising) (a .word)
@@ -48,31 +46,17 @@ sign-of-requires c κs = word-input (c .before .before)
 size-le : (c : tie.After-absolute) → c .absolute .result ≤ 2 ^ c .before .args .b
 size-le c = rw (c .absolute .ensures) (odd-small _ _ (c .before .pre .1))
 
-mul-t : tie.Need-mul-t
-mul-t c = omega (arith, half-product-small _ _ _ _ (c .before .pre .0 .small) (size-le c))
-
-unit-le : (c : tie.After-pow2) → c .pow2 .result ≤ 2 ^ c .before .before .args .p
-unit-le c = omega (arith, pow-pos (c .before .before .args .p))
-
-mul-t-2 : tie.Need-mul-t-2
-mul-t-2 c = omega (arith, product-small _ _ _ _ (c .before .before .pre .0 .small) (size-le (c .before)) _ (unit-le c))
+magnitude-of-requires : tie.Need-magnitude-of-requires
+magnitude-of-requires c κs =
+    let fit = c .before .pre .0 in
+    (product-small _ _ _ _ (fit .small) (size-le c), omega (arith, fit .bits))
 
 with-sign-requires : tie.Need-with-sign-requires
 with-sign-requires c κs =
     let p = c .before in (
       rw (c .sign-of .ensures) (sign-small _ _),
-      quotient-small _ _ _ _ (p .before .before .pre .0 .small) (size-le (p .before)) _ (unit-le p),
+      rw (t-is p) (magnitude-small _ _ _ _ (p .before .before .pre .0 .small) (p .before .before .pre .1)),
     )
 
 pub offset-of-spec : {M : Type 1} → statement M
-offset-of-spec =
-    tie.close
-    (tie.spec
-    absolute-requires
-    mul-t
-    (λ c κs. search needs)
-    mul-t-2
-    (λ c. search needs)
-    sign-of-requires
-    with-sign-requires
-    returns)
+offset-of-spec = tie.close (tie.spec absolute-requires magnitude-of-requires sign-of-requires with-sign-requires returns)

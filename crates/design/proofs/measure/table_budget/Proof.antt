@@ -7,8 +7,8 @@ use native.Mathlib.Nat.{lt-trans, lt-of-le-of-lt}
 use native.Mathlib.Omega.{arith}
 use lib.Dec.{lit<}
 use lib.Pow.{pow-pos}
-use Rattle.values.specs.declared.slopes.Steepest.{Steepest}
-use Rattle.values.specs.Slopes.{largestSpread, largestSum}
+use Rattle.values.specs.declared.slopes.LargestSlopes.{LargestSlopes}
+use Rattle.values.specs.Slopes.{largestSlopes}
 use Rattle.design.specs.declared.Pair.{Pair}
 use Rattle.design.specs.declared.Design.{Design}
 use Rattle.design.specs.Cut.{aOf, row, fractionBits, pairAt, position}
@@ -25,12 +25,8 @@ module _ (d : Design) (i at high low : ℕ) (pair : Pair) (place : at ≡ positi
   unfolding reach
   reach-is = rw (high-is, low-is, place, pair-is)
 
-  budget-is : (slopes : Steepest)
-      → slopes ≡ record {
-        spread = largestSpread (row d) (d .w) (fractionBits d) (aOf d i);
-        sum = largestSum (row d) (d .w) (fractionBits d) (aOf d i);
-      }
-      → (high - 1) * low * slopes .spread ≡ tableBudget d i
+  budget-is : (slopes : LargestSlopes)
+      → slopes ≡ largestSlopes (row d) (d .w) (fractionBits d) (aOf d i) → (high - 1) * low * slopes .spread ≡ tableBudget d i
   unfolding tableBudget
   budget-is slopes slopes-are = rw (reach-is, slopes-are)
 
@@ -52,11 +48,11 @@ pow2-requires-2 c κs =
 
 -- the product of this call
 product : (c : tie.After-pow22) → let s = c .before .before .before .before in
-    (c .before .pow2 .result - 1) * c .pow22 .result * c .before .before .slopes-of .result .spread ≡ tableBudget (s .args .d) (s .args .i)
+    (c .before .pow2 .result - 1) * c .pow22 .result * c .before .before .table-slopes .result .spread ≡ tableBudget (s .args .d) (s .args .i)
 product c =
     let slopes = c .before .before in
     budget-is _ _ _ _ _ _ (slopes .before .before .pre .1 .1) (slopes .before .pair-at .ensures) (c .before .pow2 .ensures)
-    (c .pow22 .ensures) _ (slopes .slopes-of .ensures)
+    (c .pow22 .ensures) _ (slopes .table-slopes .ensures)
 
 returns : tie.Need-returns
 returns c = product (c .before)

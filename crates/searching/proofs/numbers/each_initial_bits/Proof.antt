@@ -79,11 +79,11 @@ loop-again c =
     turn _ _ _ _ _ (smaller .before .before .pre) (smaller .smaller .ensures) _ (loop .before .loop .inv .low) (loop .loop-test .taken) _
     (c .before .bare .ensures) _ _ _ _ (loop .before .loop .inv) (c .each-table-count .ensures)
 
-slopes-of-requires : tie.Need-slopes-of-requires Inv-loop μ-loop
-slopes-of-requires c κs = c .pre
+slopes-by-a-requires : tie.Need-slopes-by-a-requires Inv-loop μ-loop
+slopes-by-a-requires c κs = c .pre
 
 loop-holds : tie.Need-loop-holds Inv-loop μ-loop
-loop-holds c = begin _ _ _ _ _ (c .before .before .pre) (c .smaller .ensures) _ _ (c .before .slopes-of .ensures)
+loop-holds c = begin _ _ _ _ _ (c .before .before .pre) (c .smaller .ensures) _ _ (c .before .slopes-by-a .ensures)
 
 slice-aggregate-each-table-count : tie.Need-slice-aggregate-each-table-count Inv-loop μ-loop
 slice-aggregate-each-table-count c = sym (c .before .before .loop .inv .known .long)
@@ -112,7 +112,7 @@ each-initial-bits-spec =
     (tie.spec
     Inv-loop
     μ-loop
-    slopes-of-requires
+    slopes-by-a-requires
     (λ c. search needs)
     (λ c κs. search needs)
     loop-holds

@@ -1,4 +1,4 @@
--- `searching::slopes::slopes_of` meets its contract: after the turn of a, both numbers of each up to a are known.
+-- `searching::slopes::slopes_by_a` meets its contract: after the turn of a, both numbers of each up to a are known.
 use mathlib.Core.Path.{_≡_, refl, _∙_}
 use mathlib.Core.List.{List}
 use mathlib.Core.Logic.{⊎-elim}
@@ -10,12 +10,12 @@ use lib.Seq.{getD-set-same, getD-set-other}
 use Rattle.general.proofs.Sums.{below-suc}
 use Rattle.values.specs.Rows.{rowOf}
 use Rattle.values.specs.declared.rows.Row.{Row}
-use Rattle.values.specs.declared.slopes.Steepest.{Steepest}
-use Rattle.values.specs.Slopes.{largestSpread, largestSum}
+use Rattle.values.specs.declared.slopes.LargestSlopes.{LargestSlopes}
+use Rattle.values.specs.Slopes.{largestSpread, largestSum, largestSlopes}
 use Rattle.values.proofs.WidthLaws.{Widths, widths-of}
 use Rattle.design.specs.Limits.{mostTableBits}
-use Rattle.searching.proofs.slopes.slopes_of.Statement.{statement}
-use Rattle.searching.proofs.slopes.slopes_of.Tie as tie
+use Rattle.searching.proofs.slopes.slopes_by_a.Statement.{statement}
+use Rattle.searching.proofs.slopes.slopes_by_a.Tie as tie
 
 -- both of each k below a
 record Known (kind w P : ℕ) (row : Row) (slopes : List ℕ) (a : ℕ) : Type 0 where
@@ -28,25 +28,25 @@ record Known (kind w P : ℕ) (row : Row) (slopes : List ℕ) (a : ℕ) : Type 0
 
 -- one more, if it is asked for
 module _ {kind w P : ℕ} {row : Row} {slopes : List ℕ} {a : ℕ} (known : Known kind w P row slopes a) (below : a < mostTableBits) where
-  one-more : (steepest : Steepest) → steepest ≡ record { spread = largestSpread row w P a; sum = largestSum row w P a }
-      → Known kind w P row (set (set slopes a (steepest .spread)) (mostTableBits + a) (steepest .sum)) (a + 1)
-  one-more steepest is =
-      let spread = steepest .spread in
+  one-more : (largest : LargestSlopes) → largest ≡ largestSlopes row w P a
+      → Known kind w P row (set (set slopes a (largest .spread)) (mostTableBits + a) (largest .sum)) (a + 1)
+  one-more largest is =
+      let spread = largest .spread in
       let first = set slopes a spread in
       let long : length first ≡ mostTableBits + mostTableBits = length-set slopes a spread ∙ known .long in
-      let second = set first (mostTableBits + a) (steepest .sum) in
+      let second = set first (mostTableBits + a) (largest .sum) in
       record {
         row-is = known .row-is;
-        long = length-set first (mostTableBits + a) (steepest .sum) ∙ long;
+        long = length-set first (mostTableBits + a) (largest .sum) ∙ long;
         low = omega arith;
         high = omega arith;
-        spread-at = λ k one before asked. getD-set-other first (mostTableBits + a) k (steepest .sum) 0 (omega arith)
+        spread-at = λ k one before asked. getD-set-other first (mostTableBits + a) k (largest .sum) 0 (omega arith)
             ∙ below-suc (rw add-one at before)
             (λ here. rw here (getD-set-same slopes a spread 0 (omega (arith, known .long)) ∙ rw (is, known .row-is)))
             (λ earlier. getD-set-other slopes a k spread 0 (omega arith) ∙ known .spread-at k one earlier asked);
         sum-at = λ k one before asked. below-suc (rw add-one at before)
-            (λ here. rw here (getD-set-same first (mostTableBits + a) (steepest .sum) 0 (omega (arith, long)) ∙ rw (is, known .row-is)))
-            (λ earlier. getD-set-other first (mostTableBits + a) (mostTableBits + k) (steepest .sum) 0 (omega arith)
+            (λ here. rw here (getD-set-same first (mostTableBits + a) (largest .sum) 0 (omega (arith, long)) ∙ rw (is, known .row-is)))
+            (λ earlier. getD-set-other first (mostTableBits + a) (mostTableBits + k) (largest .sum) 0 (omega arith)
             ∙ getD-set-other slopes a (mostTableBits + k) spread 0 (omega arith) ∙ known .sum-at k one earlier asked);
       }
 
@@ -100,14 +100,14 @@ loop-holds c =
       sum-at = λ k one before asked. absurd (omega arith);
     }
 
-add-steepest-of : tie.Need-add-steepest-of Inv-loop μ-loop
-add-steepest-of c = omega (arith, passed (c .before .before .before .before) .room .s-small)
+add-largest-slopes : tie.Need-add-largest-slopes Inv-loop μ-loop
+add-largest-slopes c = omega (arith, passed (c .before .before .before .before) .room .s-small)
 
-cast-steepest-of : tie.Need-cast-steepest-of Inv-loop μ-loop
-cast-steepest-of c = omega arith
+cast-largest-slopes : tie.Need-cast-largest-slopes Inv-loop μ-loop
+cast-largest-slopes c = omega arith
 
-steepest-of-requires : tie.Need-steepest-of-requires Inv-loop μ-loop
-steepest-of-requires c κs =
+largest-slopes-requires : tie.Need-largest-slopes-requires Inv-loop μ-loop
+largest-slopes-requires c κs =
     let w = passed (c .before .before .before .before) in
     rw (c .before .before .loop .inv .row-is) (record { lawful = w .lawful; room = w .room; a-small = omega arith })
 
@@ -132,17 +132,17 @@ add-a c = omega arith
 loop-less : tie.Need-loop-less Inv-loop μ-loop
 loop-less c = omega arith
 
-pub slopes-of-spec : {M : Type 1} → statement M
-slopes-of-spec =
+pub slopes-by-a-spec : {M : Type 1} → statement M
+slopes-by-a-spec =
     tie.close
     (tie.spec
     Inv-loop
     μ-loop
     row-of-requires
     loop-holds
-    add-steepest-of
-    cast-steepest-of
-    steepest-of-requires
+    add-largest-slopes
+    cast-largest-slopes
+    largest-slopes-requires
     mul-slopes
     array-write-slopes
     add-slopes

@@ -1,4 +1,4 @@
--- `values::slopes::steepest_of` meets its contract: after n turns both numbers are the largest over the first n segments.
+-- `values::slopes::largest_slopes` meets its contract: after n turns both numbers are the largest over the first n segments.
 use mathlib.Core.Path.{_≡_, refl, sym, ap₂, _∙_}
 use borrow.Author.Needs.{needs}
 use Prim.Native.Nat.{ℕ, _+_, _-_, _^_, _≤_, _<_, max}
@@ -12,8 +12,8 @@ use Rattle.values.specs.Room.{widestWord, wordBound}
 use Rattle.values.specs.Inputs.{SlopeInput}
 use Rattle.values.specs.Slopes.{segmentStart, segmentEnd, hi, lo, spread, largestSpread, slopeSum, largestSum}
 use Rattle.values.proofs.Bounds.{ordered, slopes-small}
-use Rattle.values.proofs.slopes.steepest_of.Statement.{statement}
-use Rattle.values.proofs.slopes.steepest_of.Tie as tie
+use Rattle.values.proofs.slopes.largest_slopes.Statement.{statement}
+use Rattle.values.proofs.slopes.largest_slopes.Tie as tie
 
 record Inv (row : Row) (w P a end most sum segment : ℕ) : Type 0 where
   spread-is : most ≡ largest segment (spread row w P a)
@@ -97,8 +97,8 @@ returns c =
     let e : c .before .loop .segment ≡ 2 ^ c .before .before .before .args .a = omega arith in
     rw (inv .spread-is, inv .sum-is, e)
 
-pub steepest-of-spec : {M : Type 1} → statement M
-steepest-of-spec =
+pub largest-slopes-spec : {M : Type 1} → statement M
+largest-slopes-spec =
     tie.close
     (tie.spec
     Inv-loop
