@@ -25,7 +25,6 @@ use checking::Checked;
 use checking::check;
 use counting::Counted;
 use counting::count;
-use design::Design;
 use design::Measured;
 use design_numbers::design_of;
 use design_numbers::put_design;

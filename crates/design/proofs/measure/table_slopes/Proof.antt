@@ -1,5 +1,4 @@
 -- `design::measure::table_slopes` meets its contract.
-use mathlib.Core.Path.{_≡_}
 use native.Mathlib.Omega.{arith}
 use Rattle.design.proofs.LegalLaws.{limits, slopewise}
 use Rattle.design.proofs.measure.table_slopes.Statement.{statement}
