@@ -1,8 +1,9 @@
 -- `entries::offset_of` meets its contract: |j| is at most 2^b, so the product and T are small. What the entry means is
 -- a law of its definition.
-use mathlib.Core.Path.{_≡_, ap₂, _∙_}
+use mathlib.Core.Path.{_≡_, ap, ap₂, _∙_}
 use Prim.Native.Nat.{_≤_, _^_}
 use native.Mathlib.Omega.{arith}
+use lib.IntN.{pos}
 use mir.Syntax.{w32}
 use mir.Val.{toZ, ofZ}
 use mir.ValLaws.{toZ-ofZ}
@@ -19,7 +20,9 @@ use Rattle.entries.proofs.offset_of.Tie as tie
 t-is : (c : tie.After-magnitude-of) → let a = c .before .before .args in
     c .magnitude-of .result ≡ magnitude (a .slopes) (a .p) (oddNumber (a .b) (a .word))
 unfolding magnitude
-t-is c = c .magnitude-of .ensures ∙ rw (c .before .absolute .ensures)
+t-is c =
+    let a = c .before .before .args in
+    c .magnitude-of .ensures ∙ ap (λ n. magnitude (a .slopes) (a .p) (pos n)) (c .before .absolute .ensures)
 
 offset-is : (c : tie.After-with-sign) → let a = c .before .before .before .before .args in
     toZ w32 (ofZ w32 (c .with-sign .result)) ≡ offsetOf (a .slopes) (a .b) (a .p) (a .rising) (a .word)
