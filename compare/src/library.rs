@@ -1,10 +1,18 @@
 //! The C boundary: the proved library's functions under the signatures of the reference.
 
-use crate::wide::reference::{Checked, Counts, Design, HexReading};
+use crate::wide::reference::{Checked, Counts, Design, HexReading, Value};
 
 mod c {
     extern "C" {
-        pub fn dorykleth_value(kind: u32, w: u32, q: u32, g: u32, x: u32, value: *mut i64) -> u8;
+        pub fn dorykleth_value(
+            kind: u32,
+            w: u32,
+            q: u32,
+            g: u32,
+            x: u32,
+            units: *mut i64,
+            whole: *mut bool,
+        ) -> u8;
         pub fn dorykleth_budget(design: *const u32, budget: *mut u64) -> u8;
         pub fn dorykleth_size(design: *const u32, bits: *mut u64) -> u8;
         pub fn dorykleth_fill(
@@ -158,11 +166,17 @@ fn settled<T: PartialEq>(refusal: u8, result: T, before: T) -> Result<T, u8> {
     }
 }
 
-pub fn value(kind: u32, w: u32, q: u32, g: u32, x: u32) -> Result<i64, u8> {
-    let mut value = UNTOUCHED as i64;
-    // SAFETY: the pointer is to a live variable of its type.
-    let refusal = unsafe { c::dorykleth_value(kind, w, q, g, x, &mut value) };
-    settled(refusal, value, UNTOUCHED as i64)
+/// A refused call must leave both variables alone, whatever stands in them.
+pub fn value(kind: u32, w: u32, q: u32, g: u32, x: u32) -> Result<Value, u8> {
+    let before = Value {
+        floor: UNTOUCHED as i64,
+        whole: x % 2 == 1,
+    };
+    let mut value = before;
+    // SAFETY: the pointers are to live variables of their types.
+    let refusal =
+        unsafe { c::dorykleth_value(kind, w, q, g, x, &mut value.floor, &mut value.whole) };
+    settled(refusal, value, before)
 }
 
 /// The budget is refused for the same causes as the design itself.

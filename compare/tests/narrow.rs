@@ -71,10 +71,9 @@ fn values() {
     for kind in 0..=4 {
         for (w, q, g) in [(6, 6, 2), (6, 16, 4), (16, 14, 6), (16, 16, 4), (16, 6, 2)] {
             for x in (0..1 << w).step_by(7) {
-                assert_eq!(
-                    wide::value(kind, w, q, g, x),
-                    narrow::value(kind, w, q, g, x)
-                );
+                let wide = wide::value(kind, w, q, g, x).map(|value| (value.floor, value.whole));
+                let narrow = narrow::value(kind, w, q, g, x);
+                assert_eq!(wide, narrow.map(|value| (value.floor, value.whole)));
             }
         }
     }

@@ -147,7 +147,12 @@ impl Calls {
         let reference = reference::value(kind, w, q, g, x);
         let library = library::value(kind, w, q, g, x);
         let input = || format!("kind {kind}, w {w}, q {q}, g {g}, x {x}\n");
-        let _ = self.same_answer("value", (reference, library), input);
+        let value = self.same_answer("value", (reference, library), input);
+        if value.is_ok_and(|value| value.whole) {
+            let place = if x == 0 { "at x = 0" } else { "elsewhere" };
+            self.tally
+                .note(&format!("value: whole {place}, kind {kind}"));
+        }
     }
 
     /// Legality, budget and size.

@@ -20,7 +20,8 @@ const WITH_HALVES: [(u32, u32, u32); 6] = [
 
 /// The exact value at x in half output units, rounded down, and whether that changed nothing.
 fn half_units(d: &Design, x: u32) -> (i64, bool) {
-    let floor = reference::value(d.kind, d.w, d.q, d.g, x).unwrap_or_default() >> (d.g - 1);
+    let value = reference::value(d.kind, d.w, d.q, d.g, x);
+    let floor = value.map_or(0, |value| value.floor >> (d.g - 1));
     let (n, argument) = (floor as u128, (1u128 << d.w) + u128::from(x));
     let bits = d.q + 1;
     let whole = match d.kind {

@@ -53,7 +53,12 @@ pub const CALLS: [Call; 16] = [
 const PLAIN: [Call; 2] = [call("is_finished", &[0]), call("records_finished", &[0])];
 
 /// Things that must come up, and how often at the least.
-const WANTED: [(&str, u64); 169] = [
+const WANTED: [(&str, u64); 174] = [
+    ("value: whole at x = 0, kind 0", 150),
+    ("value: whole at x = 0, kind 1", 150),
+    ("value: whole at x = 0, kind 3", 150),
+    ("value: whole elsewhere, kind 1", 200),
+    ("value: whole elsewhere, kind 2", 150),
     ("budget equal to the limit", 5),
     ("budget one below the limit", 5),
     ("budget of 2^32 or more", 100),

@@ -1,4 +1,5 @@
-//! "Functions and their exact values": the five kinds, L(X) and what faithful means.
+//! "Functions and their exact values": the five kinds, L(X), what faithful means, and request A7's
+//! whole values.
 
 use super::{fitting, refusal, Int};
 
@@ -91,6 +92,18 @@ impl Function {
             Form::ReciprocalRoot => ((one << (2 * p + w)) / (row.c * x)).isqrt(),
         }
     }
+
+    /// Whether the exact value is this whole number, which is its floor: the same lines with =.
+    #[inline]
+    pub fn is_exactly(&self, x: Int, floor: Int) -> bool {
+        let Function { row, w, p, .. } = *self;
+        let one: Int = 1;
+        match row.form {
+            Form::Reciprocal => floor * x == one << (p + w),
+            Form::Root => (floor * floor) << w == (row.c * x) << (2 * p),
+            Form::ReciprocalRoot => floor * floor * row.c * x == one << (2 * p + w),
+        }
+    }
 }
 
 /// floor(n·2^up / 2^down), with one shift by the difference, to whichever side it is.
@@ -103,9 +116,21 @@ fn scaled(n: Int, up: u32, down: u32) -> Int {
     }
 }
 
-/// L(X) for X = 2^w + x; refusals 1 to 4, 12.
-pub fn value(kind: u32, w: u32, q: u32, g: u32, x: u32) -> Result<i64, u8> {
+/// L(X), and whether E(X) is that whole number.
+#[derive(Clone, Copy, PartialEq, Eq, Debug)]
+pub struct Value {
+    pub floor: i64,
+    pub whole: bool,
+}
+
+/// The value for X = 2^w + x; refusals 1 to 4, 12.
+pub fn value(kind: u32, w: u32, q: u32, g: u32, x: u32) -> Result<Value, u8> {
     let function = Function::new(kind, w, q, g)?;
     function.accepts(x)?;
-    Ok(fitting(function.floor(function.argument(x))))
+    let argument = function.argument(x);
+    let floor = function.floor(argument);
+    Ok(Value {
+        floor: fitting(floor),
+        whole: function.is_exactly(argument, floor),
+    })
 }

@@ -13,12 +13,19 @@ pub fn segment(function: &Function, bits: u32, number: usize) -> (Int, Int) {
     (s, s + length - 1)
 }
 
-/// Hi and Lo of the segment that the value A_i = `number` stands for.
+/// Hi and Lo of the segment that the value A_i = `number` stands for. Request A7: where E(s) is the
+/// whole number L(s), "Hi takes L(s) in place of L(s)+1".
 #[inline]
 pub fn slopes(function: &Function, table: &Table, number: usize) -> (Int, Int) {
     let k = function.row.k;
     let (s, e) = segment(function, table.a, number);
-    let hi = ((function.floor(s) + 1) << 16) / (k * s) + 1;
+    let floor = function.floor(s);
+    let above = if function.is_exactly(s, floor) {
+        floor
+    } else {
+        floor + 1
+    };
+    let hi = (above << 16) / (k * s) + 1;
     let lo = (function.floor(e) << 16) / (k * e);
     (hi, lo)
 }

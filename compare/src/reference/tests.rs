@@ -1,5 +1,5 @@
 //! The document's examples, starred or not, and its traps; then those of requests A1, A2 and A4 to
-//! A6.
+//! A7.
 
 use super::design::{Legal, Table};
 use super::function::Function;
@@ -64,10 +64,14 @@ fn filled(d: &Design) -> (Vec<u32>, Vec<i32>) {
     (initial, offsets)
 }
 
+fn number(floor: i64, whole: bool) -> Result<Value, u8> {
+    Ok(Value { floor, whole })
+}
+
 #[test]
 fn values() {
-    assert_eq!(value(1, 8, 8, 4, 255), Ok(5786));
-    assert_eq!(value(4, 8, 8, 4, 0), Ok(2896));
+    assert_eq!(value(1, 8, 8, 4, 255), number(5786, false));
+    assert_eq!(value(4, 8, 8, 4, 0), number(2896, false));
     assert!(value(0, 8, 8, 4, 255).is_ok());
     assert_eq!(value(0, 8, 8, 4, 256), Err(12));
     assert_eq!(value(5, 5, 8, 4, 0), Err(1));
@@ -80,18 +84,47 @@ fn values_by_definition() {
     for kind in 0..5 {
         for (w, q, g) in [(6, 6, 2), (6, 16, 4), (16, 6, 2), (16, 14, 6), (16, 16, 4)] {
             for x in [0, 1, 2, (1 << w) / 3, (1 << w) - 2, (1 << w) - 1] {
-                let n = value(kind, w, q, g, x).unwrap() as u128;
+                let Value { floor, whole } = value(kind, w, q, g, x).unwrap();
+                let n = floor as u128;
                 let (p, argument) = (q + g, (1u128 << w) + u128::from(x));
                 let scaled = c[kind as usize] * argument;
-                let at_most = |n: u128| match kind {
-                    0 => n * argument <= 1 << (p + w),
-                    1 | 2 => (n * n) << w <= scaled << (2 * p),
-                    _ => n * n * scaled <= 1 << (2 * p + w),
+                let sides = |n: u128| match kind {
+                    0 => (n * argument, 1u128 << (p + w)),
+                    1 | 2 => ((n * n) << w, scaled << (2 * p)),
+                    _ => (n * n * scaled, 1 << (2 * p + w)),
                 };
+                let at_most = |n| sides(n).0 <= sides(n).1;
                 assert!(at_most(n) && !at_most(n + 1), "{kind} {w} {q} {g} {x}");
+                let exactly = sides(n).0 == sides(n).1;
+                assert_eq!(whole, exactly, "{kind} {w} {q} {g} {x}");
             }
         }
     }
+}
+
+/// Whole values: of kinds 0 and 3 at x = 0 alone and of kind 4 nowhere, since their X divides a power
+/// of 2; of kind 1 where X·2^w is a square, of kind 2 where 2·X·2^w is.
+#[test]
+fn whole_values() {
+    let square = |n: u64| n.isqrt() * n.isqrt() == n;
+    for kind in 0..5 {
+        for (w, q, g) in [(6, 6, 2), (7, 16, 4), (9, 9, 4), (12, 8, 3)] {
+            for x in 0..1 << w {
+                let argument = (1u64 << w) + u64::from(x);
+                let expected = match kind {
+                    0 | 3 => x == 0,
+                    1 => square(argument << w),
+                    2 => square(argument << (w + 1)),
+                    _ => false,
+                };
+                let found = value(kind, w, q, g, x).unwrap().whole;
+                assert_eq!(found, expected, "{kind} {w} {q} {g} {x}");
+            }
+        }
+    }
+    assert_eq!(value(0, 8, 8, 4, 0), number(4096, true));
+    assert_eq!(value(1, 6, 6, 4, 36), number(1280, true));
+    assert_eq!(value(2, 6, 6, 4, 8), number(1536, true));
 }
 
 /// A root needs no w below 2P: where 4^P / 2^w is no whole number, the rest is cut off under the
@@ -114,9 +147,19 @@ fn roots_of_wide_words() {
 
 #[test]
 fn budgets() {
-    assert_eq!(budget(&example()), Ok(1895955));
-    assert_eq!(budget(&with_pair(2, 3)), Ok(3008038));
-    assert_eq!(budget(&Design { g: 3, ..example() }), Ok(1146283));
+    assert_eq!(budget(&example()), Ok(1894163));
+    assert_eq!(budget(&with_pair(2, 3)), Ok(3006246));
+    assert_eq!(budget(&Design { g: 3, ..example() }), Ok(1144491));
+    let admitted_by_a7 = Design {
+        w: 7,
+        q: 6,
+        alpha: 3,
+        m: 2,
+        pairs: [(3, 1), (3, 3), (0, 0), (0, 0)],
+        ..example()
+    };
+    assert_eq!(budget(&admitted_by_a7), Ok(2091668));
+    filled(&admitted_by_a7);
     let (mut initial, mut offsets) = (vec![7; 32], vec![7; 64]);
     for d in [with_pair(2, 3), Design { g: 3, ..example() }] {
         assert_eq!(fill(&d, &mut initial, &mut offsets), Err(11));
@@ -131,6 +174,10 @@ fn entries() {
     assert_eq!(initial[0], 4050);
     assert_eq!(offsets[..8], [50, 35, 21, 7, -8, -22, -36, -51]);
     assert_eq!((initial[32], offsets[64]), (0, 0));
+    // Segment 0 begins with a whole value, which lowers its second word and its last but one.
+    let (_, offsets) = filled(&cut([0, 9, 6, 3, 4], &[(3, 5)]));
+    assert_eq!(offsets[..2], [13, 12]);
+    assert_eq!(offsets[30..32], [-13, -14]);
 }
 
 #[test]
@@ -395,11 +442,11 @@ fn tables_come_last() {
 fn reports() {
     assert_eq!(
         report(b"010008080405010303DF"),
-        "BUDGET 1895955 LIMIT 2097152 BITS 896 ADMITTED\n"
+        "BUDGET 1894163 LIMIT 2097152 BITS 896 ADMITTED\n"
     );
     assert_eq!(
         report(b"010008080405010203E0"),
-        "BUDGET 3008038 LIMIT 2097152 BITS 0 NOT ADMITTED\n"
+        "BUDGET 3006246 LIMIT 2097152 BITS 0 NOT ADMITTED\n"
     );
     assert_eq!(report(b""), "REFUSED 15\n");
     assert_eq!(report(b"0400619B"), "REFUSED 16\n");
@@ -1025,7 +1072,7 @@ fn sizes_refused() {
     for d in [
         with_pair(2, 3),
         Design { g: 3, ..example() },
-        cut([1, 12, 8, 3, 5], &[(3, 2), (5, 2), (1, 2), (2, 1)]),
+        cut([1, 15, 11, 3, 5], &[(2, 1), (5, 1), (4, 2), (5, 6)]),
     ] {
         assert_eq!(legal(&d), Ok(()));
         assert_eq!(size(&d), Err(11));

@@ -1,5 +1,6 @@
 -- What stands behind the pointer of a call afterwards, by what the call tells: the answer, or where it was refused what stood there
 -- before; a batch's place is stored in either case.
+use mathlib.Core.Bool.{Bool}
 use mathlib.Core.List.{List, [], _∷_, _++_}
 use Prim.Native.Nat.{ℕ, _^_}
 use lib.ListN.{length}
@@ -7,6 +8,7 @@ use lib.IntN.{ℤ}
 use Rattle.refusal.specs.declared.Verdict.{Verdict}
 use Rattle.refusal.specs.Checks.{verdict}
 use Rattle.refusal.specs.Told.{Told, accepted, refused, told}
+use Rattle.values.specs.declared.FloorValue.{FloorValue}
 use Rattle.values.specs.Value.{wordCheck}
 use Rattle.design.specs.declared.Design.{Design}
 use Rattle.tables.specs.Set.{setChecks}
@@ -16,10 +18,19 @@ use Rattle.counting.specs.declared.Counts.{Counts}
 use Rattle.searching.specs.declared.SizedDesign.{SizedDesign}
 use Rattle.exports.specs.Numbers.{numbersOf}
 
--- A value, a budget or a size, a word, a sum, the length of a line
+-- A budget or a size, a word, a sum, the length of a line
 abbrev pub behind : {Value : Type 0} → Told Value → Value → Value
 behind (accepted value) before = value
 behind (refused number place) before = before
+
+-- A value in table units, and whether the exact value is that whole number
+abbrev pub unitsAfter : Told FloorValue → ℤ → ℤ
+unitsAfter (accepted floor) before = floor .units .0
+unitsAfter (refused number place) before = before
+
+abbrev pub wholeAfter : Told FloorValue → Bool → Bool
+wholeAfter (accepted floor) before = floor .whole
+wholeAfter (refused number place) before = before
 
 -- How many words were evaluated; where the batch is refused, the place of the word. One of them is always stored.
 abbrev pub placeAfter : Told ℕ → ℕ

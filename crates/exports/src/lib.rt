@@ -15,7 +15,7 @@ ghost use Rattle.checking.specs.Check.{checkTold};
 ghost use Rattle.counting.specs.Count.{countTold};
 ghost use Rattle.searching.specs.Best.{smallestTold};
 ghost use Rattle.exports.specs.Numbers.{designOf};
-ghost use Rattle.exports.specs.Behind.{behind, placeAfter, firstAfter, countsAfter, designAfter, bitsAfter, sumTold};
+ghost use Rattle.exports.specs.Behind.{behind, unitsAfter, wholeAfter, placeAfter, firstAfter, countsAfter, designAfter, bitsAfter, sumTold};
 
 mod design_numbers;
 mod line_calls;
@@ -45,16 +45,26 @@ use tables::sums::sum_of;
 use values::Valued;
 use values::value;
 
-// The value, in table units.
+// The value, in table units, and whether the exact value is that whole number.
 #[no_mangle]
-pub extern "C" fn dorykleth_value(kind: u32, w: u32, q: u32, g: u32, x: u32, units: &mut i64) -> u8
+pub extern "C" fn dorykleth_value(
+    kind: u32,
+    w: u32,
+    q: u32,
+    g: u32,
+    x: u32,
+    units: &mut i64,
+    whole: &mut bool,
+) -> u8
     ensures number { λ r. ⌜ r ≡ numberTold (valueTold kind w q g x) ⌝ }
-    ensures units { λ _. ⌜ now (units .exit) ≡ behind (valueTold kind w q g x) (now (units .entry)) ⌝ }
+    ensures units { λ _. ⌜ now (units .exit) ≡ unitsAfter (valueTold kind w q g x) (now (units .entry)) ⌝ }
+    ensures whole { λ _. ⌜ now (whole .exit) ≡ wholeAfter (valueTold kind w q g x) (now (whole .entry)) ⌝ }
 {
     match value(kind, w, q, g, x) {
-        Valued::Value(found) => {
-            let count = found.0;
+        Valued::Value(floor) => {
+            let count = floor.units.0;
             *units = count;
+            *whole = floor.whole;
             0
         }
         Valued::Refused(cause) => number(cause),

@@ -70,10 +70,10 @@ abbrev with-size : Design → ℕ → SizedDesign
 with-size d bits = record { design = d; bits = bits }
 
 pub record Examples : Type 0 where
-  pub eight : measured best-of-8 ≡ (3975402, 728)
-  pub both : (measured two ≡ (2042224, 416)) × (measured three ≡ (2094286, 416))
+  pub eight : measured best-of-8 ≡ (3973610, 728)
+  pub both : (measured two ≡ (2040432, 416)) × (measured three ≡ (2092494, 416))
   pub admitted : map isAdmitted (best-of-8 ∷ two ∷ three ∷ widest ∷ cheaper ∷ []) ≡ true ∷ true ∷ true ∷ true ∷ false ∷ []
-  pub wide : measured widest ≡ (2002819, 30464)
+  pub wide : measured widest ≡ (2002756, 30464)
   -- "less than 2^(g+17)"
   pub limit : (budget at-limit ≡ 2097152) × (isAdmitted at-limit ≡ false)
   -- "m decides"

@@ -1,5 +1,7 @@
--- Document 01, "Examples": those marked *, as one list about the definitions. The checker computes each.
+-- Document 01, "Examples": those marked *, as one list about the definitions, the budgets as document 02, A7, has them. The checker computes
+-- each.
 use mathlib.Core.Path.{_≡_, refl}
+use mathlib.Core.Bool.{Bool, false}
 use mathlib.Core.List.{[], _∷_}
 use Prim.Native.Nat.{ℕ}
 use lib.Dec.{lit<}
@@ -39,18 +41,22 @@ G = G-with 4 3 3
 abbrev minus : ℕ → ℤ
 minus n = negℤ (pos n)
 
+-- The answer L, and whether it is E
+abbrev pub value-is : ℕ → Bool → Valued
+value-is n whole = Valued.Value (record { units = record { 0 = pos n }; whole = whole })
+
 pub record Starred : Type 0 where
   -- "*L for g 4, q 8, w 8: kind 1, x 255: 5786; *kind 4, x 0: 2896."
-  pub value-1 : valueOf 1 8 8 4 255 ≡ Valued.Value (record { 0 = pos 5786 })
-  pub value-4 : valueOf 4 8 8 4 0 ≡ Valued.Value (record { 0 = pos 2896 })
-  -- "*G: budget 1895955, admitted."
-  pub G-budget : budget G ≡ 1895955
+  pub value-1 : valueOf 1 8 8 4 255 ≡ value-is 5786 false
+  pub value-4 : valueOf 4 8 8 4 0 ≡ value-is 2896 false
+  -- "*G: budget 1895955, admitted." A7: "For G the budget becomes 1,894,163"
+  pub G-budget : budget G ≡ 1894163
   pub G-admitted : Admitted G
-  -- "*With (2,3): 3008038, refused 11.", by the fill, tables of 32 and 32 entries being long enough
-  pub G23-budget : budget (G-with 4 2 3) ≡ 3008038
+  -- "*With (2,3): 3008038, refused 11.", by the fill, tables of 32 and 32 entries being long enough. A7: "with (2,3) 3,006,246"
+  pub G23-budget : budget (G-with 4 2 3) ≡ 3006246
   pub G23-refused : verdictNumber (fillVerdict (G-with 4 2 3) 32 32) ≡ 11
-  -- "*With g 3: 1146283 against 1048576, refused 11."
-  pub g3-budget : budget (G-with 3 3 3) ≡ 1146283
+  -- "*With g 3: 1146283 against 1048576, refused 11." A7: "with g 3 1,144,491"
+  pub g3-budget : budget (G-with 3 3 3) ≡ 1144491
   pub g3-limit : limit (G-with 3 3 3) ≡ 1048576
   pub g3-refused : verdictNumber (fillVerdict (G-with 3 3 3) 32 64) ≡ 11
   -- "*G, initial 0 is 4050. *Offsets 0..7 are 50, 35, 21, 7, -8, -22, -36, -51."

@@ -14,6 +14,7 @@ use Rattle.refusal.specs.declared.Verdict.{Verdict}
 use Rattle.refusal.specs.Numbers.{numberOf, verdictNumber}
 use Rattle.values.specs.declared.Valued.{Valued}
 use Rattle.values.specs.Rows.{rowOf}
+use Rattle.values.specs.Slopes.{hi}
 use Rattle.values.specs.Faithful.{isFaithful, isNearest, isTooLow}
 use Rattle.values.specs.Value.{valueOf}
 use Rattle.design.specs.declared.Pair.{Pair}
@@ -67,7 +68,7 @@ use Rattle.word_text.specs.declared.ReadWord.{ReadWord}
 use Rattle.word_text.specs.Decimal as Decimal
 use Rattle.word_text.specs.Decimal.{wordIn}
 use Rattle.starred.proofs.Opened.{calls-opened}
-use Rattle.starred.proofs.Starred.{G, G-with}
+use Rattle.starred.proofs.Starred.{G, G-with, value-is}
 
 abbrev pair : ℕ → ℕ → Pair
 pair a b = record { a = a; b = b }
@@ -102,6 +103,11 @@ narrow-tables = of-root-tables 7 6 3 3
 abbrev largest-offsets : Design
 largest-offsets =
     record { kind = 0; w = 10; q = 16; g = 4; alpha = 2; m = 1; pairs = pair 2 8 ∷ pair 0 0 ∷ pair 0 0 ∷ pair 0 0 ∷ [] }
+
+-- Segments of 64 words: kind 0, w 9, q 6, g 3, alpha 4, m 1, (3,5)
+abbrev long-segments : Design
+long-segments =
+    record { kind = 0; w = 9; q = 6; g = 3; alpha = 4; m = 1; pairs = pair 3 5 ∷ pair 0 0 ∷ pair 0 0 ∷ pair 0 0 ∷ [] }
 
 -- Twenty entries: kind 0, w 6, q 6, g 2, alpha 2, m 4, (1,1) four times
 abbrev twenty : Design
@@ -202,8 +208,21 @@ pub record Worked : Type 0 where
   pub numbers : map numberOf causes
       ≡ 1 ∷ 2 ∷ 3 ∷ 4 ∷ 5 ∷ 6 ∷ 7 ∷ 8 ∷ 9 ∷ 10 ∷ 11 ∷ 12 ∷ 13 ∷ 14 ∷ 15 ∷ 16 ∷ 17 ∷ 18 ∷ 19 ∷ 20 ∷ 21 ∷ 22 ∷ 23 ∷ 24 ∷ []
   -- L for g 4, q 8, w 8: kind 2, x 0, and kind 3, x 255
-  pub other-kinds : (valueOf 2 8 8 4 0 ≡ Valued.Value (record { 0 = pos 5792 }))
-      × (valueOf 3 8 8 4 255 ≡ Valued.Value (record { 0 = pos 2899 }))
+  pub other-kinds : (valueOf 2 8 8 4 0 ≡ value-is 5792 false) × (valueOf 3 8 8 4 255 ≡ value-is 2899 false)
+  -- Document 02, A7: whole values, at x = 0 of kinds 0, 1 and 3, and elsewhere: the roots of 100/64 and 2·72/64 are 1.25 and 1.5
+  pub whole-values : (map (λ kind. valueOf kind 8 8 4 0) (0 ∷ 1 ∷ 3 ∷ []) ≡ value-is 4096 true ∷ value-is 4096 true ∷ value-is 4096 true ∷ [])
+      × (valueOf 1 6 6 4 36 ≡ value-is 1280 true) × (valueOf 2 6 6 4 8 ≡ value-is 1536 true)
+  -- "Hi takes L(s) in place of L(s)+1" where the value is whole, at x = 0 and at x = 36, and nowhere else: floor(4096·65536 / 256) + 1,
+  -- floor(1280·65536 / 200) + 1, floor(2897·65536 / 512) + 1
+  pub whole-slopes : (hi (rowOf 0) 8 12 256 ≡ 1048577) × (hi (rowOf 1) 6 10 100 ≡ 419431) × (hi (rowOf 4) 8 12 256 ≡ 370817)
+  -- Offsets that it lowers: kind 0, w 9, q 6, g 3, alpha 4, (3,5) has 13, 12 at its first words and -13, -14 at the last two of segment 0
+  pub lower-offsets : map (offsetAt long-segments 0 0) (0 ∷ 1 ∷ 30 ∷ 31 ∷ []) ≡ pos 13 ∷ pos 12 ∷ negsuc 12 ∷ negsuc 13 ∷ []
+  -- "Stored sets stay readable and the check's verdict on them is the same": the set as it was filled before, with 13 and -14 there
+  pub still-faithful : checkAnswer long-segments (initialEntries long-segments)
+      (set (set (offsetEntries long-segments) 1 (pos 13)) 30 (negsuc 13))
+      ≡ Checked.Faithful
+  -- A design that it admits: kind 0, w 7, q 6, g 4, alpha 3, (3,1), (3,3)
+  pub now-admitted : Reports "0100070604030203010303DF" "BUDGET 2091668 LIMIT 2097152 BITS 592 ADMITTED\n"
   -- 2 before 3: w 5 with q 5
   pub w-before-q : valueOf 0 5 5 4 0 ≡ Valued.Refused Cause.InputWidth
   -- alpha 13 passes, and so do w 16, q 16, q+g 20 and a+b 12
@@ -212,10 +231,10 @@ pub record Worked : Type 0 where
   pub two-tables-budget : budgetAnswer two-tables ≡ Measured.Is 1318223
   -- and in their report
   pub two-tables-report : Reports "0104080804040204020302D6" "BUDGET 1318223 LIMIT 2097152 BITS 736 ADMITTED\n"
-  -- The report of document 01's example
-  pub admitted : Reports G-line "BUDGET 1895955 LIMIT 2097152 BITS 896 ADMITTED\n"
+  -- The report of document 01's example, with the budget of document 02, A7
+  pub admitted : Reports G-line "BUDGET 1894163 LIMIT 2097152 BITS 896 ADMITTED\n"
   -- The report on G with (2,3): "the report prints `BITS 0`"
-  pub not-admitted : Reports "010008080405010203E0" "BUDGET 3008038 LIMIT 2097152 BITS 0 NOT ADMITTED\n"
+  pub not-admitted : Reports "010008080405010203E0" "BUDGET 3006246 LIMIT 2097152 BITS 0 NOT ADMITTED\n"
   -- "two's complement range": 7 bits hold 63 and -64, and neither 64 nor -65; 1 bit holds 0 and -1
   pub ranges : (map (holds 7) (pos 63 ∷ pos 64 ∷ negsuc 63 ∷ negsuc 64 ∷ []) ≡ true ∷ false ∷ true ∷ false ∷ [])
       × (map (holds 1) (pos 0 ∷ pos 1 ∷ negsuc 0 ∷ negsuc 1 ∷ []) ≡ true ∷ false ∷ true ∷ false ∷ [])
@@ -389,6 +408,11 @@ worked =
     record {
       numbers = refl;
       other-kinds = (refl, refl);
+      whole-values = (refl, refl, refl);
+      whole-slopes = (refl, refl, refl);
+      lower-offsets = refl;
+      still-faithful = refl;
+      now-admitted = refl;
       w-before-q = refl;
       widest-legal = refl;
       two-tables-budget = refl;

@@ -12,8 +12,8 @@ use Rattle.values.specs.Rows.{Lawful}
 use Rattle.values.specs.Inputs.{InRange, FloorInput, SegmentInput, SlopeInput}
 use Rattle.values.specs.Exact.{num, den, numberSide, valueSide}
 use Rattle.values.specs.Parts.{divisorPart, numberPart, valuePart}
-use Rattle.values.specs.Floor.{floorValue}
-use Rattle.values.specs.Slopes.{segmentStart, segmentEnd, hi, lo, spread}
+use Rattle.values.specs.Floor.{floorValue, isWhole}
+use Rattle.values.specs.Slopes.{segmentStart, segmentEnd, ceilingValue, hi, lo, spread}
 use Rattle.values.proofs.Powers.{pow-pow, pow-swap}
 use Rattle.values.proofs.ExactLaws.{argument-high}
 use Rattle.values.proofs.FloorLaws.{floor-greatest, floor-high}
@@ -112,9 +112,18 @@ module _ (row : Row) (w s X : ℕ) (fit : FloorInput row w (s + 2) X) (n : ℕ) 
 pub quotient-fits : (n d more : ℕ) → n + more < 2 ^ 64 → n / d + more < 2 ^ 64
 quotient-fits n d more h = omega (arith, div-le-self n d)
 
--- Hi of a value
-hi-small : (n d : ℕ) → n < floorBound → (n + 1) * 65536 / d + 1 ≤ slopeBound
-hi-small n d h = omega (arith, div-le-self ((n + 1) * 65536) d)
+-- Rounding up adds at most one.
+pub ceiling-low : (row : Row) (w P X : ℕ) → ceilingValue row w P X ≤ floorValue row w P X + 1
+unfolding ceilingValue
+ceiling-low row w P X = go (isWhole row w P X)
+  where
+    go : (whole : Bool) → cond whole (floorValue row w P X) (floorValue row w P X + 1) ≤ floorValue row w P X + 1
+    go true = omega arith
+    go false = omega arith
+
+-- Hi of a value that is rounded up
+hi-small : (n d : ℕ) → n ≤ floorBound → n * 65536 / d + 1 ≤ slopeBound
+hi-small n d h = omega (arith, div-le-self (n * 65536) d)
 
 -- A slope is L(X) / (k·X), which is at most 2^P / 2^w: of degree 1 by the inequality that L meets, of any other since L is below 2^(P+1).
 -- d is 2^w, and u is 2^P.
@@ -141,12 +150,12 @@ floor-flat row lawful w P X range =
     flat (row .k) (row .c) (row .rising) _ X (2 ^ w) P (lawful .k-pos) (lawful .c-pos) (lawful .domain) (range .low)
     (floor-high row lawful w P X range) (floor-greatest row lawful w P X range .holds)
 
--- Hi without its last one; n is k·X
-slope-flat : (L n d u : ℕ) → 0 < n → d ≤ n → L * d ≤ n * u → (L + 1) * 65536 / n * d ≤ (u + 1) * 65536
-slope-flat L n d u n-pos low high =
-    let q = (L + 1) * 65536 / n in
+-- Hi without its last one; n is k·X, and c is L rounded up
+slope-flat : (c L n d u : ℕ) → c ≤ L + 1 → 0 < n → d ≤ n → L * d ≤ n * u → c * 65536 / n * d ≤ (u + 1) * 65536
+slope-flat c L n d u up n-pos low high =
+    let q = c * 65536 / n in
     le-of-mul-le-mul-right {m = q * d} {n = (u + 1) * 65536} {k = n}
-    (omega (arith, mul-le-mul-right d (mul-div-le ((L + 1) * 65536) n))) n-pos
+    (omega (arith, mul-le-mul-right d (mul-div-le (c * 65536) n), mul-le-mul-right d up)) n-pos
 
 module _ (w a A : ℕ) (fit : SegmentInput w a A) where
   pub width-small : 2 ^ w ≤ wordBound
@@ -178,7 +187,11 @@ module _ (row : Row) (w P a A : ℕ) (fit : SlopeInput row w P a) (A-lt : A < 2 
   pub spread-small : spread row w P a A ≤ slopeBound
   unfolding spread hi
   spread-small =
-      omega (arith, hi-small (floorValue row w P (segmentStart w a A)) (row .k * segmentStart w a A) (floor-small row w P _ start-input))
+      let s = segmentStart w a A in
+      omega (
+        arith,
+        hi-small (ceilingValue row w P s) (row .k * s) (omega (arith, ceiling-low row w P s, floor-small row w P s start-input)),
+      )
 
   hi-scaled : hi row w P (segmentStart w a A) * 2 ^ w ≤ (2 ^ P + 1) * 65536 + 2 ^ w
   unfolding hi
@@ -186,7 +199,8 @@ module _ (row : Row) (w P a A : ℕ) (fit : SlopeInput row w P a) (A-lt : A < 2 
       let s = segmentStart w a A in
       omega (
         arith,
-        slope-flat (floorValue row w P s) (row .k * s) (2 ^ w) (2 ^ P) (step-pos row w P s start-input)
+        slope-flat (ceilingValue row w P s) (floorValue row w P s) (row .k * s) (2 ^ w) (2 ^ P) (ceiling-low row w P s)
+            (step-pos row w P s start-input)
             (omega (arith, mul-le-mul (fit .lawful .k-pos) (start-input .range .low)))
             (floor-flat row (fit .lawful) w P s (start-input .range)),
       )

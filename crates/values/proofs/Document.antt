@@ -1,16 +1,18 @@
--- Both sides of the one inequality, L and faithful are for each kind what document 01 writes, and nearest is the same with halves.
+-- Both sides of the one inequality, L and faithful are for each kind what document 01 writes, nearest is the same with halves, and whole is
+-- L's line with =.
 use mathlib.Core.Path.{_≡_, refl, sym, ap₂, transport}
-use mathlib.Core.Logic.{_⊎_, inl, inr, ⊎-elim}
+use mathlib.Core.Bool.{true}
+use mathlib.Core.Logic.{_⊎_, _↔_, inl, inr, ⊎-elim}
 use Prim.Native.Nat.{ℕ, zero, suc, _+_, _-_, _*_, _^_, _≤_, _<_}
 use native.Mathlib.Nat.{one-mul, mul-comm}
 use native.Mathlib.Omega.{arith}
 use lib.Pow.{pow-add}
 use Rattle.values.specs.Rows.{rows, kinds, rowOf}
-use Rattle.values.specs.Exact.{num, den, numberSide, valueSide, AtMost, Greatest}
-use Rattle.values.specs.Floor.{floorValue}
+use Rattle.values.specs.Exact.{num, den, numberSide, valueSide, AtMost, Exactly, Greatest}
+use Rattle.values.specs.Floor.{floorValue, isWhole}
 use Rattle.values.specs.Inputs.{InRange}
-use Rattle.values.specs.Document.{SidesSaid, FloorSaid, Between, WordSaid, Document}
-use Rattle.values.proofs.FloorLaws.{floor-greatest}
+use Rattle.values.specs.Document.{SidesSaid, FloorSaid, WholeSaid, Between, WordSaid, Document}
+use Rattle.values.proofs.FloorLaws.{floor-greatest, whole-is}
 use Rattle.values.proofs.NewtonLaws.{first-power}
 use Rattle.values.proofs.WidthLaws.{row-lawful}
 
@@ -48,6 +50,24 @@ floor-said kind w P X range =
   where
     floor : kind < kinds → Greatest (AtMost (rowOf kind) w P X) (floorValue (rowOf kind) w P X)
     floor h = floor-greatest (rowOf kind) (row-lawful kind h) w P X range
+
+whole-said : (kind w P X n : ℕ) → InRange w X → WholeSaid kind w P X n
+unfolding rows kinds
+whole-said kind w P X n range =
+    let sides = sides-said kind w P X n in
+    record {
+      reciprocal = λ e. rw (sides .reciprocal e .0, sides .reciprocal e .1) at (whole (omega arith));
+      root = λ e.
+          rw (sides .root e .0, sides .root e .1)
+          at (whole (⊎-elim (λ (h : kind ≡ 1). omega arith) (λ (h : kind ≡ 2). omega arith) e));
+      reciprocal-root = λ e.
+          rw (sides .reciprocal-root e .0, sides .reciprocal-root e .1)
+          at (whole (⊎-elim (λ (h : kind ≡ 3). omega arith) (λ (h : kind ≡ 4). omega arith) e));
+    }
+  where
+    whole : kind < kinds
+        → ((floorValue (rowOf kind) w P X ≡ n) × (isWhole (rowOf kind) w P X ≡ true)) ↔ Exactly (rowOf kind) w P X n
+    whole h = whole-is (rowOf kind) (row-lawful kind h) w P X range n
 
 -- Every kind is one of the three forms.
 form : (kind : ℕ) → kind < kinds → (kind ≡ 0) ⊎ (((kind ≡ 1) ⊎ (kind ≡ 2)) ⊎ ((kind ≡ 3) ⊎ (kind ≡ 4)))
@@ -103,4 +123,4 @@ word-said kind w q X y known =
 
 pub document : Document
 unfolding rows rowOf
-document = record { c = refl; sides = sides-said; floor = floor-said; word = word-said }
+document = record { c = refl; sides = sides-said; floor = floor-said; whole = whole-said; word = word-said }

@@ -1,9 +1,11 @@
--- The floor value is the greatest number that is at most the exact value, for every row, width and P.
-use mathlib.Core.Path.{_≡_, refl}
+-- The floor value is the greatest number that is at most the exact value, for every row, width and P, and it tells whether it is that value.
+use mathlib.Core.Path.{_≡_, refl, sym}
 use mathlib.Core.Bool.{Bool, true, false, cond}
+use mathlib.Core.Logic.{_↔_}
 use Prim.Native.Nat.{ℕ, zero, suc, _+_, _^_, _≤_, _<_}
 use native.Mathlib.Nat.{
   le-trans,
+  le-of-eq,
   le-antisymm,
   pow-le-pow-left,
   not-le-of-lt,
@@ -19,13 +21,13 @@ use native.Mathlib.Nat.{
 use native.Mathlib.Decide.{decLe}
 use native.Mathlib.Omega.{arith}
 use lib.Dec.{leb}
-use borrow.Author.Tests.{leb-true, leb-false}
+use borrow.Author.Tests.{leb-true, leb-false, eqb-true, eq-eqb}
 use Rattle.values.specs.declared.rows.Row.{Row}
 use Rattle.values.specs.Rows.{Lawful}
 use Rattle.values.specs.Inputs.{InRange}
-use Rattle.values.specs.Exact.{numberSide, AtMost, MoreThan, Greatest}
-use Rattle.values.specs.Floor.{rootFrom, scaled, floorValue}
-use Rattle.values.proofs.ExactLaws.{degree, den-pos, value-high, below}
+use Rattle.values.specs.Exact.{numberSide, AtMost, MoreThan, Exactly, Greatest}
+use Rattle.values.specs.Floor.{rootFrom, scaled, floorValue, isWhole}
+use Rattle.values.proofs.ExactLaws.{degree, den-pos, value-high, below, number-cancel}
 
 -- r is the k-th root of the limit, rounded down
 pub record IsRoot (k limit r : ℕ) : Type 0 where
@@ -92,3 +94,15 @@ module _ (row : Row) (lawful : Lawful row) (w P X : ℕ) (range : InRange w X) w
 
   pub floor-high : floorValue row w P X < 2 ^ (P + 1)
   floor-high = below row w X P (floor-greatest .holds) (value-high row lawful w X range P)
+
+  -- Document 02, A7: "whether E(X) is that whole number". It is told, and the value is n, exactly where n is E(X).
+  pub whole-is : (n : ℕ) → ((floorValue row w P X ≡ n) × (isWhole row w P X ≡ true)) ↔ Exactly row w P X n
+  unfolding isWhole
+  whole-is n = (
+    λ told. rw (← told .0) (eqb-true _ _ (told .1)),
+    λ exactly.
+        let same : floorValue row w P X ≡ n =
+        le-antisymm (number-cancel row lawful w X range (le-trans (floor-greatest .holds) (le-of-eq (sym exactly))))
+        (floor-greatest .greatest n (le-of-eq exactly)) in
+        (same, rw same (eq-eqb _ _ exactly)),
+  )

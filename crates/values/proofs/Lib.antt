@@ -9,4 +9,5 @@ pub mod SlopeLaws
 pub mod Bounds
 pub mod WidthLaws
 pub mod Document
+pub mod WholeWhere
 pub mod Opened

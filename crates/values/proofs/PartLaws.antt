@@ -1,23 +1,26 @@
 -- The sides are the parts times one power of two, so that the parts compare as the sides do, and their quotient is that of the sides.
-use mathlib.Core.Path.{_≡_, refl, sym, ap, _∙_}
+use mathlib.Core.Path.{_≡_, refl, sym, ap, ap₂, _∙_}
 use mathlib.Core.Bool.{Bool, true, false, cond}
 use mathlib.Core.Logic.{_↔_}
 use Prim.Native.Nat.{ℕ, zero, suc, _+_, _-_, _*_, _/_, _^_, _≤_, _<_, min}
-use native.Mathlib.Nat.{lt-of-not-le, not-le-of-lt, zero-mul, mul-assoc, mul-comm, mul-one, mul-le-mul-right, mul-lt-mul-of-pos-right}
+use native.Mathlib.Nat.{le-antisymm, le-of-eq, lt-of-not-le, not-le-of-lt, zero-mul, mul-assoc, mul-comm, mul-one, mul-le-mul-right, mul-lt-mul-of-pos-right}
 use native.Mathlib.Nat.{le-of-mul-le-mul-right, lt-of-mul-lt-mul-right, mul-div-mul-right, min-comm, sub-add-min-cancel}
 use native.Mathlib.Decide.{decLt}
 use native.Mathlib.Omega.{arith}
-use borrow.Author.Tests.{lt-ltb, le-ltb, lt-leb, le-leb}
-use lib.Dec.{ltb, leb}
+use borrow.Author.Tests.{lt-ltb, le-ltb, lt-leb, le-leb, eqb-true, eq-eqb}
+use lib.Dec.{ltb, leb, eqb}
 use lib.Pow.{pow-add, pow-pos}
+use Rattle.general.proofs.Tests as Tests
 use Rattle.values.specs.declared.rows.Row.{Row}
 use Rattle.values.specs.Rows.{Lawful}
+use Rattle.values.specs.Room.{highestDegree}
 use Rattle.values.specs.Inputs.{InRange}
-use Rattle.values.specs.Exact.{num, den, numberSide, valueSide, AtMost, LessThan, AtLeast, MoreThan}
+use Rattle.values.specs.Exact.{num, den, numberSide, valueSide, AtMost, LessThan, AtLeast, MoreThan, Exactly}
 use Rattle.values.specs.Floor.{scaled}
 use Rattle.values.specs.Parts.{divisorPart, numberPart, valuePart}
 use Rattle.values.proofs.Powers.{pow-pow}
 use Rattle.values.proofs.ExactLaws.{den-pos}
+use Rattle.values.proofs.NewtonLaws.{first-power, square}
 
 -- The parts of a number and of the exact value compare as the two sides do.
 pub record Compared (row : Row) (w s X n : ℕ) : Type 0 where
@@ -25,12 +28,19 @@ pub record Compared (row : Row) (w s X n : ℕ) : Type 0 where
   pub less-than : LessThan row w s X n ↔ (numberPart row w s X n < valuePart row w s X)
   pub at-least : AtLeast row w s X n ↔ (valuePart row w s X ≤ numberPart row w s X n)
   pub more-than : MoreThan row w s X n ↔ (valuePart row w s X < numberPart row w s X n)
+  pub exactly : Exactly row w s X n ↔ (numberPart row w s X n ≡ valuePart row w s X)
 
 scaled-le : {a b f : ℕ} → 0 < f → (a * f ≤ b * f) ↔ (a ≤ b)
 scaled-le {f} pos = (λ h. le-of-mul-le-mul-right h pos, λ h. mul-le-mul-right f h)
 
 scaled-lt : {a b f : ℕ} → 0 < f → (a * f < b * f) ↔ (a < b)
 scaled-lt {f} pos = (λ h. lt-of-mul-lt-mul-right f h, λ h. mul-lt-mul-of-pos-right h pos)
+
+pub scaled-eq : {a b f : ℕ} → 0 < f → (a * f ≡ b * f) ↔ (a ≡ b)
+scaled-eq {f} pos = (
+  λ e. le-antisymm (scaled-le pos .0 (le-of-eq e)) (scaled-le pos .0 (le-of-eq (sym e))),
+  λ e. ap (λ (n : ℕ). n * f) e,
+)
 
 -- Two tests of facts that hold together
 pub same-test : {a b c d : ℕ} → (a < b) ↔ (c < d) → ltb a b ≡ ltb c d
@@ -44,6 +54,10 @@ same-test-le {a} {b} {c} {d} alike = elim (decLt b a) [
   | yes h ↦ lt-leb a b h ∙ sym (lt-leb c d (lt-of-not-le (λ k. not-le-of-lt h (alike .1 k))))
   | no n ↦ let h : a ≤ b = omega arith in le-leb a b h ∙ sym (le-leb c d (alike .0 h))
 ]
+
+pub same-test-eq : {a b c d : ℕ} → (a ≡ b) ↔ (c ≡ d) → eqb a b ≡ eqb c d
+same-test-eq {a} {b} {c} {d} alike =
+    Tests.same-test (eqb a b) (eqb c d) (λ e. eq-eqb c d (alike .0 (eqb-true a b e))) (λ e. eq-eqb a b (alike .1 (eqb-true c d e)))
 
 -- The power of two that the sides have in common, for 2^w and 2^e
 abbrev common : Bool → ℕ → ℕ → ℕ
@@ -95,6 +109,7 @@ module _ (row : Row) (w s X : ℕ) where
         less-than = rw (number-side n, value-side) (scaled-lt factor-pos);
         at-least = rw (number-side n, value-side) (scaled-le factor-pos);
         more-than = rw (number-side n, value-side) (scaled-lt factor-pos);
+        exactly = rw (number-side n, value-side) (scaled-eq factor-pos);
       }
 
   pub scaled-parts : scaled row w s X ≡ valuePart row w s X / divisorPart row w s X
@@ -107,3 +122,17 @@ module _ (row : Row) (w s X : ℕ) where
       go : (d : ℕ) → divisorPart row w s X ≡ d → 0 < d
       go zero e = absurd (omega (arith, rw (divisor-side, e, zero-mul) at (den-pos row lawful w X range)))
       go (suc d) e = omega arith
+
+-- A number's part, by the degree
+module _ (row : Row) (w s X divisor : ℕ) (divisor-is : divisor ≡ divisorPart row w s X) where
+  part : (n : ℕ) {power : ℕ} → power ≡ n ^ row .k → power * divisor ≡ numberPart row w s X n
+  unfolding numberPart
+  part n e = ap₂ (λ (a b : ℕ). a * b) e divisor-is
+
+  pub linear : row .k ≡ 1 → (n : ℕ) → n * divisor ≡ numberPart row w s X n
+  linear e n = part n (rw (e, first-power n))
+
+  pub quadratic : Lawful row → row .k ≤ highestDegree → (row .k ≡ 1 → ⊥) → (n : ℕ) → n * n * divisor ≡ numberPart row w s X n
+  quadratic lawful degree other n =
+      let e : row .k ≡ 2 = omega (arith, other, lawful .k-pos, degree) in
+      part n (rw (e, square n))

@@ -1,6 +1,6 @@
 -- Hi and Lo bound the slope of the exact value on a segment. The slope at X is E(X) / (k·X), and it falls as X grows, for both
 -- signs. In units of 2^-18 table units a step, h is at least the slope at X when k·h·X is at least 2^18·E(X), and 4·Hi is such an h.
-use mathlib.Core.Path.{sym, ap, _∙_}
+use mathlib.Core.Path.{_≡_, refl, sym, ap, _∙_}
 use mathlib.Core.Bool.{Bool, true, false, cond}
 use Prim.Native.Nat.{ℕ, suc, _+_, _-_, _*_, _^_, _≤_, _<_}
 use native.Mathlib.Nat.{
@@ -25,11 +25,11 @@ use Rattle.values.specs.declared.rows.Row.{Row}
 use Rattle.values.specs.Rows.{Lawful}
 use Rattle.values.specs.Inputs.{InRange}
 use Rattle.values.specs.Exact.{num, den, numberSide, valueSide, AtMost, AtLeast}
-use Rattle.values.specs.Floor.{floorValue}
-use Rattle.values.specs.Slopes.{segmentStart, segmentEnd, hi, lo}
+use Rattle.values.specs.Floor.{floorValue, isWhole}
+use Rattle.values.specs.Slopes.{segmentStart, segmentEnd, ceilingValue, hi, lo}
 use Rattle.values.proofs.Powers.{pow-mul, power-grows}
-use Rattle.values.proofs.ExactLaws.{degree, number-mono, number-cancel, at-most-finer, more-than-finer}
-use Rattle.values.proofs.FloorLaws.{floor-greatest, floor-next}
+use Rattle.values.proofs.ExactLaws.{degree, number-mono, number-cancel, at-most-finer, at-least-finer}
+use Rattle.values.proofs.FloorLaws.{floor-greatest, floor-next, whole-is}
 
 -- h is at least, at most the slope at X
 abbrev pub Steeper : Row → ℕ → ℕ → ℕ → ℕ → Type 0
@@ -92,12 +92,22 @@ module _ (row : Row) (lawful : Lawful row) (w P : ℕ) where
       let d = degree (row .k) (lawful .k-pos) in
       rw (d .1) (from-end _ (row .c) (2 ^ w) (d .0) _ u v order u-pos (row .rising))
 
+  -- E(X) is at most its value rounded up: equal to it where it is whole, else below it.
+  pub ceiling-high : (X : ℕ) → InRange w X → AtLeast row w P X (ceilingValue row w P X)
+  unfolding ceilingValue
+  ceiling-high X range = go (isWhole row w P X) refl
+    where
+      go : (whole : Bool) → isWhole row w P X ≡ whole
+          → AtLeast row w P X (cond whole (floorValue row w P X) (floorValue row w P X + 1))
+      go true e = le-of-eq (sym (whole-is row lawful w P X range _ .0 (refl, e)))
+      go false e = le-of-lt (floor-next row lawful w P X range)
+
   pub hi-at-start : (s : ℕ) → InRange w s → Steeper row w P s (4 * hi row w P s)
   unfolding hi
   hi-at-start s range =
-      le-trans (le-of-lt (more-than-finer row w s P 18 (floorValue row w P s + 1) (floor-next row lawful w P s range)))
+      le-trans (at-least-finer row w s P 18 (ceilingValue row w P s) (ceiling-high s range))
       (number-mono row w s
-      (omega (arith, lt-mul-div-succ ((floorValue row w P s + 1) * 65536) (one-le-mul (lawful .k-pos) (range-pos range)))))
+      (omega (arith, lt-mul-div-succ (ceilingValue row w P s * 65536) (one-le-mul (lawful .k-pos) (range-pos range)))))
 
   pub lo-at-end : (e : ℕ) → InRange w e → Flatter row w P e (4 * lo row w P e)
   unfolding lo

@@ -1,11 +1,13 @@
--- Document 01, "Functions and their exact values", in its own words for each kind with its c, and document 02's nearest in the same form.
+-- Document 01, "Functions and their exact values", in its own words for each kind with its c, and document 02's nearest and whole values in
+-- the same form.
 use mathlib.Core.Path.{_≡_}
+use mathlib.Core.Bool.{true}
 use mathlib.Core.Logic.{_⊎_, _↔_}
 use mathlib.Core.List.{[], _∷_, map}
 use Prim.Native.Nat.{ℕ, _+_, _-_, _*_, _^_, _≤_, _<_}
 use Rattle.values.specs.Rows.{kinds, rowOf}
 use Rattle.values.specs.Exact.{numberSide, valueSide, Greatest}
-use Rattle.values.specs.Floor.{floorValue}
+use Rattle.values.specs.Floor.{floorValue, isWhole}
 use Rattle.values.specs.Inputs.{InRange}
 use Rattle.values.specs.Faithful.{Faithful, Nearest}
 
@@ -30,6 +32,19 @@ pub record FloorSaid (kind w P X : ℕ) : Type 0 where
   -- "kinds 3, 4: the greatest n with n²·c·X ≤ 4^P·2^w"
   pub reciprocal-root : (kind ≡ 3) ⊎ (kind ≡ 4)
       → Greatest (λ n. n ^ 2 * (rowOf kind .c * X) ≤ 4 ^ P * 2 ^ w) (floorValue (rowOf kind) w P X)
+
+-- Document 02, A7: "The floor value also tells whether E(X) is that whole number." It is n and told to be whole exactly where n is E(X):
+-- where the document's line for L holds with = for ≤.
+pub record WholeSaid (kind w P X n : ℕ) : Type 0 where
+  -- "kind 0: .. n·X ≤ 2^(P+w)"
+  pub reciprocal : kind ≡ 0
+      → ((floorValue (rowOf kind) w P X ≡ n) × (isWhole (rowOf kind) w P X ≡ true)) ↔ (n * X ≡ 2 ^ (P + w))
+  -- "kinds 1, 2: .. n²·2^w ≤ c·X·4^P"
+  pub root : (kind ≡ 1) ⊎ (kind ≡ 2)
+      → ((floorValue (rowOf kind) w P X ≡ n) × (isWhole (rowOf kind) w P X ≡ true)) ↔ (n ^ 2 * 2 ^ w ≡ rowOf kind .c * X * 4 ^ P)
+  -- "kinds 3, 4: .. n²·c·X ≤ 4^P·2^w"
+  pub reciprocal-root : (kind ≡ 3) ⊎ (kind ≡ 4)
+      → ((floorValue (rowOf kind) w P X ≡ n) × (isWhole (rowOf kind) w P X ≡ true)) ↔ (n ^ 2 * (rowOf kind .c * X) ≡ 4 ^ P * 2 ^ w)
 
 -- The exact value between two numbers, as document 01 writes it for each kind with its c: `_≺_` is < for faithful and ≤ for the second
 -- bound and for nearest, s is q, P + 18 or q + 1, and low and high are y-1 and y+1, Y'-R and Y'+R, or 2y-1 and 2y+1.
@@ -58,4 +73,5 @@ pub record Document : Type 0 where
   pub c : map (λ kind. rowOf kind .c) (0 ∷ 1 ∷ 2 ∷ 3 ∷ 4 ∷ []) ≡ 1 ∷ 1 ∷ 2 ∷ 1 ∷ 2 ∷ []
   pub sides : (kind w s X n : ℕ) → SidesSaid kind w s X n
   pub floor : (kind w P X : ℕ) → InRange w X → FloorSaid kind w P X
+  pub whole : (kind w P X n : ℕ) → InRange w X → WholeSaid kind w P X n
   pub word : (kind w q X y : ℕ) → kind < kinds → WordSaid kind w q X y

@@ -2,6 +2,7 @@
 -- The argument is c·X / 2^w, and the exact value's k-th power is the argument (sign +) or its reciprocal (sign -): num / den.
 -- With s fraction bits, n is at most the exact value when n^k·den ≤ (2^k)^s·num. Table units have s = P, output units s = q,
 -- halves of them s = q + 1, and 2^-18 table units s = P + 18.
+use mathlib.Core.Path.{_≡_}
 use mathlib.Core.Bool.{cond}
 use Prim.Native.Nat.{ℕ, _*_, _^_, _≤_, _<_}
 use Rattle.values.specs.declared.rows.Row.{Row}
@@ -31,6 +32,10 @@ AtLeast row w s X n = valueSide row w s X ≤ numberSide row w X n
 
 abbrev pub MoreThan : Row → ℕ → ℕ → ℕ → ℕ → Type 0
 MoreThan row w s X n = valueSide row w s X < numberSide row w X n
+
+-- n is the exact value
+abbrev pub Exactly : Row → ℕ → ℕ → ℕ → ℕ → Type 0
+Exactly row w s X n = numberSide row w X n ≡ valueSide row w s X
 
 -- n is the greatest number with the property
 pub record Greatest (Property : ℕ → Type 0) (n : ℕ) : Type 0 where

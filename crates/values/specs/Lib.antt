@@ -8,6 +8,7 @@ pub mod Inputs
 pub mod Floor
 pub mod Faithful
 pub mod Document
+pub mod WholeAt
 pub mod Slopes
 pub mod Widths
 pub mod Value

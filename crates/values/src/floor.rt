@@ -1,13 +1,15 @@
-// The floor value L(X).
+// The floor value L(X), and whether it is E(X).
 ghost use mathlib.Core.Path.{_≡_};
 ghost use lib.IntN.{pos};
-ghost use Rattle.values.specs.Floor.{floorValue};
+ghost use Rattle.values.specs.Floor.{floorValue, floorAndWhole};
 ghost use Rattle.values.specs.Floor as Floor;
 ghost use Rattle.values.specs.Inputs.{FloorInput};
+use crate::FloorValue;
 use crate::TableUnits;
 use crate::newton::floor_root;
 use crate::parts::divisor_part;
 use crate::parts::excess;
+use crate::parts::number_part;
 use crate::parts::value_part;
 use crate::rows::Row;
 
@@ -31,4 +33,14 @@ pub fn floor_value(row: Row, w: u32, p: u32, x: u64) -> TableUnits
 {
     let root = floor_root(row.k, p, scaled(row, w, p, x));
     TableUnits(root as i64)
+}
+
+// The same, and whether E(X) is that whole number: their parts tell it, without a second root.
+pub(crate) fn floor_and_whole(row: Row, w: u32, p: u32, x: u64) -> FloorValue
+    requires { ⌜ FloorInput row w p x ⌝ }
+    ensures { λ r. ⌜ r ≡ floorAndWhole row w p x ⌝ }
+{
+    let units = floor_value(row, w, p, x);
+    let whole = number_part(row, w, p, x, units.count()) == value_part(row, w, p, x);
+    FloorValue { units, whole }
 }

@@ -14,7 +14,7 @@ pub mod rows;
 pub mod slopes;
 pub mod widths;
 
-use floor::floor_value;
+use floor::floor_and_whole;
 use general::pow2;
 use refusal::Cause;
 use refusal::Verdict;
@@ -38,12 +38,18 @@ impl TableUnits {
 // A count of output units.
 pub struct OutputUnits(pub u32);
 
+// A floor value: L(X), and whether E(X) is that whole number.
+pub struct FloorValue {
+    pub units: TableUnits,
+    pub whole: bool,
+}
+
 pub enum Valued {
-    Value(TableUnits),
+    Value(FloorValue),
     Refused(Cause),
 }
 
-// L(X) for an input word x, in table units.
+// L(X) for an input word x, in table units, and whether it is E(X).
 pub fn value(kind: u32, w: u32, q: u32, g: u32, x: u32) -> Valued
     ensures answer { λ r. ⌜ r ≡ valueOf kind w q g x ⌝ }
     ensures told { λ r. ⌜ toldBy r ≡ valueTold kind w q g x ⌝ }
@@ -56,5 +62,5 @@ pub fn value(kind: u32, w: u32, q: u32, g: u32, x: u32) -> Valued
     if one <= word {
         return Valued::Refused(Cause::WordRange);
     }
-    Valued::Value(floor_value(row_of(kind), w, q + g, one + word))
+    Valued::Value(floor_and_whole(row_of(kind), w, q + g, one + word))
 }

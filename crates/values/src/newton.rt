@@ -7,7 +7,7 @@ ghost use Rattle.values.specs.Newton.{newtonStep};
 ghost use Rattle.values.specs.Inputs.{RootInput, Stepwise, StepInput};
 use general::pow2;
 
-// A step from r, of degree 2. A further degree gets an arm here, in the test below and in `neighbour_parts`.
+// A step from r, of degree 2. A further degree gets an arm here, in the test below, in `number_part` and in `neighbour_parts`.
 fn step(k: u32, limit: u64, r: u64) -> u64
     requires { ⌜ StepInput k limit r ⌝ }
     ensures { λ r'. ⌜ r' ≡ newtonStep k limit r ⌝ }

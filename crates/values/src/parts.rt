@@ -1,6 +1,7 @@
 // The two sides of the one inequality between a whole number and the exact value, without their common power of two. No division.
 ghost use mathlib.Core.Path.{_≡_};
 ghost use Prim.Native.Nat.{_+_, _-_, _^_, _≤_};
+ghost use Rattle.values.specs.Exact.{AtMost};
 ghost use Rattle.values.specs.Parts.{divisorPart, numberPart, valuePart};
 ghost use Rattle.values.specs.Inputs.{FloorInput};
 use crate::rows::Row;
@@ -36,6 +37,16 @@ pub(crate) fn value_part(row: Row, w: u32, s: u32, x: u64) -> u64
     } else {
         pow2(bits + w)
     }
+}
+
+// A number's part, its k-th power times the divisor, for a number that is at most the exact value.
+pub(crate) fn number_part(row: Row, w: u32, s: u32, x: u64, n: u64) -> u64
+    requires { ⌜ FloorInput row w s x ⌝ }
+    requires { ⌜ AtMost row w s x n ⌝ }
+    ensures { λ r. ⌜ r ≡ numberPart row w s x n ⌝ }
+{
+    let once = n * divisor_part(row, w, s, x);
+    if row.k == 1 { once } else { n * once }
 }
 
 // The parts of two numbers.

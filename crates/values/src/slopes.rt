@@ -6,6 +6,7 @@ ghost use Rattle.values.specs.Slopes.{segmentStart, segmentEnd, largestS
 ghost use Rattle.values.specs.Slopes as Slopes;
 ghost use Rattle.values.specs.Room.{floorBound};
 ghost use Rattle.values.specs.Inputs.{FloorInput, SegmentInput, SlopeInput};
+use crate::floor::floor_and_whole;
 use crate::floor::floor_value;
 use crate::rows::Row;
 use general::larger;
@@ -35,12 +36,14 @@ fn floor_count(row: Row, w: u32, p: u32, x: u64) -> u64
     floor_value(row, w, p, x).count()
 }
 
-// Hi, at the segment's start.
+// Hi, at the segment's start. The exact value there is above L by a fraction, or it is L.
 fn hi(row: Row, w: u32, p: u32, start: u64) -> u64
     requires { ⌜ FloorInput row w p start ⌝ }
     ensures { λ r. ⌜ r ≡ Slopes.hi row w p start ⌝ }
 {
-    (floor_count(row, w, p, start) + 1) * 65536 / (row.k as u64 * start) + 1
+    let floor = floor_and_whole(row, w, p, start);
+    let fraction = if floor.whole { 0 } else { 1 };
+    (floor.units.count() + fraction) * 65536 / (row.k as u64 * start) + 1
 }
 
 // Lo, at the segment's end.

@@ -10,13 +10,13 @@ returns : tie.Need-returns
 returns c =
     let m = c .before .before in
     let a = m .before .before in
-    rw (← a .value .ensures .1, m .found .given .1) (refl, toZ-ofZ w64 _ (record { sfits = c .struct-told .given .0 .1 }))
+    rw (← a .value .ensures .1, m .floor .given .1) (refl, (toZ-ofZ w64 _ (record { sfits = c .struct-told .given .0 .1 .1 .0 .1 }), refl))
 
 returns-2 : tie.Need-returns-2
 returns-2 c =
     let m = c .before .before in
     let a = m .before .before in
-    rw (← a .value .ensures .1, m .cause .given .1) (c .number .ensures, refl)
+    rw (← a .value .ensures .1, m .cause .given .1) (c .number .ensures, (refl, refl))
 
 pub dorykleth-value-spec : {M : Type 1} → statement M
 dorykleth-value-spec =

@@ -4,16 +4,15 @@ use Prim.Native.Nat.{ℕ, _+_, _^_, _≤_, _<_}
 use native.Mathlib.Omega.{arith}
 use borrow.Author.Needs.{needs}
 use borrow.Author.Tests.{le-leb, lt-leb}
-use lib.IntN.{pos}
 use Rattle.refusal.specs.declared.Cause.{Cause}
 use Rattle.refusal.specs.declared.Verdict.{Verdict}
 use Rattle.refusal.specs.Checks.{verdict}
 use Rattle.refusal.proofs.Checks.{verdict-append}
 use Rattle.refusal.proofs.Answers.{answer-told}
-use Rattle.values.specs.declared.TableUnits.{TableUnits}
+use Rattle.values.specs.declared.FloorValue.{FloorValue}
 use Rattle.values.specs.declared.Valued.{Valued}
 use Rattle.values.specs.Rows.{rowOf}
-use Rattle.values.specs.Floor.{floorValue}
+use Rattle.values.specs.Floor.{floorAndWhole}
 use Rattle.values.specs.Inputs.{FloorInput}
 use Rattle.values.specs.Widths.{limitsOf, widthChecks}
 use Rattle.values.specs.Value.{valueVerdict, valueOf, wordCheck, toldBy, valueTold}
@@ -41,10 +40,9 @@ module _ (kind w q g x : ℕ) where
     unfolding valueOf valueVerdict wordCheck
     past h = promised _ (rw (verdict-append, passed, le-leb _ _ h))
 
-    within : x < 2 ^ w → (units : TableUnits) → units ≡ record { 0 = pos (floorValue (rowOf kind) w (q + g) (2 ^ w + x)) }
-        → Promised (Valued.Value units)
+    within : x < 2 ^ w → (floor : FloorValue) → floor ≡ floorAndWhole (rowOf kind) w (q + g) (2 ^ w + x) → Promised (Valued.Value floor)
     unfolding valueOf valueVerdict wordCheck
-    within h units e = promised _ (rw (verdict-append, passed, lt-leb _ _ h, e))
+    within h floor e = promised _ (rw (verdict-append, passed, lt-leb _ _ h, e))
 
     fits : x < 2 ^ w → FloorInput (rowOf kind) w (q + g) (2 ^ w + x)
     fits h =
@@ -80,25 +78,25 @@ pow2-requires c κs = omega (arith, limits c)
 returns-2 : tie.Need-returns-2
 returns-2 c = past _ _ _ _ _ (passed (c .before .before)) (omega (arith, c .before .pow2 .ensures))
 
-row-of-requires : tie.Need-row-of-requires
-row-of-requires c κs = limits (c .before .before) .kind-known
-
-add-floor-value : tie.Need-add-floor-value
-add-floor-value c = omega (arith, limits (c .before .before .before))
-
-add-floor-value-2 : tie.Need-add-floor-value-2
-add-floor-value-2 c = omega (arith, words-few (limits (c .before .before .before) .room))
-
-floor-value-requires : tie.Need-floor-value-requires
-floor-value-requires c κs =
-    rw (c .row-of .ensures, c .before .before .pow2 .ensures)
-    (fits _ _ _ _ _ (passed (c .before .before .before)) (rw (c .before .before .pow2 .ensures) at (c .before .if1 .left)))
-
 returns-3 : tie.Need-returns-3
 returns-3 c =
     within _ _ _ _ _ (passed (c .before .before .before .before))
     (rw (c .before .before .before .pow2 .ensures) at (c .before .before .if1 .left)) _
-    (rw (c .before .row-of .ensures, c .before .before .before .pow2 .ensures) at (c .floor-value .ensures))
+    (rw (c .before .row-of .ensures, c .before .before .before .pow2 .ensures) at (c .floor-and-whole .ensures))
+
+row-of-requires : tie.Need-row-of-requires
+row-of-requires c κs = limits (c .before .before) .kind-known
+
+add-floor-and-whole : tie.Need-add-floor-and-whole
+add-floor-and-whole c = omega (arith, limits (c .before .before .before))
+
+add-floor-and-whole-2 : tie.Need-add-floor-and-whole-2
+add-floor-and-whole-2 c = omega (arith, words-few (limits (c .before .before .before) .room))
+
+floor-and-whole-requires : tie.Need-floor-and-whole-requires
+floor-and-whole-requires c κs =
+    rw (c .row-of .ensures, c .before .before .pow2 .ensures)
+    (fits _ _ _ _ _ (passed (c .before .before .before)) (rw (c .before .before .pow2 .ensures) at (c .before .if1 .left)))
 
 pub value-spec : {M : Type 1} → statement M
 value-spec =
@@ -112,7 +110,7 @@ value-spec =
     pow2-requires
     returns-2
     row-of-requires
-    add-floor-value
-    add-floor-value-2
-    floor-value-requires
+    add-floor-and-whole
+    add-floor-and-whole-2
+    floor-and-whole-requires
     returns-3)

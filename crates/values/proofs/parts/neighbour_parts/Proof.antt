@@ -8,7 +8,7 @@ use Rattle.values.specs.declared.rows.Row.{Row}
 use Rattle.values.specs.declared.parts.Parts.{Parts}
 use Rattle.values.specs.Inputs.{FloorInput}
 use Rattle.values.specs.Parts.{divisorPart, numberPart}
-use Rattle.values.proofs.NewtonLaws.{first-power, square}
+use Rattle.values.proofs.PartLaws.{linear, quadratic}
 use Rattle.values.proofs.Bounds.{coarser-input, number-part-fits}
 use Rattle.values.proofs.parts.neighbour_parts.Statement.{statement}
 use Rattle.values.proofs.parts.neighbour_parts.Tie as tie
@@ -42,38 +42,31 @@ module _ (n d : ℕ) where
   square-more = omega arith
 
 module _ (row : Row) (w s X divisor : ℕ) (divisor-is : divisor ≡ divisorPart row w s X) (input : FloorInput row w (s + 2) X) where
-  -- The part of a number, by the degree
-  part : (n : ℕ) {power : ℕ} → power ≡ n ^ row .k → power * divisor ≡ numberPart row w s X n
-  unfolding numberPart
-  part n e = ap₂ (λ (a b : ℕ). a * b) e divisor-is
+  of-degree : row .k ≡ 1 → (n : ℕ) → n * divisor ≡ numberPart row w s X n
+  of-degree = linear row w s X divisor divisor-is
 
-  linear : row .k ≡ 1 → (n : ℕ) → n * divisor ≡ numberPart row w s X n
-  linear e n = part n (rw (e, first-power n))
-
-  quadratic : (row .k ≡ 1 → ⊥) → (n : ℕ) → n * n * divisor ≡ numberPart row w s X n
-  quadratic other n =
-      let e : row .k ≡ 2 = omega (arith, other, input .lawful .k-pos, input .room .degree) in
-      part n (rw (e, square n))
+  squared : (row .k ≡ 1 → ⊥) → (n : ℕ) → n * n * divisor ≡ numberPart row w s X n
+  squared = quadratic row w s X divisor divisor-is (input .lawful) (input .room .degree)
 
   module _ (n : ℕ) (positive : 1 ≤ n) (small : n + 1 ≤ 2 ^ (s + 2)) where
     room : numberPart row w s X (n + 1) < 2 ^ 64
     room = number-part-fits row w s X input (n + 1) small
 
     room-linear : row .k ≡ 1 → (n + 1) * divisor < 2 ^ 64
-    room-linear e = rw (linear e (n + 1)) room
+    room-linear e = rw (of-degree e (n + 1)) room
 
     room-quadratic : (row .k ≡ 1 → ⊥) → (n + 1) * (n + 1) * divisor < 2 ^ 64
-    room-quadratic other = rw (quadratic other (n + 1)) room
+    room-quadratic other = rw (squared other (n + 1)) room
 
     of-degree-1 : row .k ≡ 1
         → parts (n * divisor - divisor) (n * divisor + divisor) ≡ parts (numberPart row w s X (n - 1)) (numberPart row w s X (n + 1))
-    of-degree-1 e = ap₂ parts (one-less n divisor positive .1 ∙ linear e (n - 1)) (one-more n divisor ∙ linear e (n + 1))
+    of-degree-1 e = ap₂ parts (one-less n divisor positive .1 ∙ of-degree e (n - 1)) (one-more n divisor ∙ of-degree e (n + 1))
 
     of-degree-2 : (row .k ≡ 1 → ⊥) → let middle = n * (n * divisor) + divisor in
         parts (middle - 2 * (n * divisor)) (middle + 2 * (n * divisor))
         ≡ parts (numberPart row w s X (n - 1)) (numberPart row w s X (n + 1))
     of-degree-2 other =
-        ap₂ parts (square-less n divisor positive .1 ∙ quadratic other (n - 1)) (square-more n divisor ∙ quadratic other (n + 1))
+        ap₂ parts (square-less n divisor positive .1 ∙ squared other (n - 1)) (square-more n divisor ∙ squared other (n + 1))
 
 divisor-part-requires : tie.Need-divisor-part-requires
 divisor-part-requires c κs = coarser-input (c .args .s) (omega arith) (c .pre .0)
