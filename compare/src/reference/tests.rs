@@ -102,8 +102,9 @@ fn values_by_definition() {
     }
 }
 
-/// Whole values: of kinds 0 and 3 at x = 0 alone and of kind 4 nowhere, since their X divides a power
-/// of 2; of kind 1 where X·2^w is a square, of kind 2 where 2·X·2^w is.
+/// Whole values: of kind 1 where X·2^w is a square, of kind 2 where 2·X·2^w is. Of kinds 0, 3 and 4 X
+/// would divide a power of 2, so that it is 2^w; there those of kinds 0 and 3 are, and 2^(2P-1) is no
+/// square.
 #[test]
 fn whole_values() {
     let square = |n: u64| n.isqrt() * n.isqrt() == n;
@@ -145,6 +146,19 @@ fn roots_of_wide_words() {
     }
 }
 
+/// Hi of a whole value that is not at x = 0, and of one at x = 0 that is not whole; then Lo.
+#[test]
+fn slopes_of_whole_values() {
+    let table = |a| Table {
+        a,
+        ..Table::default()
+    };
+    let root = Function::new(1, 6, 6, 4).unwrap();
+    assert_eq!(slopes(&root, &table(4), 9), (419431, 413258));
+    let reciprocal_root = Function::new(4, 8, 8, 4).unwrap();
+    assert_eq!(slopes(&reciprocal_root, &table(3), 0), (370817, 312266));
+}
+
 #[test]
 fn budgets() {
     assert_eq!(budget(&example()), Ok(1894163));
@@ -174,7 +188,7 @@ fn entries() {
     assert_eq!(initial[0], 4050);
     assert_eq!(offsets[..8], [50, 35, 21, 7, -8, -22, -36, -51]);
     assert_eq!((initial[32], offsets[64]), (0, 0));
-    // Segment 0 begins with a whole value, which lowers its second word and its last but one.
+    // Segment 0 begins with a whole value, so that T of its second and its last but one is one less.
     let (_, offsets) = filled(&cut([0, 9, 6, 3, 4], &[(3, 5)]));
     assert_eq!(offsets[..2], [13, 12]);
     assert_eq!(offsets[30..32], [-13, -14]);

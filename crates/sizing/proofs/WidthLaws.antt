@@ -1,4 +1,4 @@
--- The widest offset of a table has T of the largest |j| in the steepest segment, and the bits that hold it hold every offset.
+-- The widest offset of a table has T of the largest |j| and of the largest Hi + Lo, and the bits that hold it hold every offset.
 use mathlib.Core.Path.{_≡_, refl, sym, _∙_}
 use mathlib.Core.Bool.{Bool, true, false, cond, _&&_}
 use Prim.Native.Nat.{ℕ, zero, suc, _+_, _-_, _*_, _^_, _≤_, _<_}

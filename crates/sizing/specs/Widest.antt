@@ -6,7 +6,7 @@ use Rattle.general.specs.Below.{firstFrom}
 use Rattle.entries.specs.Entries.{magnitude}
 use Rattle.sizing.specs.Width.{mostBits}
 
--- T of the largest |j|, 2^b - 1, in the steepest segment: `slopes` is the largest Hi + Lo of the table's segments.
+-- T of the largest |j|, 2^b - 1, and of the largest Hi + Lo of the table's segments, which is `slopes`
 unfoldable pub widestOffset : ℕ → ℕ → ℕ → ℕ
 widestOffset slopes b p = magnitude slopes p (pos (2 ^ b - 1))
 

@@ -212,12 +212,12 @@ pub record Worked : Type 0 where
   -- Document 02, A7: whole values, at x = 0 of kinds 0, 1 and 3, and elsewhere: the roots of 100/64 and 2·72/64 are 1.25 and 1.5
   pub whole-values : (map (λ kind. valueOf kind 8 8 4 0) (0 ∷ 1 ∷ 3 ∷ []) ≡ value-is 4096 true ∷ value-is 4096 true ∷ value-is 4096 true ∷ [])
       × (valueOf 1 6 6 4 36 ≡ value-is 1280 true) × (valueOf 2 6 6 4 8 ≡ value-is 1536 true)
-  -- "Hi takes L(s) in place of L(s)+1" where the value is whole, at x = 0 and at x = 36, and nowhere else: floor(4096·65536 / 256) + 1,
-  -- floor(1280·65536 / 200) + 1, floor(2897·65536 / 512) + 1
+  -- "Hi takes L(s) in place of L(s)+1" where the value is whole, at x = 0 of kind 0 and at x = 36 of kind 1, and not at x = 0 of kind 4:
+  -- floor(4096·65536 / 256) + 1, floor(1280·65536 / 200) + 1, floor(2897·65536 / 512) + 1
   pub whole-slopes : (hi (rowOf 0) 8 12 256 ≡ 1048577) × (hi (rowOf 1) 6 10 100 ≡ 419431) × (hi (rowOf 4) 8 12 256 ≡ 370817)
-  -- Offsets that it lowers: kind 0, w 9, q 6, g 3, alpha 4, (3,5) has 13, 12 at its first words and -13, -14 at the last two of segment 0
-  pub lower-offsets : map (offsetAt long-segments 0 0) (0 ∷ 1 ∷ 30 ∷ 31 ∷ []) ≡ pos 13 ∷ pos 12 ∷ negsuc 12 ∷ negsuc 13 ∷ []
-  -- "Stored sets stay readable and the check's verdict on them is the same": the set as it was filled before, with 13 and -14 there
+  -- Offsets that it brings nearer to 0: kind 0, w 9, q 6, g 3, alpha 4, (3,5) has 13, 12 .. -13, -14 for segment 0
+  pub nearer-offsets : map (offsetAt long-segments 0 0) (0 ∷ 1 ∷ 30 ∷ 31 ∷ []) ≡ pos 13 ∷ pos 12 ∷ negsuc 12 ∷ negsuc 13 ∷ []
+  -- ".. and the check's verdict on them is the same": the set as it was filled before, with 13 and -14 there
   pub still-faithful : checkAnswer long-segments (initialEntries long-segments)
       (set (set (offsetEntries long-segments) 1 (pos 13)) 30 (negsuc 13))
       ≡ Checked.Faithful
@@ -410,7 +410,7 @@ worked =
       other-kinds = (refl, refl);
       whole-values = (refl, refl, refl);
       whole-slopes = (refl, refl, refl);
-      lower-offsets = refl;
+      nearer-offsets = refl;
       still-faithful = refl;
       now-admitted = refl;
       w-before-q = refl;

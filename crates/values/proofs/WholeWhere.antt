@@ -1,4 +1,4 @@
--- Which values are whole: where the function falls, X divides a power of 2, so that it is one, and no square is twice a power of 4.
+-- Which values are whole: where the function falls, X divides a power of 2, so that it is one; and no square is twice a power of 4.
 use mathlib.Core.Path.{_≡_, refl, sym, ap, _∙_}
 use mathlib.Core.Bool.{Bool, true, false}
 use mathlib.Core.Logic.{_⊎_, inl, inr, ⊎-elim}
@@ -8,7 +8,9 @@ use native.Mathlib.Nat.{pow-suc, mul-zero, one-mul, mul-assoc, mul-comm, mul-rig
 use native.Mathlib.Decide.{decLt}
 use native.Mathlib.Omega.{arith}
 use lib.Pow.{pow-add, pow-mono, pow-pos}
-use Rattle.values.specs.Rows.{rows, rowOf}
+use Rattle.values.specs.declared.rows.Row.{Row}
+use Rattle.values.specs.Rows.{rows, rowOf, Lawful}
+use Rattle.values.specs.Exact.{num, den, numberSide, valueSide, Exactly}
 use Rattle.values.specs.Floor.{floorValue, isWhole}
 use Rattle.values.specs.Inputs.{InRange}
 use Rattle.values.specs.Document.{WholeSaid}
@@ -16,6 +18,7 @@ use Rattle.values.specs.WholeAt.{WholeAt}
 use Rattle.values.proofs.NewtonLaws.{square}
 use Rattle.values.proofs.Powers.{pow-pow, pow-swap}
 use Rattle.values.proofs.PartLaws.{scaled-eq}
+use Rattle.values.proofs.FloorLaws.{whole-is}
 use Rattle.values.proofs.Document.{document}
 
 -- Every number is twice another, or one more than that.
@@ -95,25 +98,19 @@ no-half : (P n : ℕ) → 2 * (n * n) ≡ 4 ^ P → ⊥
 no-half zero n e = omega (arith, e)
 no-half (suc P) n e = no-double P n (omega (arith, e, four-pow P))
 
--- Where the function falls
-module _ (w P X n : ℕ) (range : InRange w X) where
-  reciprocal-at : n * X ≡ 2 ^ (P + w) → X ≡ 2 ^ w
-  reciprocal-at e = let power = divides (P + w) n X e in first-X w X (power .0) range (power .1)
-
-  root-at : (c : ℕ) → n ^ 2 * (c * X) ≡ 4 ^ P * 2 ^ w → X ≡ 2 ^ w
-  root-at c e =
-      let power = divides (2 * P + w) (n ^ 2 * c) X (mul-assoc (n ^ 2) c X ∙ e ∙ sides) in
-      first-X w X (power .0) range (power .1)
-    where
-      sides : 4 ^ P * 2 ^ w ≡ 2 ^ (2 * P + w)
-      sides = ap (λ (m : ℕ). m * 2 ^ w) (pow-pow 2 2 P) ∙ sym (pow-add 2 (2 * P) w)
-
 module _ (w P : ℕ) where
-  elsewhere : (kind X : ℕ) → (kind ≡ 0) ⊎ (kind ≡ 3) ⊎ (kind ≡ 4) → InRange w X → isWhole (rowOf kind) w P X ≡ true → X ≡ 2 ^ w
-  elsewhere kind X of range e =
-      let said = document .whole kind w P X (floorValue (rowOf kind) w P X) range in
-      ⊎-elim (λ h. reciprocal-at w P X _ range (said .reciprocal h .0 (refl, e)))
-      (λ h. root-at w P X _ range (rowOf kind .c) (said .reciprocal-root h .0 (refl, e))) of
+  -- Where the function falls, L^k·c·X is a power of 2.
+  product-is : (row : Row) (X n : ℕ) → row .rising ≡ false → Exactly row w P X n → n ^ row .k * row .c * X ≡ 2 ^ (row .k * P + w)
+  unfolding numberSide valueSide num den
+  product-is row X n falls e =
+      mul-assoc (n ^ row .k) (row .c) X ∙ (rw falls at e)
+      ∙ ap (λ (m : ℕ). m * 2 ^ w) (pow-pow 2 (row .k) P) ∙ sym (pow-add 2 (row .k * P) w)
+
+  elsewhere : (row : Row) → Lawful row → row .rising ≡ false → (X : ℕ) → InRange w X → isWhole row w P X ≡ true → X ≡ 2 ^ w
+  elsewhere row lawful falls X range e =
+      let exactly = whole-is row lawful w P X range (floorValue row w P X) .0 (refl, e) in
+      let power = divides (row .k * P + w) (floorValue row w P X ^ row .k * row .c) X (product-is row X _ falls exactly) in
+      first-X w X (power .0) range (power .1)
 
   -- At x = 0 the value's power is c or 1 / c: it is whole for c = 1, with 2^P for L, and not for c = 2.
   zero-range : InRange w (2 ^ w)

@@ -35,7 +35,7 @@ pub fn floor_value(row: Row, w: u32, p: u32, x: u64) -> TableUnits
     TableUnits(root as i64)
 }
 
-// The same, and whether E(X) is that whole number: their parts tell it, without a second root.
+// The same, and whether E(X) is that whole number: it is where the part of L is the value's. No second root.
 pub(crate) fn floor_and_whole(row: Row, w: u32, p: u32, x: u64) -> FloorValue
     requires { ⌜ FloorInput row w p x ⌝ }
     ensures { λ r. ⌜ r ≡ floorAndWhole row w p x ⌝ }

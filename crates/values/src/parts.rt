@@ -39,7 +39,7 @@ pub(crate) fn value_part(row: Row, w: u32, s: u32, x: u64) -> u64
     }
 }
 
-// A number's part, its k-th power times the divisor, for a number that is at most the exact value.
+// A number's part, its k-th power times the divisor. Of a number that is at most the exact value it fits, since the value's part does.
 pub(crate) fn number_part(row: Row, w: u32, s: u32, x: u64, n: u64) -> u64
     requires { ⌜ FloorInput row w s x ⌝ }
     requires { ⌜ AtMost row w s x n ⌝ }

@@ -1,10 +1,8 @@
 // Segments, and the bounds Hi and Lo of the slope on each.
 ghost use mathlib.Core.Path.{_≡_};
 ghost use Prim.Native.Nat.{_+_, _*_, _^_, _<_};
-ghost use Rattle.values.specs.Floor.{floorValue};
 ghost use Rattle.values.specs.Slopes.{segmentStart, segmentEnd, largestSlopes};
 ghost use Rattle.values.specs.Slopes as Slopes;
-ghost use Rattle.values.specs.Room.{floorBound};
 ghost use Rattle.values.specs.Inputs.{FloorInput, SegmentInput, SlopeInput};
 use crate::floor::floor_and_whole;
 use crate::floor::floor_value;
@@ -28,22 +26,14 @@ pub fn segment_end(w: u32, a: u32, segment: u64) -> u64
     segment_start(w, a, segment) + pow2(w - a) - 1
 }
 
-// L(X) as a plain number.
-fn floor_count(row: Row, w: u32, p: u32, x: u64) -> u64
-    requires { ⌜ FloorInput row w p x ⌝ }
-    ensures { λ r. ⌜ (r ≡ floorValue row w p x) × (r < floorBound) ⌝ }
-{
-    floor_value(row, w, p, x).count()
-}
-
-// Hi, at the segment's start. The exact value there is above L by a fraction, or it is L.
+// Hi, at the segment's start, from the exact value there rounded up: L, and one more where it is not that whole number.
 fn hi(row: Row, w: u32, p: u32, start: u64) -> u64
     requires { ⌜ FloorInput row w p start ⌝ }
     ensures { λ r. ⌜ r ≡ Slopes.hi row w p start ⌝ }
 {
     let floor = floor_and_whole(row, w, p, start);
-    let fraction = if floor.whole { 0 } else { 1 };
-    (floor.units.count() + fraction) * 65536 / (row.k as u64 * start) + 1
+    let more = if floor.whole { 0 } else { 1 };
+    (floor.units.count() + more) * 65536 / (row.k as u64 * start) + 1
 }
 
 // Lo, at the segment's end.
@@ -51,7 +41,7 @@ fn lo(row: Row, w: u32, p: u32, end: u64) -> u64
     requires { ⌜ FloorInput row w p end ⌝ }
     ensures { λ r. ⌜ r ≡ Slopes.lo row w p end ⌝ }
 {
-    floor_count(row, w, p, end) * 65536 / (row.k as u64 * end)
+    floor_value(row, w, p, end).count() * 65536 / (row.k as u64 * end)
 }
 
 // Hi and Lo of a segment: 65536 times the slope on it is at most Hi and at least Lo.

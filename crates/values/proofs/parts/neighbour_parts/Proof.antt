@@ -42,8 +42,8 @@ module _ (n d : ℕ) where
   square-more = omega arith
 
 module _ (row : Row) (w s X divisor : ℕ) (divisor-is : divisor ≡ divisorPart row w s X) (input : FloorInput row w (s + 2) X) where
-  of-degree : row .k ≡ 1 → (n : ℕ) → n * divisor ≡ numberPart row w s X n
-  of-degree = linear row w s X divisor divisor-is
+  single : row .k ≡ 1 → (n : ℕ) → n * divisor ≡ numberPart row w s X n
+  single = linear row w s X divisor divisor-is
 
   squared : (row .k ≡ 1 → ⊥) → (n : ℕ) → n * n * divisor ≡ numberPart row w s X n
   squared = quadratic row w s X divisor divisor-is (input .lawful) (input .room .degree)
@@ -53,14 +53,14 @@ module _ (row : Row) (w s X divisor : ℕ) (divisor-is : divisor ≡ divisorPart
     room = number-part-fits row w s X input (n + 1) small
 
     room-linear : row .k ≡ 1 → (n + 1) * divisor < 2 ^ 64
-    room-linear e = rw (of-degree e (n + 1)) room
+    room-linear e = rw (single e (n + 1)) room
 
     room-quadratic : (row .k ≡ 1 → ⊥) → (n + 1) * (n + 1) * divisor < 2 ^ 64
     room-quadratic other = rw (squared other (n + 1)) room
 
     of-degree-1 : row .k ≡ 1
         → parts (n * divisor - divisor) (n * divisor + divisor) ≡ parts (numberPart row w s X (n - 1)) (numberPart row w s X (n + 1))
-    of-degree-1 e = ap₂ parts (one-less n divisor positive .1 ∙ of-degree e (n - 1)) (one-more n divisor ∙ of-degree e (n + 1))
+    of-degree-1 e = ap₂ parts (one-less n divisor positive .1 ∙ single e (n - 1)) (one-more n divisor ∙ single e (n + 1))
 
     of-degree-2 : (row .k ≡ 1 → ⊥) → let middle = n * (n * divisor) + divisor in
         parts (middle - 2 * (n * divisor)) (middle + 2 * (n * divisor))

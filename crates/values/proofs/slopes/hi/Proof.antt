@@ -1,4 +1,4 @@
--- `values::slopes::hi` meets its contract: the floor value and its fraction are the value rounded up, which is small, so nothing wraps.
+-- `values::slopes::hi` meets its contract: the floor value, or one more, is the value rounded up, which is small, so nothing wraps.
 use mathlib.Core.Path.{_≡_, ap, _∙_}
 use mathlib.Core.Bool.{true, false}
 use mathlib.Core.Logic.{⊎-elim}
@@ -19,22 +19,22 @@ use Rattle.values.proofs.Bounds.{step-small, step-pos, quotient-fits, f
 use Rattle.values.proofs.slopes.hi.Statement.{statement}
 use Rattle.values.proofs.slopes.hi.Tie as tie
 
-module _ (row : Row) (w P s count fraction : ℕ) (count-is : count ≡ floorValue row w P s) where
-  -- no fraction where the value is whole, else one
-  whole : isWhole row w P s ≡ true → fraction ≡ 0 → count + fraction ≡ ceilingValue row w P s
+module _ (row : Row) (w P s count more : ℕ) (count-is : count ≡ floorValue row w P s) where
+  -- nothing more where the value is whole, else one
+  whole : isWhole row w P s ≡ true → more ≡ 0 → count + more ≡ ceilingValue row w P s
   unfolding ceilingValue
   whole e none = rw (e, none, count-is) (add-zero (floorValue row w P s))
 
-  not-whole : isWhole row w P s ≡ false → fraction ≡ 1 → count + fraction ≡ ceilingValue row w P s
+  not-whole : isWhole row w P s ≡ false → more ≡ 1 → count + more ≡ ceilingValue row w P s
   unfolding ceilingValue
   not-whole e one = rw (e, one, count-is)
 
-  module _ (is : count + fraction ≡ ceilingValue row w P s) where
-    hi-is : (count + fraction) * 65536 / (row .k * s) + 1 ≡ Slopes.hi row w P s
+  module _ (is : count + more ≡ ceilingValue row w P s) where
+    hi-is : (count + more) * 65536 / (row .k * s) + 1 ≡ Slopes.hi row w P s
     unfolding Slopes.hi
     hi-is = rw is
 
-    small : FloorInput row w P s → count + fraction ≤ floorBound
+    small : FloorInput row w P s → count + more ≤ floorBound
     small input = rw is (omega (arith, ceiling-low row w P s, floor-small row w P s input))
 
 -- the floor value as a plain number, and the value rounded up
@@ -43,7 +43,7 @@ counted : (c : tie.After-count) → let a = c .before .before .before .args in
 counted c = c .count .ensures ∙ ap (λ (f : FloorValue). natAbs (f .units .0)) (c .before .before .floor-and-whole .ensures)
 
 rounded : (c : tie.After-count) → let a = c .before .before .before .args in
-    c .count .result + c .before .if1 .fraction ≡ ceilingValue (a .row) (a .w) (a .p) (a .start)
+    c .count .result + c .before .if1 .more ≡ ceilingValue (a .row) (a .w) (a .p) (a .start)
 rounded c =
     let told = ap (λ (f : FloorValue). f .whole) (c .before .before .floor-and-whole .ensures) in
     ⊎-elim (λ w. whole _ _ _ _ _ _ (counted c) (tested told (w .0 .taken)) (w .1))
@@ -55,7 +55,7 @@ returns c = let n = c .before .before in hi-is _ _ _ _ _ _ (counted n) (rounded 
 count-requires : tie.Need-count-requires
 count-requires c κs = rw (c .before .floor-and-whole .ensures) tt
 
-within : (c : tie.After-count) → c .count .result + c .before .if1 .fraction ≤ floorBound
+within : (c : tie.After-count) → c .count .result + c .before .if1 .more ≤ floorBound
 within c = small _ _ _ _ _ _ (counted c) (rounded c) (c .before .before .before .pre)
 
 add-result : tie.Need-add-result
