@@ -1,7 +1,6 @@
 -- Both sides of the one inequality, L and faithful are for each kind what document 01 writes, nearest is the same with halves, and whole is
 -- L's line with =.
 use mathlib.Core.Path.{_≡_, refl, sym, ap₂, transport}
-use mathlib.Core.Bool.{true}
 use mathlib.Core.Logic.{_⊎_, _↔_, inl, inr, ⊎-elim}
 use Prim.Native.Nat.{ℕ, zero, suc, _+_, _-_, _*_, _^_, _≤_, _<_}
 use native.Mathlib.Nat.{one-mul, mul-comm}
@@ -9,9 +8,9 @@ use native.Mathlib.Omega.{arith}
 use lib.Pow.{pow-add}
 use Rattle.values.specs.Rows.{rows, kinds, rowOf}
 use Rattle.values.specs.Exact.{num, den, numberSide, valueSide, AtMost, Exactly, Greatest}
-use Rattle.values.specs.Floor.{floorValue, isWhole}
+use Rattle.values.specs.Floor.{floorValue}
 use Rattle.values.specs.Inputs.{InRange}
-use Rattle.values.specs.Document.{SidesSaid, FloorSaid, WholeSaid, Between, WordSaid, Document}
+use Rattle.values.specs.Document.{SidesSaid, FloorSaid, ToldWhole, WholeSaid, Between, WordSaid, Document}
 use Rattle.values.proofs.FloorLaws.{floor-greatest, whole-is}
 use Rattle.values.proofs.NewtonLaws.{first-power}
 use Rattle.values.proofs.WidthLaws.{row-lawful}
@@ -65,8 +64,7 @@ whole-said kind w P X n range =
           at (whole (⊎-elim (λ (h : kind ≡ 3). omega arith) (λ (h : kind ≡ 4). omega arith) e));
     }
   where
-    whole : kind < kinds
-        → ((floorValue (rowOf kind) w P X ≡ n) × (isWhole (rowOf kind) w P X ≡ true)) ↔ Exactly (rowOf kind) w P X n
+    whole : kind < kinds → ToldWhole kind w P X n ↔ Exactly (rowOf kind) w P X n
     whole h = whole-is (rowOf kind) (row-lawful kind h) w P X range n
 
 -- Every kind is one of the three forms.

@@ -33,18 +33,19 @@ pub record FloorSaid (kind w P X : ℕ) : Type 0 where
   pub reciprocal-root : (kind ≡ 3) ⊎ (kind ≡ 4)
       → Greatest (λ n. n ^ 2 * (rowOf kind .c * X) ≤ 4 ^ P * 2 ^ w) (floorValue (rowOf kind) w P X)
 
--- Document 02, A7: "The floor value also tells whether E(X) is that whole number." It is n and told to be whole exactly where n is E(X):
--- where the document's line for L holds with = for ≤.
+-- The floor value is n, and it is told that E(X) is.
+abbrev pub ToldWhole : (kind w P X n : ℕ) → Type 0
+ToldWhole kind w P X n = (floorValue (rowOf kind) w P X ≡ n) × (isWhole (rowOf kind) w P X ≡ true)
+
+-- Document 02, A7: "The floor value also tells whether E(X) is that whole number." That is told exactly where document 01's line for L holds
+-- with = for ≤.
 pub record WholeSaid (kind w P X n : ℕ) : Type 0 where
   -- "kind 0: .. n·X ≤ 2^(P+w)"
-  pub reciprocal : kind ≡ 0
-      → ((floorValue (rowOf kind) w P X ≡ n) × (isWhole (rowOf kind) w P X ≡ true)) ↔ (n * X ≡ 2 ^ (P + w))
+  pub reciprocal : kind ≡ 0 → ToldWhole kind w P X n ↔ (n * X ≡ 2 ^ (P + w))
   -- "kinds 1, 2: .. n²·2^w ≤ c·X·4^P"
-  pub root : (kind ≡ 1) ⊎ (kind ≡ 2)
-      → ((floorValue (rowOf kind) w P X ≡ n) × (isWhole (rowOf kind) w P X ≡ true)) ↔ (n ^ 2 * 2 ^ w ≡ rowOf kind .c * X * 4 ^ P)
+  pub root : (kind ≡ 1) ⊎ (kind ≡ 2) → ToldWhole kind w P X n ↔ (n ^ 2 * 2 ^ w ≡ rowOf kind .c * X * 4 ^ P)
   -- "kinds 3, 4: .. n²·c·X ≤ 4^P·2^w"
-  pub reciprocal-root : (kind ≡ 3) ⊎ (kind ≡ 4)
-      → ((floorValue (rowOf kind) w P X ≡ n) × (isWhole (rowOf kind) w P X ≡ true)) ↔ (n ^ 2 * (rowOf kind .c * X) ≡ 4 ^ P * 2 ^ w)
+  pub reciprocal-root : (kind ≡ 3) ⊎ (kind ≡ 4) → ToldWhole kind w P X n ↔ (n ^ 2 * (rowOf kind .c * X) ≡ 4 ^ P * 2 ^ w)
 
 -- The exact value between two numbers, as document 01 writes it for each kind with its c: `_≺_` is < for faithful and ≤ for the second
 -- bound and for nearest, s is q, P + 18 or q + 1, and low and high are y-1 and y+1, Y'-R and Y'+R, or 2y-1 and 2y+1.
