@@ -1,6 +1,8 @@
 // Goes through the examples of document 01 that are not starred, and those of document 02's smallest cut, one line each. What each should come to is in the file stdout
 // beside src/.
+use checking::Checked;
 use checking::check;
+use console::Console;
 use design::Design;
 use design::Measured;
 use design::NO_PAIR;
@@ -10,8 +12,8 @@ use libc::STDOUT_FILENO;
 use refusal::Cause;
 use refusal::Verdict;
 use searching::smallest;
-use set_console::print_checked;
-use set_console::print_line;
+use set_console::put_checked;
+use set_console::put_line;
 use values::Valued;
 
 // A design of one table, of kind 0 with q 8 and g 4.
@@ -32,11 +34,27 @@ fn g() -> Design {
     of_one_table(8, 5, 3, 3)
 }
 
-fn show_line(label: &[u8], initial: &[u32], offsets: &[i32], number: usize) {
-    io::write_all(STDOUT_FILENO, label);
-    if !print_line(g(), initial, offsets, number) {
-        io::write_all(STDOUT_FILENO, b"none\n");
+// A line of G's set, if there is one.
+fn put_line_or_none(output: &mut [u8], initial: &[u32], offsets: &[i32], number: usize) -> Console {
+    let put = put_line(Console::new(), output, g(), initial, offsets, number);
+    let console = put.console;
+    if put.more {
+        return console;
     }
+    console.put(output, b"none\n")
+}
+
+fn show_line(label: &[u8], initial: &[u32], offsets: &[i32], number: usize) {
+    let mut output = [0u8; 128];
+    io::write_all(STDOUT_FILENO, label);
+    let console = put_line_or_none(&mut output, initial, offsets, number);
+    console.flush(&output);
+}
+
+fn show_checked(checked: Checked) {
+    let mut output = [0u8; 128];
+    let console = put_checked(Console::new(), &mut output, checked);
+    console.flush(&output);
 }
 
 // The check of a filled set with its initial entry 0 changed.
@@ -44,7 +62,7 @@ fn check_changed(label: &[u8], filled: [u32; 32], offsets: &[i32], first: u32) {
     let mut initial = filled;
     initial[0] = first;
     io::write_all(STDOUT_FILENO, label);
-    print_checked(check(g(), &initial, offsets));
+    show_checked(check(g(), &initial, offsets));
 }
 
 fn show_lines(initial: &[u32], offsets: &[i32]) {
@@ -70,7 +88,9 @@ fn print_passed() {
 }
 
 fn print_refused(cause: Cause) {
-    console::print_refused(cause);
+    let mut output = [0u8; 128];
+    let console = Console::new().put_refused(&mut output, cause);
+    console.flush(&output);
 }
 
 // Whether a value is turned down.

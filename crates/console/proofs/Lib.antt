@@ -1,2 +1,3 @@
--- Laws of lines that are read.
+-- Laws of what is read and written through blocks.
 pub mod LineLaws
+pub mod BlockLaws

@@ -1,18 +1,20 @@
 -- Bytes of a line before its newline, and a line that is cut off.
-use mathlib.Core.Path.{_≡_}
+use mathlib.Core.Path.{_≡_, refl}
 use mathlib.Core.Bool.{true}
 use mathlib.Core.List.{List, _++_}
-use Prim.Native.Nat.{ℕ, _+_, _≤_, _<_}
+use Prim.Native.Nat.{ℕ, zero, suc, _+_, _≤_, _<_}
 use native.Mathlib.Numerals.{add-one}
 use native.Mathlib.Omega.{arith}
 use lib.ListN.{length, take, set, length-append}
 use lib.Seq.{getD-set-same, getD-set-other, length-take-le}
+use borrow.Author.Tests.{lt-ltb}
 use Rattle.general.proofs.Sums.{below-suc}
 use Rattle.frames.specs.Line.{longestLine, lineFails}
 use Rattle.frames.proofs.LineLaws.{long-fails}
+use Rattle.console.specs.declared.Console.{Console}
 use Rattle.console.specs.declared.LineEnd.{LineEnd}
 use Rattle.console.specs.declared.LineStart.{LineStart}
-use Rattle.console.specs.Reading.{NoNewline, StartRead, LineRead}
+use Rattle.console.specs.Reading.{NoNewline, lastEnd, StartRead, LineRead}
 use Rattle.io.proofs.Counting.{counts}
 
 pub one-more : (bytes : List ℕ) (n byte : ℕ) → n < length bytes → NoNewline bytes n → (byte ≡ 10 → ⊥)
@@ -28,16 +30,32 @@ cut-fails bytes rest n fits long =
     long-fails (take n bytes ++ rest) (omega (arith, length-append (take n bytes) rest, length-take-le n bytes fits))
 
 -- What is read of a line, by how it ended
-module _ (bytes : List ℕ) (n : ℕ) (fits : n ≤ length bytes) (none : NoNewline bytes n) where
-  pub ended : (end : LineEnd) → (end ≡ LineEnd.Cut → ⊥) → StartRead bytes (record { count = n; end = end })
-  ended end uncut = record { counts = counts _ _ fits; no-newline = none; full = λ e. absurd (uncut e) }
+module _ (console : Console) (bytes : List ℕ) (n : ℕ) (fits : n ≤ length bytes) (none : NoNewline bytes n) where
+  pub ended : (end : LineEnd) → (end ≡ LineEnd.Cut → n ≡ length bytes) → (end ≡ LineEnd.Absent → n ≡ 0)
+      → StartRead bytes (record { console = console; count = n; end = end })
+  ended end full absent = record { counts = counts _ _ fits; no-newline = none; full = full; none = absent }
 
-  pub cut-off : n ≡ length bytes → StartRead bytes (record { count = n; end = LineEnd.Cut })
-  cut-off all = record { counts = counts _ _ fits; no-newline = none; full = λ e. all }
+  pub by-newline : StartRead bytes (record { console = console; count = n; end = LineEnd.Newline })
+  by-newline =
+      ended LineEnd.Newline (λ e. let z : _≡_ {A = ℕ} 0 1 = cc in absurd (omega arith))
+      (λ e. let z : _≡_ {A = ℕ} 0 1 = cc in absurd (omega arith))
+
+  pub cut-off : n ≡ length bytes → StartRead bytes (record { console = console; count = n; end = LineEnd.Cut })
+  cut-off all = ended LineEnd.Cut (λ e. all) (λ e. let z : _≡_ {A = ℕ} 0 1 = cc in absurd (omega arith))
+
+-- The input ends behind some bytes of a line, or before the first.
+pub by-input : (console : Console) (bytes : List ℕ) (n : ℕ) → n ≤ length bytes → NoNewline bytes n
+    → StartRead bytes (record { console = console; count = n; end = lastEnd n })
+by-input console bytes zero fits none =
+    ended console bytes 0 fits none LineEnd.Absent (λ e. let z : _≡_ {A = ℕ} 0 1 = cc in absurd (omega arith)) (λ e. refl)
+by-input console bytes (suc n) fits none =
+    rw (lt-ltb 0 (suc n) (omega arith))
+    (ended console bytes (suc n) fits none LineEnd.Input (λ e. let z : _≡_ {A = ℕ} 0 1 = cc in absurd (omega arith))
+    (λ e. let z : _≡_ {A = ℕ} 0 1 = cc in absurd (omega arith)))
 
 -- A line of which so many bytes are read is refused where it is cut off, whatever follows.
 pub whole-line : (bytes : List ℕ) (start : LineStart) → longestLine < length bytes → StartRead bytes start
-    → LineRead (record { bytes = bytes; count = start .count; end = start .end })
+    → LineRead (record { console = start .console; bytes = bytes; count = start .count; end = start .end })
 whole-line bytes start long read =
     record {
       counts = read .counts;

@@ -1,2 +1,3 @@
--- What a reader has to believe of lines that programs read.
+-- What a reader has to believe of what programs read and write.
 pub mod Reading
+pub mod Writing

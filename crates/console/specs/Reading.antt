@@ -1,26 +1,58 @@
 -- What can be said of input, whatever it is.
 use mathlib.Core.Path.{_≡_}
-use mathlib.Core.Bool.{true}
+use mathlib.Core.Bool.{Bool, true, false, cond, _&&_}
 use mathlib.Core.List.{List, _++_}
-use Prim.Native.Nat.{ℕ, _<_}
+use Prim.Native.Nat.{ℕ, zero, suc, _+_, _<_}
+use lib.Dec.{ltb}
 use lib.ListN.{length, getD, take}
 use Rattle.frames.specs.Line.{lineFails}
+use Rattle.console.specs.declared.Console.{Console}
+use Rattle.console.specs.declared.Next.{Next}
 use Rattle.console.specs.declared.LineEnd.{LineEnd}
 use Rattle.console.specs.declared.LineStart.{LineStart}
 use Rattle.console.specs.declared.Line.{Line}
 use Rattle.io.specs.Counts.{Counts}
 
+-- The next byte that is left in a block of the input
+unfoldable pub inBlock : Console → List ℕ → Next
+inBlock c block =
+    cond (ltb (c .at) (c .count) && ltb (c .at) (length block))
+    (record {
+      console = record { at = c .at + 1; count = c .count; pending = c .pending; failed = c .failed };
+      byte = getD block (c .at) 0;
+      ended = false;
+    })
+    (record { console = c; byte = 0; ended = true })
+
+-- The next byte of the input: the one that is left in the block, which stands then; where none is, the first of the next block, if there
+-- is one.
+pub record NextRead (c : Console) (before block : List ℕ) (next : Next) : Type 0 where
+  pub left : inBlock c before .ended ≡ false → (next ≡ inBlock c before) × (block ≡ before)
+  pub begun : Console
+  pub from-start : inBlock c before .ended ≡ true → (begun .at ≡ 0) × (next ≡ inBlock begun block)
+
 -- Document 01: "the line is all bytes before the first newline, or all there are if none comes". 10 is the newline.
 abbrev pub NoNewline : List ℕ → ℕ → Type 0
 NoNewline bytes n = (i : ℕ) → i < n → getD bytes i 0 ≡ 10 → ⊥
+
+-- A line that the end of the input ends is there if it has a byte.
+abbrev pub lastEnd : ℕ → LineEnd
+lastEnd count = cond (ltb 0 count) LineEnd.Input LineEnd.Absent
+
+abbrev pub isAbsent : LineEnd → Bool
+isAbsent LineEnd.Newline = false
+isAbsent LineEnd.Input = false
+isAbsent LineEnd.Cut = false
+isAbsent LineEnd.Absent = true
 
 -- The start of a line, read into bytes that the caller lends
 pub record StartRead (bytes : List ℕ) (start : LineStart) : Type 0 where
   -- the bytes read are the first `count`, and no newline is among them
   pub counts : Counts (start .count) bytes
   pub no-newline : NoNewline bytes (start .count)
-  -- a line is cut off only where all lent bytes are used
+  -- a line is cut off only where all lent bytes are used, and absent only where it has none
   pub full : start .end ≡ LineEnd.Cut → start .count ≡ length bytes
+  pub none : start .end ≡ LineEnd.Absent → start .count ≡ 0
 
 -- The start of a line, as much of it as the longest line has and a byte more
 pub record LineRead (line : Line) : Type 0 where

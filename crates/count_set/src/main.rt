@@ -1,24 +1,7 @@
-// Reads a set from standard input, line by line, and says how many of its words are nearest, only just faithful, or neither.
-ghost use lib.ListN.{length};
-ghost use Rattle.set_console.specs.Reading.{HoldsEverySet};
-use counting::count;
-use design::limits::MOST_INITIAL;
-use design::limits::MOST_OFFSETS;
-use set_console::print_counted;
-use set_console::read_set;
-
-fn read_and_count(initial: &mut [u32], offsets: &mut [i32])
-    requires { ⌜ HoldsEverySet (length (now initial)) (length (now offsets)) ⌝ }
-{
-    let set = read_set(initial, offsets);
-    let state = set.state;
-    if set.finished {
-        print_counted(count(state.design, initial, offsets));
-    }
-}
+// Reads sets from standard input, line by line, and says of each how many of its words are nearest, only just faithful, or neither.
+use set_files::Task;
+use set_files::answer_sets;
 
 fn main() {
-    let mut initial = [0u32; MOST_INITIAL];
-    let mut offsets = [0i32; MOST_OFFSETS];
-    read_and_count(&mut initial, &mut offsets);
+    answer_sets(Task::Count);
 }

@@ -4,3 +4,4 @@ pub mod DecodedLaws
 pub mod Decoding
 pub mod LineLaws
 pub mod FrameLaws
+pub mod DesignLaws

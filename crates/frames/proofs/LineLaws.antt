@@ -49,6 +49,11 @@ pub long-fails : (line : List ℕ) → longestLine < length line → lineFails l
 unfolding lineFails digitsFail
 long-fails line h = rw (lt-ltb _ _ h, or-true, or-true)
 
+-- A line that is not refused is not empty.
+pub sound-some : (line : List ℕ) → lineFails line ≡ false → isEmpty line ≡ false
+unfolding lineFails
+sound-some line e = neither (isEmpty line) (digitsFail line) e .0
+
 -- The bytes of a line that is not refused fit an array.
 pub bytes-short : (line : List ℕ) → lineFails line ≡ false → length (bytesOf line) ≤ capacity
 unfolding lineFails digitsFail

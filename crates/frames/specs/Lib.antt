@@ -3,3 +3,4 @@ pub mod Hex
 pub mod Line
 pub mod Inputs
 pub mod DesignFrame
+pub mod DesignText

@@ -9,6 +9,7 @@ ghost use Rattle.frames.specs.Hex.{digitValue};
 ghost use Rattle.frames.specs.Line.{textFails, lengthFails, decodedIf, decoded};
 ghost use Rattle.frames.specs.Inputs.{digitNumbers, EvenDigits};
 ghost use Rattle.frames.specs.DesignFrame.{frameChecks, framePair, frameDesign, firstChecks};
+ghost use Rattle.frames.specs.DesignText.{designLine};
 use design::Design;
 use design::NO_PAIR;
 use design::Pair;
@@ -187,4 +188,28 @@ pub fn first_verdict(bytes: [u8; CAPACITY], count: usize) -> Verdict
         return Verdict::Refused(cause);
     }
     design_verdict(frame_design(bytes))
+}
+
+// What a line that has to hold a design comes to: the verdict, and the design, which is legal where the line passes.
+pub struct DesignLine {
+    pub verdict: Verdict,
+    pub design: Design,
+}
+
+// A line that has to hold a design and stands by itself, as the report's does: the refusals 15, 16, then 1 to 9.
+pub fn design_line(line: &[u8]) -> DesignLine
+    ensures { λ r. ⌜ r ≡ designLine (now (line .entry)) ⌝ }
+{
+    let held = decode(line);
+    let sound = held.verdict;
+    let bytes = held.bytes;
+    let design = frame_design(bytes);
+    if let Verdict::Refused(cause) = sound {
+        return DesignLine {
+            verdict: Verdict::Refused(cause),
+            design,
+        };
+    }
+    let verdict = first_verdict(bytes, held.count);
+    DesignLine { verdict, design }
 }

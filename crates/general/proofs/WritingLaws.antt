@@ -71,13 +71,17 @@ module _ {A : Type 0} where
   over-before (x ∷ xs) (suc n) entries v h =
       rw (over-later x xs entries (suc n), over-later x xs (v ∷ entries) n) (ap (_∷_ x) (over-before xs n entries v (omega arith)))
 
-  -- The first n of the entries stand in front of what the table held, and then one more does.
+  -- The first n of the entries are written from a place on, and then one more is.
+  pub over-next-from : (table entries : List A) (place n : ℕ) (z : A) → n < length entries → place + length entries ≤ length table
+      → set (over table place (take n entries)) (place + n) (getD entries n z) ≡ over table place (take (n + 1) entries)
+  over-next-from table entries place n z h room =
+      let e = length-take-le n entries (omega arith) in
+      let one = over-one table place (take n entries) (omega arith) (getD entries n z) (omega arith) in
+      rw (add-one, take-suc entries n z h) (rw e at one)
+
   pub over-next : (table entries : List A) (n : ℕ) (z : A) → n < length entries → length entries ≤ length table
       → set (over table 0 (take n entries)) n (getD entries n z) ≡ over table 0 (take (n + 1) entries)
-  over-next table entries n z h room =
-      let e = length-take-le n entries (omega arith) in
-      let one = over-one table 0 (take n entries) (omega arith) (getD entries n z) (omega arith) in
-      rw (add-one, take-suc entries n z h) (rw (zero-add, e) at one)
+  over-next table entries n z h room = rw zero-add at (over-next-from table entries 0 n z h (omega arith))
 
 -- The list of f over the numbers below n, written from a place on: not yet, and one entry more
 module _ {A : Type 0} (f : ℕ → A) (table : List A) (start : ℕ) where

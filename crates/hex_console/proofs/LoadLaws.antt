@@ -1,6 +1,6 @@
 -- Records that are fed to a reading keep its state possible and its tables' lengths; so a set that is read is where its records led.
 use mathlib.Core.Path.{_≡_, refl, ap, _∙_}
-use mathlib.Core.Bool.{Bool, true}
+use mathlib.Core.Bool.{Bool, true, false}
 use mathlib.Core.List.{List, [], _∷_, _++_}
 use Prim.Native.Nat.{ℕ, _+_, _≤_, _<_}
 use native.Mathlib.Omega.{arith}
@@ -41,12 +41,19 @@ use Rattle.record_storage.specs.RecordStorage.{Recordable, loadedIn}
 use Rattle.record_storage.proofs.Uniqueness.{unique}
 use Rattle.record_storage.proofs.Taking.{Came, piece-data, accepted-record}
 use Rattle.record_storage.proofs.AfterRecords.{cut-possible}
-use Rattle.hex_console.specs.Loaded.{Underway, HexStepped, HexCame}
+use Rattle.set_console.proofs.FeedLaws.{left}
+use Rattle.hex_console.specs.Loaded.{HexStepped, HexCame}
 
--- A legal design's set has few records.
-pub few-records : (d : Design) (state : HexReading) → Underway d state → state .taken ≤ 3841
+-- A legal design's set has few records, of which no more are taken than there are.
+pub few-records : (d : Design) (initial : List ℕ) (offsets : List ℤ) (s : HexSession) → Legal d → HexCame d initial offsets s
+    → s .state .taken ≤ 3841
 unfolding recordCount dataCount
-few-records d state u = omega (arith, u .within, bytes-few d (u .legal))
+few-records d initial offsets s legal came = omega (arith, taken-within (byteCount d) (s .state) (came .is-possible), bytes-few d legal)
+
+pub left-less : (most taken next : ℕ) (before more : Bool) → taken ≤ most → before ≡ true → (more ≡ true → next ≡ taken + 1)
+    → left most more next < left most before taken
+left-less most taken next before true few e moves = rw e (omega (arith, moves refl))
+left-less most taken next before false few e moves = rw e (omega arith)
 
 -- A record that the writer gives is one of the set's, of which there are few.
 pub record RecordWithin (d : Design) (n : ℕ) : Type 0 where
@@ -151,10 +158,6 @@ module _ (d : Design) where
         initial-length = kept .initial-kept ∙ came .initial-length;
         offsets-length = kept .offsets-kept ∙ came .offsets-length;
       }
-
-  pub came-underway : (initial : List ℕ) (offsets : List ℤ) (s : HexSession) → Legal d → HexCame d initial offsets s
-      → Underway d (s .state)
-  came-underway initial offsets s legal came = record { legal = legal; within = taken-within total (s .state) (came .is-possible) }
 
 -- Records hold a set that was read from them to its end.
 pub loaded-recordable : (d : Design) (initial : List ℕ) (offsets : List ℤ) (end : HexSession) → HexCame d initial offsets end

@@ -50,6 +50,7 @@ unfolding lineText
 still-long LineEnd.Newline text long = omega (arith, one-dropped text)
 still-long LineEnd.Input text long = omega arith
 still-long LineEnd.Cut text long = omega arith
+still-long LineEnd.Absent text long = omega arith
 
 long-text-fails : (text : List ℕ) → longestRecord < length text → TextFails text
 long-text-fails text long = record { as-record = RecordLaws.long-fails text long; as-line = long-fails text (omega arith) }
@@ -57,7 +58,7 @@ long-text-fails text long = record { as-record = RecordLaws.long-fails text long
 -- A line is read into so many bytes or more, and `count` of them stand on it.
 pub text-read : (bytes : List ℕ) (start : LineStart) (count : ℕ) → longestRecord + 2 ≤ length bytes → StartRead bytes start
     → count ≤ start .count → take count bytes ≡ lineText (start .end) (take (start .count) bytes)
-    → TextRead bytes (record { count = count; end = start .end })
+    → TextRead bytes (record { console = start .console; count = count; end = start .end })
 text-read bytes start count room read few text =
     record {
       read = start .count;

@@ -21,6 +21,7 @@ unfoldable pub lineText : LineEnd → List ℕ → List ℕ
 lineText LineEnd.Newline bytes = withoutReturn bytes
 lineText LineEnd.Input bytes = bytes
 lineText LineEnd.Cut bytes = bytes
+lineText LineEnd.Absent bytes = bytes
 
 -- A text that is neither a record nor a line: 21 and 15 refuse it.
 pub record TextFails (text : List ℕ) : Type 0 where

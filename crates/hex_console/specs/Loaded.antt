@@ -3,34 +3,25 @@ use mathlib.Core.Path.{_≡_}
 use mathlib.Core.Bool.{Bool, true, false}
 use mathlib.Core.Logic.{_⊎_}
 use mathlib.Core.List.{List}
-use Prim.Native.Nat.{ℕ, _+_, _≤_}
+use Prim.Native.Nat.{ℕ, _+_}
 use lib.ListN.{length}
 use lib.IntN.{ℤ}
 use Rattle.refusal.specs.declared.Verdict.{Verdict}
 use Rattle.design.specs.declared.Design.{Design}
 use Rattle.design.specs.Legal.{Legal}
-use Rattle.reading.specs.declared.Reading.{Reading}
-use Rattle.reading.specs.ReadLine.{session, verdictOn, after}
-use Rattle.records.specs.IntelHex.{recordCount}
+use Rattle.frames.specs.Hex.{bytesOf}
+use Rattle.frames.specs.DesignFrame.{frameDesign}
+use Rattle.frames.specs.DesignText.{designLineVerdict}
 use Rattle.records.specs.SetBytes.{byteCount}
-use Rattle.record_reading.specs.declared.HexReading.{HexReading}
 use Rattle.record_reading.specs.ReadRecord.{hexPossible, hexFinished, HexSession, hexSession}
-use Rattle.storage.specs.Feeding.{Begins}
 use Rattle.record_storage.specs.Loading.{noRecord, hexFeed}
 
--- A design that was read: the reader of lines, with no line taken, accepted some line, and this is the design then. The tables stand.
-pub record DesignCame (initial : List ℕ) (offsets : List ℤ) (d : Design) : Type 0 where
-  pub start : Reading
-  pub begins : Begins (session start initial offsets)
+-- A design that was read: it stands on some line that has to hold one, "15, 16, 1 to 9", and is legal.
+pub record DesignCame (d : Design) : Type 0 where
   pub line : List ℕ
-  pub accepted : verdictOn (session start initial offsets) line ≡ Verdict.Passed
-  pub moved : after (session start initial offsets) line ≡ session (record { design = d; taken = 1 }) initial offsets
+  pub passed : designLineVerdict line ≡ Verdict.Passed
+  pub held : frameDesign (bytesOf line) ≡ d
   pub legal : Legal d
-
--- A state that a reading for a legal design comes to takes no more records than the set has.
-pub record Underway (d : Design) (state : HexReading) : Type 0 where
-  pub legal : Legal d
-  pub within : state .taken ≤ recordCount (byteCount d)
 
 -- Taking a record, or none, leads from one reading to the next: it is fed to the reader.
 pub record HexStepped (d : Design) (before next : HexSession) (more : Bool) : Type 0 where

@@ -9,22 +9,25 @@ ghost use Rattle.tables.specs.Inputs.{Usable};
 ghost use Rattle.records.specs.Record.{longestRecord};
 ghost use Rattle.record_writing.specs.WriteRecord.{hexWriteVerdict};
 ghost use Rattle.record_reading.specs.ReadRecord.{hexFinished, hexSession};
-ghost use Rattle.set_console.specs.Reading.{HoldsEverySet};
+ghost use Rattle.set_console.specs.Reading.{isLine};
 ghost use Rattle.hex_console.specs.LineTexts.{lineText, withoutReturn, TextRead};
-ghost use Rattle.hex_console.specs.Loaded.{DesignCame, Underway, HexStepped, HexCame};
+ghost use Rattle.hex_console.specs.Loaded.{DesignCame, HexStepped, HexCame};
+use console::Console;
 use console::LineEnd;
 use console::LineStart;
-use console::read_start;
+use console::is_absent;
 use design::Design;
+use frames::design_line;
 use record_reading::HexReading;
 use record_writing::write_record;
 use records::LONGEST_RECORD;
 use refusal::Verdict;
+use set_console::Came;
+use set_console::Put;
 use set_console::begin;
-use set_console::is_absent;
-use set_console::print_number;
-use set_console::print_refused_line;
-use set_console::print_text;
+use set_console::came_of;
+use set_console::is_line;
+use set_console::put_text;
 use writing::Written;
 
 // The longest record and the two characters that may end its line. A line with so many bytes before its newline is longer than any record,
@@ -56,176 +59,236 @@ fn text_length(bytes: &[u8], count: usize, end: LineEnd) -> usize
         LineEnd::Newline => without_return(bytes, count),
         LineEnd::Input => count,
         LineEnd::Cut => count,
+        LineEnd::Absent => count,
     }
 }
 
 // Reads a line of the input; its text stands at the start of the lent bytes.
-fn read_text(bytes: &mut [u8]) -> LineStart
+fn read_text(console: Console, input: &mut [u8], output: &[u8], bytes: &mut [u8]) -> LineStart
     requires { ⌜ longestRecord + 2 ≤ length (now bytes) ⌝ }
     ensures { λ r. ⌜ TextRead (now (bytes .exit)) r ⌝ }
 {
-    let start = read_start(bytes);
+    let start = console.read_start(input, output, bytes);
+    let next = start.console;
     let end = start.end;
     LineStart {
+        console: next,
         count: text_length(bytes, start.count, end),
         end,
     }
 }
 
-// What came of reading the design's line: the design, if the line was accepted.
+// What came of reading the design's line: the design, if the line was taken.
 pub struct DesignRead {
     pub design: Design,
-    pub accepted: bool,
+    pub console: Console,
+    pub came: Came,
 }
 
-// The line is handed to the reader of lines with no line taken, which refuses it with 15, 16, 1 to 9: the tables hold every legal set.
-fn take_design(initial: &mut [u32], offsets: &mut [i32], line: &[u8]) -> DesignRead
-    ensures { λ r. ⌜ (r .accepted ≡ true → DesignCame (now (initial .entry)) (now (offsets .entry)) (r .design)) ⌝ }
-    ensures { λ _. ⌜ now (initial .exit) ≡ now (initial .entry) ⌝ }
-    ensures { λ _. ⌜ now (offsets .exit) ≡ now (offsets .entry) ⌝ }
+// The line stands by itself, as the report's does: it is refused with 15, 16, 1 to 9, an empty one too.
+fn take_design(console: Console, line: &[u8]) -> DesignRead
+    ensures { λ r. ⌜ (isLine (r .came) ≡ true → DesignCame (r .design)) ⌝ }
 {
-    let read = begin().read_line(initial, offsets, line);
+    let read = design_line(line);
     let verdict = read.verdict;
-    let state = read.state;
-    let design = state.design;
+    let design = read.design;
     if let Verdict::Refused(cause) = verdict {
-        print_refused_line(0, cause);
         return DesignRead {
             design,
-            accepted: false,
+            console,
+            came: Came::Refused(cause),
         };
     }
     DesignRead {
         design,
-        accepted: true,
+        console,
+        came: Came::Line,
     }
 }
 
-// inner: reads a design's line from the input, and nothing behind it. The tables, which hold every legal set, stand. Where it is not
-// accepted, it has been said why.
-pub fn read_design(initial: &mut [u32], offsets: &mut [i32]) -> DesignRead
-    requires { ⌜ HoldsEverySet (length (now initial)) (length (now offsets)) ⌝ }
-    ensures came { λ r. ⌜ (r .accepted ≡ true → DesignCame (now (initial .entry)) (now (offsets .entry)) (r .design)) ⌝ }
-    ensures initial_stands { λ _. ⌜ now (initial .exit) ≡ now (initial .entry) ⌝ }
-    ensures offsets_stand { λ _. ⌜ now (offsets .exit) ≡ now (offsets .entry) ⌝ }
+// Reads a design's line from the input.
+pub fn read_design(console: Console, input: &mut [u8], output: &[u8]) -> DesignRead
+    ensures { λ r. ⌜ (isLine (r .came) ≡ true → DesignCame (r .design)) ⌝ }
 {
     let mut bytes = [0u8; KEPT];
-    let line = read_text(&mut bytes);
+    let line = read_text(console, input, output, &mut bytes);
+    let next = line.console;
     let count = line.count;
     let end = line.end;
-    if is_absent(end, count) {
-        print_number(b"UNFINISHED ", 0);
+    if is_absent(end) {
         let none = begin();
         let design = none.design;
         return DesignRead {
             design,
-            accepted: false,
+            console: next,
+            came: Came::Nothing,
         };
     }
-    take_design(initial, offsets, &bytes[..count])
+    take_design(next, &bytes[..count])
 }
 
-// What came of taking a record: the state to go on with, and whether there is more to take.
+// What came of taking a record: the state and the place in the input to go on with.
 struct HexStep {
     state: HexReading,
-    more: bool,
+    console: Console,
+    came: Came,
 }
 
-// Takes a record, or says why not. Every line before it was taken, the design's among them, so its number is one more than that of the
-// records taken.
+// Feeds a line of the input to the reading.
 fn take_text(
     d: Design,
-    state: HexReading,
+    step: HexStep,
     initial: &mut [u32],
     offsets: &mut [i32],
     text: &[u8],
 ) -> HexStep
-    requires { ⌜ Underway d state ⌝ }
     ensures { λ r.
-        ⌜ HexStepped d (hexSession state (now (initial .entry)) (now (offsets .entry)))
-        (hexSession (r .state) (now (initial .exit)) (now (offsets .exit))) (r .more) ⌝ }
+        ⌜ HexStepped d (hexSession (step .state) (now (initial .entry)) (now (offsets .entry)))
+        (hexSession (r .state) (now (initial .exit)) (now (offsets .exit))) (isLine (r .came)) ⌝ }
 {
+    let state = step.state;
+    let console = step.console;
     let read = state.read_record(d, initial, offsets, text);
     let verdict = read.verdict;
     if let Verdict::Refused(cause) = verdict {
-        print_refused_line(state.taken + 1, cause);
-        return HexStep { state, more: false };
+        return HexStep {
+            state,
+            console,
+            came: Came::Refused(cause),
+        };
     }
     let next = read.state;
     HexStep {
         state: next,
-        more: !next.is_finished(d),
+        console,
+        came: came_of(next.is_finished(d)),
     }
 }
 
 // Takes the next line of the input as a record, if there is one.
-fn take_record(d: Design, state: HexReading, initial: &mut [u32], offsets: &mut [i32]) -> HexStep
-    requires { ⌜ Underway d state ⌝ }
+fn take_record(
+    d: Design,
+    step: HexStep,
+    input: &mut [u8],
+    output: &[u8],
+    initial: &mut [u32],
+    offsets: &mut [i32],
+) -> HexStep
     ensures { λ r.
-        ⌜ HexStepped d (hexSession state (now (initial .entry)) (now (offsets .entry)))
-        (hexSession (r .state) (now (initial .exit)) (now (offsets .exit))) (r .more) ⌝ }
+        ⌜ HexStepped d (hexSession (step .state) (now (initial .entry)) (now (offsets .entry)))
+        (hexSession (r .state) (now (initial .exit)) (now (offsets .exit))) (isLine (r .came)) ⌝ }
 {
     let mut bytes = [0u8; KEPT];
-    let line = read_text(&mut bytes);
+    let state = step.state;
+    let console = step.console;
+    let line = read_text(console, input, output, &mut bytes);
+    let next = line.console;
     let count = line.count;
     let end = line.end;
-    if is_absent(end, count) {
-        print_number(b"UNFINISHED ", (state.taken + 1) as u64);
-        return HexStep { state, more: false };
+    let here = HexStep {
+        state,
+        console: next,
+        came: Came::Nothing,
+    };
+    if is_absent(end) {
+        return here;
     }
-    take_text(d, state, initial, offsets, &bytes[..count])
+    take_text(d, here, initial, offsets, &bytes[..count])
 }
 
-// What came of reading a set's records: the last state, and whether the set was read to its end record.
+// What came of reading a set's records: the last state, whether the set was read to its end record, and how many lines were taken, the
+// design's with them.
 pub struct RecordsRead {
     pub state: HexReading,
+    pub console: Console,
+    pub came: Came,
     pub finished: bool,
+    pub lines: u64,
 }
 
-// inner: reads the records of a design's set from the input, and nothing behind the end record, into tables that hold the set. Where it is
-// not finished, it has been said why.
-pub fn read_records(d: Design, initial: &mut [u32], offsets: &mut [i32]) -> RecordsRead
+// inner: reads the records of a design's set from the input into tables that hold the set.
+pub fn read_records(
+    d: Design,
+    console: Console,
+    input: &mut [u8],
+    output: &[u8],
+    initial: &mut [u32],
+    offsets: &mut [i32],
+) -> RecordsRead
     requires { ⌜ Usable d (length (now initial)) (length (now offsets)) ⌝ }
     ensures came { λ r.
         ⌜ HexCame d (now (initial .entry)) (now (offsets .entry)) (hexSession (r .state) (now (initial .exit)) (now (offsets .exit))) ⌝ }
     ensures told { λ r. ⌜ r .finished ≡ hexFinished d (r .state) ⌝ }
 {
-    let mut state = HexReading {
-        taken: 0,
-        first: 0,
-        second: 0,
+    let mut step = HexStep {
+        state: HexReading {
+            taken: 0,
+            first: 0,
+            second: 0,
+        },
+        console,
+        came: Came::Line,
     };
     let mut more = true;
     while more {
-        let step = take_record(d, state, initial, offsets);
-        state = step.state;
-        more = step.more;
+        step = take_record(d, step, input, output, initial, offsets);
+        let came = step.came;
+        more = is_line(came);
     }
+    let state = step.state;
+    let next = step.console;
+    let came = step.came;
     RecordsRead {
         state,
+        console: next,
+        came,
         finished: state.is_finished(d),
+        lines: state.taken as u64 + 1,
     }
 }
 
 // The longest record and its newline.
 const PRINTED: usize = LONGEST_RECORD + 1;
 
-// Writes a record of a set; false where the writer gives no such record or it could not be written whole.
-fn print_record(d: Design, initial: &[u32], offsets: &[i32], number: usize) -> bool
+// Puts a record of a set, if the writer gives it.
+fn put_record(
+    console: Console,
+    output: &mut [u8],
+    d: Design,
+    initial: &[u32],
+    offsets: &[i32],
+    number: usize,
+) -> Put
     ensures { λ r.
-        ⌜ (r ≡ true → hexWriteVerdict d (now (initial .entry)) (now (offsets .entry)) number (longestRecord + 1) ≡ Verdict.Passed) ⌝ }
+        ⌜ (r .more ≡ true
+        → hexWriteVerdict d (now (initial .entry)) (now (offsets .entry)) number (longestRecord + 1) ≡ Verdict.Passed) ⌝ }
 {
     let mut buffer = [0u8; PRINTED];
     match write_record(d, initial, offsets, number, &mut buffer) {
-        Written::Length(length) => print_text(&mut buffer, length),
-        Written::Refused(_) => false,
+        Written::Length(length) => put_text(console, output, &mut buffer, length),
+        Written::Refused(_) => Put {
+            console,
+            more: false,
+        },
     }
 }
 
-// Writes the records of a set, one after another, until the writer gives no more.
-pub fn print_records(d: Design, initial: &[u32], offsets: &[i32]) {
+// Puts the records of a set, one after another, until the writer gives no more.
+pub fn put_records(
+    console: Console,
+    output: &mut [u8],
+    d: Design,
+    initial: &[u32],
+    offsets: &[i32],
+) -> Console {
+    let mut put = Put {
+        console,
+        more: true,
+    };
     let mut number = 0;
-    while print_record(d, initial, offsets, number) {
+    while put.more {
+        put = put_record(put.console, output, d, initial, offsets, number);
         number += 1;
     }
+    put.console
 }

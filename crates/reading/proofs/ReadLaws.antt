@@ -1,6 +1,6 @@
 -- What is tried on a first line and on a later one, and what a line that passes tells.
 use mathlib.Core.Path.{_≡_, sym, ap, _∙_}
-use mathlib.Core.Bool.{Bool, true, false, _||_, _&&_, true≢false}
+use mathlib.Core.Bool.{Bool, true, false, _||_, _&&_, true≢false, or-true}
 use mathlib.Core.List.{List, [], _∷_, _++_}
 use Prim.Native.Nat.{ℕ, _<_}
 use native.Mathlib.Omega.{arith}
@@ -18,9 +18,10 @@ use Rattle.tables.specs.Inputs.{Usable}
 use Rattle.tables.specs.Set.{tablesCheck}
 use Rattle.tables.proofs.SetLaws.{usable, set-lengths, tables-long}
 use Rattle.frames.specs.Hex.{bytesOf}
-use Rattle.frames.specs.Line.{lineFails, lineChecks}
+use Rattle.frames.specs.Line.{isEmpty, lineFails, lineChecks}
 use Rattle.frames.specs.DesignFrame.{frameDesign, firstChecks}
 use Rattle.frames.proofs.FrameLaws.{first-frame}
+use Rattle.frames.proofs.LineLaws.{sound-some}
 use Rattle.lines.specs.Slots.{lineCount, slotOf}
 use Rattle.lines.specs.Lines.{frameHead, entryWidth, entryOver}
 use Rattle.reading.specs.declared.Reading.{Reading}
@@ -29,6 +30,8 @@ use Rattle.reading.specs.ReadLine.{
   possible,
   finished,
   stateCheck,
+  between,
+  emptyCheck,
   designAfter,
   headFails,
   laterFails,
@@ -125,6 +128,40 @@ module _ (state : Reading) where
   pub finished-at-end : Begun state → state .taken ≡ lineCount (state .design) → finished state ≡ true
   finished-at-end b e = by-count (begun-possible state b) ∙ eq-eqb (state .taken) (lineCount (state .design)) e
 
+-- An empty line is tried by the state alone, any other for what stands on it.
+module _ (state : Reading) (initial offsets : ℕ) (line : List ℕ) where
+  pub empty-verdict : isEmpty line ≡ true → readVerdict state initial offsets line ≡ verdict (stateCheck state ∷ emptyCheck state ∷ [])
+  unfolding readVerdict
+  empty-verdict e = rw e
+
+  pub some-verdict : isEmpty line ≡ false
+      → readVerdict state initial offsets line
+      ≡ verdict (stateCheck state ∷ lineChecks line ++ dueChecks state initial offsets (bytesOf line))
+  unfolding readVerdict
+  some-verdict e = rw e
+
+-- An empty line may stand before a set and after one, and nowhere else.
+module _ (state : Reading) where
+  pub before-set : state .taken ≡ 0 → between state ≡ true
+  unfolding between
+  before-set none = rw none
+
+  pub by-finish : 0 < state .taken → between state ≡ finished state
+  unfolding between
+  by-finish some = rw (ne-eqb (state .taken) 0 (λ z. omega arith))
+
+  pub after-set : finished state ≡ true → between state ≡ true
+  unfolding between
+  after-set e = rw (e, or-true)
+
+  pub empty-passes : between state ≡ true → verdict (emptyCheck state ∷ []) ≡ Verdict.Passed
+  unfolding emptyCheck
+  empty-passes e = rw e
+
+  pub empty-fails : between state ≡ false → verdict (emptyCheck state ∷ []) ≡ Verdict.Refused Cause.Frame
+  unfolding emptyCheck
+  empty-fails e = rw e
+
 -- A line that passes
 pub record Passing (state : Reading) (initial offsets : ℕ) (line : List ℕ) : Type 0 where
   pub state-possible : possible state ≡ true
@@ -132,10 +169,12 @@ pub record Passing (state : Reading) (initial offsets : ℕ) (line : List ℕ) :
   pub frame-passed : verdict (dueChecks state initial offsets (bytesOf line)) ≡ Verdict.Passed
 
 module _ (state : Reading) (initial offsets : ℕ) where
-  pub passing : (line : List ℕ) → readVerdict state initial offsets line ≡ Verdict.Passed → Passing state initial offsets line
-  unfolding readVerdict stateCheck lineChecks
-  passing line e =
-      let parts = passed-append (stateCheck state ∷ lineChecks line) (dueChecks state initial offsets (bytesOf line)) e in
+  pub passing : (line : List ℕ) → isEmpty line ≡ false → readVerdict state initial offsets line ≡ Verdict.Passed
+      → Passing state initial offsets line
+  unfolding stateCheck lineChecks
+  passing line some e =
+      let parts = passed-append (stateCheck state ∷ lineChecks line) (dueChecks state initial offsets (bytesOf line))
+      (sym (some-verdict state initial offsets line some) ∙ e) in
       let sound = none-fails (stateCheck state ∷ lineChecks line) (parts .0) in
       record {
         state-possible = not-false (possible state) (sound .0);
@@ -144,8 +183,10 @@ module _ (state : Reading) (initial offsets : ℕ) where
       }
 
   pub passed : (line : List ℕ) → Passing state initial offsets line → readVerdict state initial offsets line ≡ Verdict.Passed
-  unfolding readVerdict stateCheck lineChecks
-  passed line p = rw (p .state-possible, p .line-sound, p .frame-passed)
+  unfolding stateCheck lineChecks
+  passed line p =
+      some-verdict state initial offsets line (sound-some line (p .line-sound))
+      ∙ rw (p .state-possible, p .line-sound, p .frame-passed)
 
   module _ (bytes : List ℕ) where
     -- the first line

@@ -1,7 +1,7 @@
 -- What a line comes to, sound or not: the answer, its number, and the tables after it.
 use mathlib.Core.Path.{_≡_, refl, ap, _∙_}
 use mathlib.Core.Bool.{true, false}
-use mathlib.Core.List.{List}
+use mathlib.Core.List.{List, [], _∷_, _++_}
 use Prim.Native.Nat.{ℕ, _-_}
 use lib.IntN.{ℤ}
 use lib.ListN.{length, take, replicate}
@@ -14,7 +14,7 @@ use Rattle.refusal.proofs.Checks.{verdict-append, none-fails}
 use Rattle.refusal.proofs.Answers.{if-passed-part}
 use Rattle.frames.specs.declared.Decoded.{Decoded}
 use Rattle.frames.specs.Hex.{bytesOf}
-use Rattle.frames.specs.Line.{lineChecks, capacity, padded, decoded}
+use Rattle.frames.specs.Line.{isEmpty, lineChecks, capacity, padded, decoded}
 use Rattle.frames.proofs.LineLaws.{bytes-short, line-told, held-whole}
 use Rattle.lines.specs.declared.Slot.{Slot}
 use Rattle.lines.specs.Slots.{slotOf}
@@ -25,11 +25,13 @@ use Rattle.reading.specs.Inputs.{Sound}
 use Rattle.reading.specs.ReadLine.{
   possible,
   stateCheck,
+  emptyCheck,
   designAfter,
   dueChecks,
   dueVerdict,
   readVerdict,
   nextState,
+  emptyAnswer,
   answerIf,
   Session,
   readAnswer,
@@ -42,6 +44,7 @@ use Rattle.reading.specs.ReadLine.{
   verdictOn,
   after,
 }
+use Rattle.reading.proofs.ReadLaws.{empty-verdict, some-verdict}
 use Rattle.reading.proofs.LineSteps.{refusedAnswer, Outcome}
 
 -- What `decode` gives for a line that it accepts
@@ -90,33 +93,49 @@ module _ (state : Reading) (initial : List ℕ) (offsets : List ℤ) (line : Lis
   impossible answer is e = line-refused Cause.State answer is (rw e)
 
   module _ (possible-state : possible state ≡ true) where
-    -- The line is not sound.
-    pub unsound : (cause : Cause) (answer : Read) → answer ≡ refusedAnswer state cause
-        → verdict (lineChecks line) ≡ Verdict.Refused cause
-        → LineOutcome state initial offsets line answer initial offsets
-    unfolding readVerdict stateCheck
-    unsound cause answer is e =
-        line-refused cause answer is
-        (rw (possible-state, verdict-append (lineChecks line) (dueChecks state (length initial) (length offsets) (bytesOf line)), e))
+    -- The line is empty: both tables stand, whatever the verdict is.
+    module _ (empty : isEmpty line ≡ true) where
+      state-decides : readVerdict state (length initial) (length offsets) line ≡ verdict (emptyCheck state ∷ [])
+      unfolding stateCheck
+      state-decides = empty-verdict state (length initial) (length offsets) line empty ∙ rw possible-state
 
-    -- A sound line comes to what its frame comes to.
-    module _ (sound : verdict (lineChecks line) ≡ Verdict.Passed) where
-      frame-decides : readVerdict state (length initial) (length offsets) line
-          ≡ dueVerdict state (length initial) (length offsets) (bytesOf line)
-      unfolding readVerdict stateCheck dueVerdict
-      frame-decides =
-          rw (
-            possible-state,
-            verdict-append (lineChecks line) (dueChecks state (length initial) (length offsets) (bytesOf line)),
-            sound,
-          )
+      pub empty-outcome : (answer : Read) → answer ≡ emptyAnswer state → LineOutcome state initial offsets line answer initial offsets
+      unfolding readAnswer after verdictOn emptyAnswer
+      empty-outcome answer is = go (verdict (emptyCheck state ∷ [])) refl
+        where
+          go : (v : Verdict) → verdict (emptyCheck state ∷ []) ≡ v → LineOutcome state initial offsets line answer initial offsets
+          go Verdict.Passed e = rw (is, state-decides, e, empty) (refl, (refl, (refl, refl)))
+          go (Verdict.Refused cause) e = rw (is, state-decides, e) (refl, (refl, (refl, refl)))
 
-      pub line-outcome : (answer : Read) (initial-after : List ℕ) (offsets-after : List ℤ)
-          → Outcome state initial offsets (bytesOf line) answer initial-after offsets-after
-          → LineOutcome state initial offsets line answer initial-after offsets-after
-      unfolding readAnswer after verdictOn afterFrame
-      line-outcome answer initial-after offsets-after o =
-          rw (frame-decides, moved-state) (o .0, (ap (λ (r : Read). verdictNumber (r .verdict)) (o .0), o .1))
+    module _ (some : isEmpty line ≡ false) where
+      tried : readVerdict state (length initial) (length offsets) line
+          ≡ verdict (lineChecks line ++ dueChecks state (length initial) (length offsets) (bytesOf line))
+      unfolding stateCheck
+      tried = some-verdict state (length initial) (length offsets) line some ∙ rw possible-state
+
+      -- The line is not sound.
+      pub unsound : (cause : Cause) (answer : Read) → answer ≡ refusedAnswer state cause
+          → verdict (lineChecks line) ≡ Verdict.Refused cause
+          → LineOutcome state initial offsets line answer initial offsets
+      unsound cause answer is e =
+          line-refused cause answer is
+          (tried ∙ rw (verdict-append (lineChecks line) (dueChecks state (length initial) (length offsets) (bytesOf line)), e))
+
+      -- A sound line comes to what its frame comes to.
+      module _ (sound : verdict (lineChecks line) ≡ Verdict.Passed) where
+        frame-decides : readVerdict state (length initial) (length offsets) line
+            ≡ dueVerdict state (length initial) (length offsets) (bytesOf line)
+        unfolding dueVerdict
+        frame-decides =
+            tried
+            ∙ rw (verdict-append (lineChecks line) (dueChecks state (length initial) (length offsets) (bytesOf line)), sound)
+
+        pub line-outcome : (answer : Read) (initial-after : List ℕ) (offsets-after : List ℤ)
+            → Outcome state initial offsets (bytesOf line) answer initial-after offsets-after
+            → LineOutcome state initial offsets line answer initial-after offsets-after
+        unfolding readAnswer after verdictOn afterFrame
+        line-outcome answer initial-after offsets-after o =
+            rw (frame-decides, some, moved-state) (o .0, (ap (λ (r : Read). verdictNumber (r .verdict)) (o .0), o .1))
 
 -- The first line stores nothing.
 module _ (state : Reading) (none : state .taken ≡ 0) (initial : List ℕ) (offsets : List ℤ) (frame : List ℕ) where

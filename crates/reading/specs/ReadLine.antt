@@ -1,5 +1,5 @@
 -- What the call `read_line` answers, "reader 17, 15, 16, on an 01 line 1 to 9, then 10", with document 02's 23 "in the reader after 16",
--- and what it leaves in the state and the tables.
+-- and what it leaves in the state and the tables. Document 02, A8: an empty line stands between sets.
 use mathlib.Core.Bool.{Bool, true, false, cond, not, _||_, _&&_}
 use mathlib.Core.List.{List, [], _∷_, _++_}
 use Prim.Native.Nat.{ℕ, _+_}
@@ -13,7 +13,7 @@ use Rattle.design.specs.declared.Design.{Design}
 use Rattle.design.specs.Legal.{designVerdict}
 use Rattle.tables.specs.Set.{tablesCheck}
 use Rattle.frames.specs.Hex.{bytesOf}
-use Rattle.frames.specs.Line.{lineChecks}
+use Rattle.frames.specs.Line.{isEmpty, lineChecks}
 use Rattle.frames.specs.DesignFrame.{frameDesign, firstChecks}
 use Rattle.encoding.specs.Bytes.{numberIn, entryBytes, fromComplement}
 use Rattle.lines.specs.declared.Slot.{Slot}
@@ -33,6 +33,14 @@ stateCheck state = not (possible state) ↝ Cause.State
 -- "After 04 nothing more is due and the reading is finished": a possible state in which all lines are taken
 unfoldable pub finished : Reading → Bool
 finished state = possible state && eqb (state .taken) (lineCount (state .design))
+
+-- Document 02, A8: an empty line may stand "after a finished set" and "before a set's first line", where no line is taken.
+unfoldable pub between : Reading → Bool
+between state = eqb (state .taken) 0 || finished state
+
+-- "Inside a set it is refused with 16"
+unfoldable pub emptyCheck : Reading → Check
+emptyCheck state = not (between state) ↝ Cause.Frame
 
 -- "with 0 taken the design is not read": the design is then that of the line, which is given as its bytes.
 unfoldable pub designAfter : Reading → List ℕ → Design
@@ -77,15 +85,28 @@ dueChecks state initial offsets bytes =
 unfoldable pub dueVerdict : Reading → ℕ → ℕ → List ℕ → Verdict
 dueVerdict state initial offsets bytes = verdict (dueChecks state initial offsets bytes)
 
--- "reader 17, 15", and what is due
+-- "reader 17, 15", and what is due. An empty line is tried by the state alone: "Neither tries the tables".
 unfoldable pub readVerdict : Reading → ℕ → ℕ → List ℕ → Verdict
 readVerdict state initial offsets line =
-    verdict (stateCheck state ∷ lineChecks line ++ dueChecks state initial offsets (bytesOf line))
+    verdict
+    (stateCheck state
+    ∷ cond (isEmpty line) (emptyCheck state ∷ []) (lineChecks line ++ dueChecks state initial offsets (bytesOf line)))
 
 -- "Each accepted line moves the reading state on by one". Pairs beyond m are those of the design: zeros from an 01 line, as they came
 -- later.
 abbrev pub nextState : Reading → List ℕ → Reading
 nextState state bytes = record { design = designAfter state bytes; taken = state .taken + 1 }
+
+-- "An empty line after a finished set gives a reading state with no line taken, the design in it standing as it came. An empty line before a
+-- set's first line is passed over, the state unchanged": no line is taken then.
+abbrev pub noneTaken : Reading → Reading
+noneTaken state = record { design = state .design; taken = 0 }
+
+-- The verdict on an empty line in a possible state, and the state beside it
+unfoldable pub emptyAnswer : Reading → Read
+emptyAnswer state =
+    let v = verdict (emptyCheck state ∷ []) in
+    record { verdict = v; state = ifPassed v (noneTaken state) (λ cause. state) }
 
 -- The verdict on a sound line, which is given as its bytes, and the state beside it; a refusal "gives back the state that came in".
 abbrev pub answerIf : Verdict → Reading → List ℕ → Read
@@ -132,12 +153,15 @@ movedIf v s bytes = ifPassed v (moved s bytes) (λ cause. s)
 unfoldable pub afterFrame : Session → List ℕ → Session
 afterFrame s bytes = movedIf (dueVerdict (s .state) (length (s .initial)) (length (s .offsets)) bytes) s bytes
 
--- The verdict of a reading on a line, and the reading after it
+-- The verdict of a reading on a line, and the reading after it: an accepted empty line leaves both tables.
 unfoldable pub verdictOn : Session → List ℕ → Verdict
 verdictOn s line = readVerdict (s .state) (length (s .initial)) (length (s .offsets)) line
 
+abbrev pub movedBy : Session → List ℕ → Session
+movedBy s line = cond (isEmpty line) (session (noneTaken (s .state)) (s .initial) (s .offsets)) (moved s (bytesOf line))
+
 unfoldable pub after : Session → List ℕ → Session
-after s line = movedIf (verdictOn s line) s (bytesOf line)
+after s line = ifPassed (verdictOn s line) (movedBy s line) (λ cause. s)
 
 -- What `read_line` returns: the verdict, and the next state beside it
 unfoldable pub readAnswer : Session → List ℕ → Read

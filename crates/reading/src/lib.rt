@@ -10,8 +10,10 @@ ghost use Rattle.lines.specs.Inputs.{SlotIn};
 ghost use Rattle.reading.specs.ReadLine.{
   possible,
   finished,
+  between,
   headFails,
   dueVerdict,
+  emptyAnswer,
   answerIf,
   readAnswer,
   initialStored,
@@ -117,6 +119,24 @@ fn refused(state: Reading, cause: Cause) -> Read
     }
 }
 
+// An empty line in a possible state (document 02, A8). No line is taken after it: with none taken it is passed over, and after a finished
+// set the next one may begin. Inside a set it is not the line that is due.
+fn empty_line(state: Reading) -> Read
+    ensures { λ r. ⌜ r ≡ emptyAnswer state ⌝ }
+{
+    let d = state.design;
+    if !state.is_between() {
+        return refused(state, Cause::Frame);
+    }
+    Read {
+        verdict: Verdict::Passed,
+        state: Reading {
+            design: d,
+            taken: 0,
+        },
+    }
+}
+
 // A sound line with no line taken: it must hold a design.
 fn first_line(
     start: Reading,
@@ -202,6 +222,16 @@ impl Reading {
         }
     }
 
+    // inner: whether the reading is not inside a set: no line is taken, or all of a set's are.
+    pub fn is_between(self) -> bool
+        ensures { λ r. ⌜ r ≡ between self ⌝ }
+    {
+        if self.taken == 0 {
+            return true;
+        }
+        self.is_finished()
+    }
+
     // Takes a line (document 01, "Bits, lines and the report"). Nothing is stored before every check has passed.
     pub fn read_line(self, initial: &mut [u32], offsets: &mut [i32], line: &[u8]) -> Read
         ensures answer { λ r.
@@ -216,8 +246,13 @@ impl Reading {
             ⌜ now (offsets .exit)
             ≡ after (session self (now (initial .entry)) (now (offsets .entry))) (now (line .entry)) .offsets ⌝ }
     {
-        if !is_possible(self) {
+        let possible = is_possible(self);
+        let empty = line.len() == 0;
+        if !possible {
             return refused(self, Cause::State);
+        }
+        if empty {
+            return empty_line(self);
         }
         let decoded = decode(line);
         let sound = decoded.verdict;

@@ -1,7 +1,14 @@
 // Reads one design's line from standard input and writes the report on it.
+use console::Console;
+
 fn main() {
-    let line = console::read_line();
+    // A byte at a time, so that nothing behind the line is waited for.
+    let mut input = [0u8; 1];
+    let mut output = [0u8; 128];
+    let line = Console::new().read_line(&mut input, &output);
     let bytes = line.bytes;
     let count = line.count;
-    console::print_report(&bytes[..count]);
+    let console = line.console;
+    let put = console.put_report(&mut output, &bytes[..count]);
+    put.flush(&output);
 }

@@ -2,17 +2,15 @@
 use mathlib.Core.Bool.{Bool, cond}
 use mathlib.Core.List.{List, _++_}
 use Prim.Native.Nat.{ℕ}
-use lib.ListN.{length}
 use Rattle.refusal.specs.declared.Cause.{Cause}
-use Rattle.refusal.specs.declared.Verdict.{Verdict}
 use Rattle.refusal.specs.Numbers.{numberOf}
-use Rattle.refusal.specs.Checks.{verdict, ifPassed}
+use Rattle.refusal.specs.Checks.{ifPassed}
 use Rattle.design.specs.declared.Design.{Design}
 use Rattle.design.specs.Budget.{budget, limit, withinLimit}
 use Rattle.sizing.specs.Size.{size}
 use Rattle.frames.specs.Hex.{bytesOf}
-use Rattle.frames.specs.Line.{lineChecks}
-use Rattle.frames.specs.DesignFrame.{frameDesign, firstChecks}
+use Rattle.frames.specs.DesignFrame.{frameDesign}
+use Rattle.frames.specs.DesignText.{designLineVerdict}
 use Rattle.report_text.specs.declared.Text.{Text}
 use Rattle.report_text.specs.Words.{ascii, decimal, textOf}
 
@@ -32,8 +30,5 @@ unfoldable pub refusedText : Cause → List ℕ
 refusedText cause = ascii "REFUSED " ++ decimal (numberOf cause) ++ ascii "\n"
 
 -- "report 15, 16, 1 to 9"
-unfoldable pub reportVerdict : List ℕ → Verdict
-reportVerdict line = verdict (lineChecks line ++ firstChecks (bytesOf line) (length (bytesOf line)))
-
 unfoldable pub reportOf : List ℕ → Text
-reportOf line = textOf (ifPassed (reportVerdict line) (designText (frameDesign (bytesOf line))) refusedText)
+reportOf line = textOf (ifPassed (designLineVerdict line) (designText (frameDesign (bytesOf line))) refusedText)

@@ -11,9 +11,7 @@ ghost use Rattle.report_text.specs.Report.{lineText, refusedText, report
 use design::Design;
 use design::measure::budget_of;
 use design::measure::limit_of;
-use frames::decode;
-use frames::first_verdict;
-use frames::frame_design;
+use frames::design_line;
 use refusal::Cause;
 use refusal::Verdict;
 use sizing::size_of;
@@ -113,16 +111,12 @@ fn bits_if(admitted: bool, d: Design) -> u64
 pub fn report(line: &[u8]) -> Text
     ensures { λ r. ⌜ r ≡ reportOf (now (line .entry)) ⌝ }
 {
-    let held = decode(line);
-    let sound = held.verdict;
-    if let Verdict::Refused(cause) = sound {
+    let read = design_line(line);
+    let verdict = read.verdict;
+    if let Verdict::Refused(cause) = verdict {
         return refused(cause);
     }
-    let bytes = held.bytes;
-    if let Verdict::Refused(cause) = first_verdict(bytes, held.count) {
-        return refused(cause);
-    }
-    let d = frame_design(bytes);
+    let d = read.design;
     let budget = budget_of(d);
     let limit = limit_of(d);
     let admitted = budget < limit;

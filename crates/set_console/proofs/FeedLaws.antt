@@ -1,82 +1,47 @@
--- Lines that are fed to a reading keep its state possible and its tables' lengths; so a set that is read comes from where its lines led.
+-- What lines that are read do to a reading, one after another.
 use mathlib.Core.Path.{_≡_, refl, sym, ap, _∙_}
-use mathlib.Core.Bool.{Bool, true, false, cond, not, true≢false}
+use mathlib.Core.Bool.{Bool, true, false, cond, true≢false}
 use mathlib.Core.List.{List, [], _∷_, _++_}
-use Prim.Native.Nat.{ℕ, _+_, _-_, _≤_, _<_}
-use native.Mathlib.Decide.{decLt}
+use Prim.Native.Nat.{ℕ, _+_, _-_, _^_, _≤_, _<_}
 use native.Mathlib.Omega.{arith}
-use lib.ListN.{length}
 use lib.IntN.{ℤ}
-use mathlib.Core.Logic.{inl, inr}
-use borrow.Author.Tests.{not-true, not-false}
 use Rattle.refusal.specs.declared.Cause.{Cause}
 use Rattle.refusal.specs.declared.Verdict.{Verdict}
-use Rattle.lines.specs.Slots.{mostLines}
-use Rattle.lines.proofs.TableLaws.{lines-small}
 use Rattle.reading.specs.declared.Reading.{Reading}
 use Rattle.reading.specs.declared.Read.{Read}
-use Rattle.reading.specs.ReadLine.{possible, finished, Session, session, verdictOn, after, readAnswer}
-use Rattle.reading.proofs.ReadLaws.{begun, begun-possible}
-use Rattle.storage.specs.Feeding.{feed}
-use Rattle.storage.proofs.Accepting.{SomeAccepted, accepted-line}
-use Rattle.storage.proofs.Uniqueness.{initial-length, offsets-length, refused-stands}
-use Rattle.set_console.specs.Reading.{Stepped, Came}
+use Rattle.reading.specs.ReadLine.{finished, Session, session, verdictOn, after, readAnswer}
+use Rattle.storage.specs.Feeding.{feed, finishedBy, finishes}
+use Rattle.storage.proofs.Feeds.{feed-append, finishes-append}
+use Rattle.storage.proofs.Uniqueness.{refused-stands}
+use Rattle.set_console.specs.declared.Came.{Came}
+use Rattle.set_console.specs.Reading.{cameOf, isLine, linesWith, finishedAs, Led}
 
--- What stays the same from one reading to a later one
-record Kept (s next : Session) : Type 0 where
-  stays-possible : possible (s .state) ≡ true → possible (next .state) ≡ true
-  initial-kept : length (next .initial) ≡ length (s .initial)
-  offsets-kept : length (next .offsets) ≡ length (s .offsets)
-
-kept-same : (s : Session) → Kept s s
-kept-same s = record { stays-possible = λ p. p; initial-kept = refl; offsets-kept = refl }
-
-kept-accepted : (s : Session) (line : List ℕ) → SomeAccepted s line → Kept s (after s line)
-kept-accepted s line some =
-    let a = some .accepted in
-    rw (a .moved)
-    (record {
-      stays-possible = λ p.
-          begun-possible _ (record { some = omega arith; legal = a .tables .legal; within = omega (arith, a .within) });
-      initial-kept = initial-length _ _ _;
-      offsets-kept = offsets-length _ _ _;
-    })
-
-kept-after : (s : Session) (line : List ℕ) → Kept s (after s line)
-kept-after s line = go (verdictOn s line) refl
-  where
-    go : (v : Verdict) → verdictOn s line ≡ v → Kept s (after s line)
-    go Verdict.Passed e = kept-accepted s line (accepted-line s line e)
-    go (Verdict.Refused cause) e = rw (refused-stands s line cause e) (kept-same s)
-
-kept-fed : (lines : List (List ℕ)) (s : Session) → Kept s (feed s lines)
-unfolding feed
-kept-fed [] s = kept-same s
-kept-fed (line ∷ lines) s =
-    let first = kept-after s line in
-    let rest = kept-fed lines (after s line) in
-    record {
-      stays-possible = λ p. rest .stays-possible (first .stays-possible p);
-      initial-kept = rest .initial-kept ∙ first .initial-kept;
-      offsets-kept = rest .offsets-kept ∙ first .offsets-kept;
-    }
-
-feed-append : (lines more : List (List ℕ)) (s : Session) → feed s (lines ++ more) ≡ feed (feed s lines) more
-unfolding feed
-feed-append [] more s = refl
-feed-append (line ∷ lines) more s = feed-append lines more (after s line)
-
--- No line came: the reading stands, and there is no more to take.
-pub none-taken : (s : Session) → Stepped s s false
-unfolding feed
-none-taken s =
+-- No line came yet, or none comes any more: the reading stands.
+pub none-yet : (s : Session) → Led s s Came.Line
+unfolding feed finishes
+none-yet s =
     record {
       lines = [];
       fed = refl;
-      moves = λ e. absurd (true≢false (sym e));
-      unfinished = λ e. absurd (true≢false (sym e));
-      stops = λ e. inr refl;
+      sets = refl;
+      line = [];
+      refused = λ cause e. let z : _≡_ {A = ℕ} 0 1 = cc in absurd (omega arith);
     }
+
+pub nothing-came : (s : Session) → Led s s Came.Nothing
+unfolding feed finishes
+nothing-came s =
+    record {
+      lines = [];
+      fed = refl;
+      sets = refl;
+      line = [];
+      refused = λ cause e. let z : _≡_ {A = ℕ} 0 1 = cc in absurd (omega arith);
+    }
+
+taken-no-refusal : (is : Bool) (cause : Cause) → cameOf is ≡ Came.Refused cause → ⊥
+taken-no-refusal true cause e = let z : _≡_ {A = ℕ} 0 1 = cc in omega arith
+taken-no-refusal false cause e = let z : _≡_ {A = ℕ} 0 1 = cc in omega arith
 
 -- A line came, and the reader's answer and tables are these.
 module _ (state : Reading) (initial initial' : List ℕ) (offsets offsets' : List ℤ) (line : List ℕ) (read : Read) where
@@ -85,73 +50,132 @@ module _ (state : Reading) (initial initial' : List ℕ) (offsets offsets' : Lis
 
   module _ (answer : read ≡ readAnswer s line) (initial-is : initial' ≡ after s line .initial)
       (offsets-is : offsets' ≡ after s line .offsets) where
-    pub verdict-told : {v : Verdict} → read .verdict ≡ v → verdictOn s line ≡ v
+    verdict-told : {v : Verdict} → read .verdict ≡ v → verdictOn s line ≡ v
     unfolding readAnswer
     verdict-told e = sym (ap (λ (r : Read). r .verdict) answer) ∙ e
 
-    pub state-told : read .state ≡ after s line .state
+    state-told : read .state ≡ after s line .state
     unfolding readAnswer
     state-told = ap (λ (r : Read). r .state) answer
 
     -- It was refused: the reading stands,
-    pub line-refused : (cause : Cause) → read .verdict ≡ Verdict.Refused cause → Stepped s (session state initial' offsets') false
-    line-refused cause e = rw (initial-is, offsets-is, refused-stands s line cause (verdict-told e)) (none-taken s)
+    pub line-refused : (cause : Cause) → read .verdict ≡ Verdict.Refused cause
+        → Led s (session state initial' offsets') (Came.Refused cause)
+    unfolding feed finishes
+    line-refused cause e =
+        let told = verdict-told e in
+        rw (initial-is, offsets-is, refused-stands s line cause told)
+        (record {
+          lines = [];
+          fed = refl;
+          sets = refl;
+          line = line;
+          refused = λ other same. told ∙ ap Verdict.Refused (cc);
+        })
 
-    -- or taken: the reading moves on.
-    pub line-taken : read .verdict ≡ Verdict.Passed → Stepped s (session (read .state) initial' offsets') (not (finished (read .state)))
-    unfolding feed after
+    -- or taken: the reading moves on, and may be finished.
+    one-finish : read .verdict ≡ Verdict.Passed
+        → finishes s (line ∷ []) ≡ finishedAs (cameOf (finished (after s line .state))) (after s line)
+    unfolding finishes finishedBy
+    one-finish e = rw (verdict-told e) (go (finished (after s line .state)))
+      where
+        go : (is : Bool) → cond is (after s line ∷ []) [] ++ [] ≡ finishedAs (cameOf is) (after s line)
+        go true = refl
+        go false = refl
+
+    pub line-taken : read .verdict ≡ Verdict.Passed
+        → Led s (session (read .state) initial' offsets') (cameOf (finished (read .state)))
+    unfolding feed
     line-taken e =
-        record {
+        rw (initial-is, offsets-is, state-told)
+        (record {
           lines = line ∷ [];
-          fed = rw (initial-is, offsets-is, state-told);
-          moves = λ more. rw (state-told, verdict-told e);
-          unfinished = λ more. not-true _ more;
-          stops = λ done. inl (not-false _ done);
-        }
+          fed = refl;
+          sets = one-finish e;
+          line = line;
+          refused = λ cause f. absurd (taken-no-refusal (finished (after s line .state)) cause f);
+        })
 
--- A set comes from the lines so far and those of one step more.
-pub came-none : (start : Reading) (initial : List ℕ) (offsets : List ℤ) → start .taken ≡ 0 → possible start ≡ true
-    → Came initial offsets (session start initial offsets)
-unfolding feed
-came-none start initial offsets none p =
+-- A line that was taken is one more.
+pub one-line-more : (is : Bool) (lines : ℕ) → lines + 1 ≡ linesWith (cameOf is) lines
+one-line-more true lines = refl
+one-line-more false lines = refl
+
+-- One line more
+pub led-more : (s next end : Session) (came : Came) → Led s next Came.Line → Led next end came → Led s end came
+led-more s next end came first rest =
     record {
-      start = start;
-      begins = none;
-      lines = [];
-      fed = refl;
-      is-possible = p;
-      initial-length = refl;
-      offsets-length = refl;
+      lines = first .lines ++ rest .lines;
+      fed = feed-append (rest .lines) (first .lines) s ∙ rw (first .fed) (rest .fed);
+      sets = finishes-append (rest .lines) (first .lines) s ∙ rw (first .sets, first .fed) (rest .sets);
+      line = rest .line;
+      refused = rest .refused;
     }
 
-pub came-more : (initial : List ℕ) (offsets : List ℤ) (s next : Session) (more : Bool)
-    → Came initial offsets s → Stepped s next more → Came initial offsets next
-came-more initial offsets s next more came step =
-    let kept : Kept s next = rw (← step .fed) (kept-fed (step .lines) s) in
+-- The state of things while a set is read: more of it may come, or what came last ended it.
+pub record Underway (before next : Session) (first : ℕ) (lines : ℕ) (came : Came) (more : Bool) : Type 0 where
+  pub led : Led before next (cond more Came.Line came)
+  pub ended : more ≡ false → isLine came ≡ false
+  pub from : first ≤ lines
+  pub later : more ≡ false → came ≡ Came.Set → first < lines
+  pub few : more ≡ false → lines < 2 ^ 64
+
+pub underway : (s : Session) (lines : ℕ) (came : Came) → Underway s s lines lines came true
+underway s lines came =
     record {
-      start = came .start;
-      begins = came .begins;
-      lines = came .lines ++ step .lines;
-      fed = feed-append (came .lines) (step .lines) _ ∙ rw (came .fed) (step .fed);
-      is-possible = kept .stays-possible (came .is-possible);
-      initial-length = kept .initial-kept ∙ came .initial-length;
-      offsets-length = kept .offsets-kept ∙ came .offsets-length;
+      led = none-yet s;
+      ended = λ e. absurd (true≢false e);
+      from = omega arith;
+      later = λ e. absurd (true≢false e);
+      few = λ e. absurd (true≢false e);
     }
 
--- A reading takes no more lines than a set has, so that it ends: what is left to take falls with each line.
-pub few-taken : (state : Reading) → possible state ≡ true → state .taken ≤ mostLines
-few-taken state p =
-    elim (decLt 0 (state .taken)) [
-      | yes some ↦
-          let b = begun state some p in
-          omega (arith, b .within, lines-small (state .design) (b .legal))
-      | no none ↦ omega arith
-    ]
+as-it-came : (came : Came) → cond (isLine came) Came.Line came ≡ came
+as-it-came Came.Line = refl
+as-it-came Came.Set = refl
+as-it-came Came.Nothing = refl
+as-it-came (Came.Refused cause) = refl
 
+-- A line that finishes a set is one more.
+counted-from : (came : Came) (lines next : ℕ) → next ≡ linesWith came lines → (lines ≤ next) × (came ≡ Came.Set → lines < next)
+counted-from Came.Line lines next e = (omega arith, λ f. let z : _≡_ {A = ℕ} 0 1 = cc in absurd (omega arith))
+counted-from Came.Set lines next e = (omega arith, λ f. omega arith)
+counted-from Came.Nothing lines next e = (omega arith, λ f. let z : _≡_ {A = ℕ} 0 1 = cc in absurd (omega arith))
+counted-from (Came.Refused cause) lines next e = (omega arith, λ f. let z : _≡_ {A = ℕ} 0 1 = cc in absurd (omega arith))
+
+pub underway-more : (s here next : Session) (first lines lines' : ℕ) (before came : Came) (more : Bool)
+    → Underway s here first lines before true → Led here next came → lines' ≡ linesWith came lines → lines' < 2 ^ 64
+    → more ≡ isLine came → Underway s next first lines' came more
+underway-more s here next first lines lines' before came more u led counted few told =
+    let from = counted-from came lines lines' counted in
+    record {
+      led = rw (told, as-it-came came) (led-more s here next came (u .led) led);
+      ended = λ e. sym told ∙ e;
+      from = omega (arith, u .from, from .0);
+      later = λ e set. omega (arith, u .from, from .1 set);
+      few = λ e. few;
+    }
+
+-- What goes on while the number of lines rises ends.
+abbrev pub linesLeft : Bool → ℕ → ℕ
+linesLeft more lines = cond more (2 ^ 64 - lines + 1) 0
+
+pub fewer-left : (lines next : ℕ) (before more : Bool) → before ≡ true → (more ≡ true → lines < next) → next < 2 ^ 64
+    → linesLeft more next < linesLeft before lines
+fewer-left lines next before true e later few = rw e (omega (arith, later refl))
+fewer-left lines next before false e later few = rw e (omega arith)
+
+-- A line that was taken, and more may come
+pub line-more : (came : Came) (lines next : ℕ) (more : Bool) → next ≡ linesWith came lines → more ≡ isLine came → more ≡ true → lines < next
+line-more Came.Line lines next more e told some = omega arith
+line-more Came.Set lines next more e told some = absurd (true≢false (sym some ∙ told))
+line-more Came.Nothing lines next more e told some = absurd (true≢false (sym some ∙ told))
+line-more (Came.Refused cause) lines next more e told some = absurd (true≢false (sym some ∙ told))
+
+-- So does what puts one line after another, by their number.
 abbrev pub left : ℕ → Bool → ℕ → ℕ
-left most more taken = cond more (most + 1 - taken) 0
+left most more n = cond more (most + 1 - n) 0
 
-pub left-less : (most taken next : ℕ) (before more : Bool) → taken ≤ most → before ≡ true → (more ≡ true → next ≡ taken + 1)
-    → left most more next < left most before taken
-left-less most taken next before true few e moves = rw e (omega (arith, moves refl))
-left-less most taken next before false few e moves = rw e (omega arith)
+pub left-more : (most n : ℕ) (before more : Bool) → (before ≡ true → n ≤ most) → before ≡ true → left most more (n + 1) < left most before n
+left-more most n before true few e = rw e (omega (arith, few e))
+left-more most n before false few e = rw e (omega (arith, few e))

@@ -1,38 +1,45 @@
 // What the programs over whole sets share: reading a set from standard input, and writing the lines of a set, the answer of a check or
 // the counts to standard output. No contract can say which bytes come in or go out; what can be said of a set that is read is promised.
 ghost use mathlib.Core.Path.{_≡_};
-ghost use mathlib.Core.Bool.{true};
-ghost use Prim.Native.Nat.{_+_};
+ghost use mathlib.Core.Bool.{true, false};
+ghost use Prim.Native.Nat.{_+_, _-_, _^_, _<_};
 ghost use lib.ListN.{length};
 ghost use Rattle.refusal.specs.declared.Verdict.{Verdict};
 ghost use Rattle.frames.specs.Line.{longestLine};
 ghost use Rattle.writing.specs.Write.{writeVerdict};
-ghost use Rattle.reading.specs.ReadLine.{finished, session};
+ghost use Rattle.reading.specs.ReadLine.{session};
 ghost use Rattle.storage.specs.Sets.{Storable};
-ghost use Rattle.set_console.specs.Reading.{HoldsEverySet, Stepped, Came};
+ghost use Rattle.set_console.specs.Reading.{HoldsEverySet, cameOf, isLine, isSet, linesWith, Led};
 use checking::Checked;
+use console::Console;
 use console::KEPT;
-use console::LineEnd;
+use console::is_absent;
 use counting::Counted;
+use counting::Counts;
 use design::Design;
 use design::NO_PAIR;
-use libc::STDOUT_FILENO;
 use reading::Reading;
 use refusal::Cause;
 use refusal::Verdict;
 use writing::Written;
 use writing::write_line;
 
-// What came of taking a line: the state to go on with, and whether there is more to take.
-struct Step {
-    state: Reading,
-    more: bool,
+// What came of the input: a line that was taken, and no set is finished with it; one that finished a set; none, as the input has ended; one
+// that is refused.
+pub enum Came {
+    Line,
+    Set,
+    Nothing,
+    Refused(Cause),
 }
 
-// What came of reading a set: the last state, and whether the set was read to its end.
+// A reading that goes on from line to line, and the place in the input and output. `lines` counts those that were taken since the start of
+// the input, empty ones too.
 pub struct SetRead {
     pub state: Reading,
-    pub finished: bool,
+    pub console: Console,
+    pub lines: u64,
+    pub came: Came,
 }
 
 // A reading with no line taken, whose design is not read.
@@ -53,141 +60,266 @@ pub fn begin() -> Reading
     }
 }
 
-// Writes a number behind its label, and a newline.
-pub fn print_number(label: &[u8], n: u64) {
-    io::write_all(STDOUT_FILENO, label);
-    io::print_decimal(STDOUT_FILENO, n);
-    io::write_all(STDOUT_FILENO, b"\n");
-}
-
-// Writes the refusal of a line, by its number.
-pub fn print_refused_line(number: usize, cause: Cause) {
-    io::write_all(STDOUT_FILENO, b"LINE ");
-    io::print_decimal(STDOUT_FILENO, number as u64);
-    io::write_all(STDOUT_FILENO, b" ");
-    console::print_refused(cause);
-}
-
-// Whether there is no line: the input ended before a byte of it came.
-pub fn is_absent(end: LineEnd, count: usize) -> bool {
-    match end {
-        LineEnd::Input => count == 0,
-        LineEnd::Newline => false,
-        LineEnd::Cut => false,
-    }
-}
-
-// Takes the next line of the input, or says why not. Every line before it was taken, so its number is that of the lines taken.
-fn take_line(state: Reading, initial: &mut [u32], offsets: &mut [i32]) -> Step
-    ensures { λ r.
-        ⌜ Stepped (session state (now (initial .entry)) (now (offsets .entry)))
-        (session (r .state) (now (initial .exit)) (now (offsets .exit))) (r .more) ⌝ }
+// The start of the input.
+pub fn start() -> SetRead
+    ensures { λ r. ⌜ r .state .taken ≡ 0 ⌝ }
 {
-    let line = console::read_line();
-    let bytes = line.bytes;
-    let count = line.count;
-    let end = line.end;
-    if is_absent(end, count) {
-        print_number(b"UNFINISHED ", state.taken as u64);
-        return Step { state, more: false };
+    SetRead {
+        state: begin(),
+        console: Console::new(),
+        lines: 0,
+        came: Came::Line,
     }
-    let read = state.read_line(initial, offsets, &bytes[..count]);
+}
+
+// What a line or a record that was taken comes to.
+pub fn came_of(finished: bool) -> Came
+    ensures { λ r. ⌜ r ≡ cameOf finished ⌝ }
+{
+    if finished {
+        return Came::Set;
+    }
+    Came::Line
+}
+
+// Whether there is more of the set to read.
+pub fn is_line(came: Came) -> bool
+    ensures { λ r. ⌜ r ≡ isLine came ⌝ }
+{
+    match came {
+        Came::Line => true,
+        Came::Set => false,
+        Came::Nothing => false,
+        Came::Refused(_) => false,
+    }
+}
+
+// Whether a set was read to its end.
+pub fn is_set(came: Came) -> bool
+    ensures { λ r. ⌜ r ≡ isSet came ⌝ }
+{
+    match came {
+        Came::Line => false,
+        Came::Set => true,
+        Came::Nothing => false,
+        Came::Refused(_) => false,
+    }
+}
+
+// Feeds a line of the input to the reading.
+fn feed_line(set: SetRead, initial: &mut [u32], offsets: &mut [i32], line: &[u8]) -> SetRead
+    requires { ⌜ set .lines < 2 ^ 64 - 1 ⌝ }
+    ensures led { λ r.
+        ⌜ Led (session (set .state) (now (initial .entry)) (now (offsets .entry)))
+        (session (r .state) (now (initial .exit)) (now (offsets .exit))) (r .came) ⌝ }
+    ensures counted { λ r. ⌜ r .lines ≡ linesWith (r .came) (set .lines) ⌝ }
+    ensures few { λ r. ⌜ r .lines < 2 ^ 64 ⌝ }
+{
+    let state = set.state;
+    let console = set.console;
+    let read = state.read_line(initial, offsets, line);
     let verdict = read.verdict;
     if let Verdict::Refused(cause) = verdict {
-        print_refused_line(state.taken, cause);
-        return Step { state, more: false };
+        return SetRead {
+            state,
+            console,
+            lines: set.lines,
+            came: Came::Refused(cause),
+        };
     }
     let next = read.state;
-    Step {
+    SetRead {
         state: next,
-        more: !next.is_finished(),
+        console,
+        lines: set.lines + 1,
+        came: came_of(next.is_finished()),
     }
 }
 
-// inner: reads a set from the input, and nothing behind it, into tables that hold every legal set. Where it is not finished, it has been
-// said why.
-pub fn read_set(initial: &mut [u32], offsets: &mut [i32]) -> SetRead
-    requires { ⌜ HoldsEverySet (length (now initial)) (length (now offsets)) ⌝ }
-    ensures came { λ r.
-        ⌜ Came (now (initial .entry)) (now (offsets .entry)) (session (r .state) (now (initial .exit)) (now (offsets .exit))) ⌝ }
-    ensures told { λ r. ⌜ r .finished ≡ finished (r .state) ⌝ }
+// Takes the next line of the input, if there is one. Where the number of lines has no room for another, there is none.
+fn take_line(
+    set: SetRead,
+    input: &mut [u8],
+    output: &[u8],
+    initial: &mut [u32],
+    offsets: &mut [i32],
+) -> SetRead
+    ensures led { λ r.
+        ⌜ Led (session (set .state) (now (initial .entry)) (now (offsets .entry)))
+        (session (r .state) (now (initial .exit)) (now (offsets .exit))) (r .came) ⌝ }
+    ensures counted { λ r. ⌜ r .lines ≡ linesWith (r .came) (set .lines) ⌝ }
+    ensures few { λ r. ⌜ r .lines < 2 ^ 64 ⌝ }
 {
-    let mut state = begin();
+    let state = set.state;
+    let lines = set.lines;
+    let before = set.console;
+    let line = before.read_line(input, output);
+    let console = line.console;
+    let end = line.end;
+    let here = SetRead {
+        state,
+        console,
+        lines,
+        came: Came::Nothing,
+    };
+    if is_absent(end) {
+        return here;
+    }
+    if lines == u64::MAX {
+        return here;
+    }
+    let bytes = line.bytes;
+    let count = line.count;
+    feed_line(here, initial, offsets, &bytes[..count])
+}
+
+// inner: reads on, from the reading as it came, until a line finishes a set, is refused, or does not come. The tables hold every legal set.
+pub fn read_set(
+    set: SetRead,
+    input: &mut [u8],
+    output: &[u8],
+    initial: &mut [u32],
+    offsets: &mut [i32],
+) -> SetRead
+    requires { ⌜ HoldsEverySet (length (now initial)) (length (now offsets)) ⌝ }
+    ensures led { λ r.
+        ⌜ Led (session (set .state) (now (initial .entry)) (now (offsets .entry)))
+        (session (r .state) (now (initial .exit)) (now (offsets .exit))) (r .came) ⌝ }
+    ensures ended { λ r. ⌜ isLine (r .came) ≡ false ⌝ }
+    ensures later { λ r. ⌜ (r .came ≡ Came.Set → set .lines < r .lines) ⌝ }
+    ensures few { λ r. ⌜ r .lines < 2 ^ 64 ⌝ }
+{
+    let mut next = set;
     let mut more = true;
     while more {
-        let step = take_line(state, initial, offsets);
-        state = step.state;
-        more = step.more;
+        next = take_line(next, input, output, initial, offsets);
+        let came = next.came;
+        more = is_line(came);
     }
-    SetRead {
-        state,
-        finished: state.is_finished(),
-    }
+    next
 }
 
-// Writes the text at the start of a buffer with a newline behind it; false where it has no room for that or it could not be written whole.
-pub fn print_text(buffer: &mut [u8], length: usize) -> bool {
+// What came of putting a text: whether there was one, and no text before it was lost.
+pub struct Put {
+    pub console: Console,
+    pub more: bool,
+}
+
+// Puts a text that stands at the start of a buffer, and a newline.
+pub fn put_text(console: Console, output: &mut [u8], buffer: &mut [u8], length: usize) -> Put {
     if buffer.len() <= length {
-        return false;
+        return Put {
+            console,
+            more: false,
+        };
     }
     buffer[length] = b'\n';
-    io::write_all(STDOUT_FILENO, &buffer[..length + 1])
+    let next = console.put(output, &buffer[..length + 1]);
+    Put {
+        console: next,
+        more: !next.failed,
+    }
 }
 
-// Writes a line of a set; false where the writer gives no such line or it could not be written whole.
-pub fn print_line(d: Design, initial: &[u32], offsets: &[i32], number: usize) -> bool
+// Puts a line of a set, if the writer gives it.
+pub fn put_line(
+    console: Console,
+    output: &mut [u8],
+    d: Design,
+    initial: &[u32],
+    offsets: &[i32],
+    number: usize,
+) -> Put
     ensures { λ r.
-        ⌜ (r ≡ true → writeVerdict d (now (initial .entry)) (now (offsets .entry)) number (longestLine + 1) ≡ Verdict.Passed) ⌝ }
+        ⌜ (r .more ≡ true → writeVerdict d (now (initial .entry)) (now (offsets .entry)) number (longestLine + 1) ≡ Verdict.Passed) ⌝ }
 {
     let mut buffer = [0u8; KEPT];
     match write_line(d, initial, offsets, number, &mut buffer) {
-        Written::Length(length) => print_text(&mut buffer, length),
-        Written::Refused(_) => false,
+        Written::Length(length) => put_text(console, output, &mut buffer, length),
+        Written::Refused(_) => Put {
+            console,
+            more: false,
+        },
     }
 }
 
-// inner: writes the lines of a set, one after another, until the writer gives no more. The writer gives all of them: no program begins
-// with the lines of a set of which one is refused.
-pub fn print_set(d: Design, initial: &[u32], offsets: &[i32])
+// inner: puts the lines of a set, one after another, until the writer gives no more. The writer gives all of them: no program begins with
+// the lines of a set of which one is refused.
+pub fn put_set(
+    console: Console,
+    output: &mut [u8],
+    d: Design,
+    initial: &[u32],
+    offsets: &[i32],
+) -> Console
     requires { ⌜ Storable (record { design = d; initial = now initial; offsets = now offsets }) ⌝ }
 {
+    let mut put = Put {
+        console,
+        more: true,
+    };
     let mut number = 0;
-    while print_line(d, initial, offsets, number) {
+    while put.more {
+        put = put_line(put.console, output, d, initial, offsets, number);
         number += 1;
     }
+    put.console
 }
 
-// Writes the answer of a check.
-pub fn print_checked(checked: Checked) {
-    match checked {
-        Checked::Faithful => {
-            io::write_all(STDOUT_FILENO, b"FAITHFUL\n");
+// Puts a number behind its label.
+fn put_number(console: Console, output: &mut [u8], label: &[u8], n: u64) -> Console {
+    let labelled = console.put(output, label);
+    labelled.put_decimal(output, n)
+}
+
+// Puts why there is no more of a set, by the lines that were taken before.
+pub fn put_end(console: Console, output: &mut [u8], came: Came, lines: u64) -> Console {
+    match came {
+        Came::Line => console,
+        Came::Set => console,
+        Came::Nothing => {
+            let numbered = put_number(console, output, b"UNFINISHED ", lines);
+            numbered.put(output, b"\n")
         }
-        Checked::Unfaithful(x) => print_number(b"UNFAITHFUL ", x as u64),
-        Checked::Refused(cause) => {
-            console::print_refused(cause);
+        Came::Refused(cause) => {
+            let numbered = put_number(console, output, b"LINE ", lines);
+            let spaced = numbered.put(output, b" ");
+            spaced.put_refused(output, cause)
         }
     }
 }
 
-fn print_count(label: &[u8], n: u32) {
-    io::write_all(STDOUT_FILENO, label);
-    io::print_decimal(STDOUT_FILENO, n as u64);
+// Puts the answer of a check.
+pub fn put_checked(console: Console, output: &mut [u8], checked: Checked) -> Console {
+    match checked {
+        Checked::Faithful => console.put(output, b"FAITHFUL\n"),
+        Checked::Unfaithful(x) => {
+            let numbered = put_number(console, output, b"UNFAITHFUL ", x as u64);
+            numbered.put(output, b"\n")
+        }
+        Checked::Refused(cause) => console.put_refused(output, cause),
+    }
 }
 
-// Writes the five counts.
-pub fn print_counted(counted: Counted) {
+// Puts the counts of words that are neither nearest nor faithful, the last two of the five.
+fn put_wrong(console: Console, output: &mut [u8], counts: Counts) -> Console {
+    let low = put_number(console, output, b" LOW ", counts.low as u64);
+    let high = put_number(low, output, b" HIGH ", counts.high as u64);
+    high.put(output, b"\n")
+}
+
+// Puts the five counts.
+fn put_counts(console: Console, output: &mut [u8], counts: Counts) -> Console {
+    let outside = put_number(console, output, b"OUTSIDE ", counts.outside as u64);
+    let nearest = put_number(outside, output, b" NEAREST ", counts.nearest as u64);
+    let faithful = put_number(nearest, output, b" FAITHFUL ", counts.faithful as u64);
+    put_wrong(faithful, output, counts)
+}
+
+// Puts the answer of a count.
+pub fn put_counted(console: Console, output: &mut [u8], counted: Counted) -> Console {
     match counted {
-        Counted::Counts(counts) => {
-            print_count(b"OUTSIDE ", counts.outside);
-            print_count(b" NEAREST ", counts.nearest);
-            print_count(b" FAITHFUL ", counts.faithful);
-            print_count(b" LOW ", counts.low);
-            print_count(b" HIGH ", counts.high);
-            io::write_all(STDOUT_FILENO, b"\n");
-        }
-        Counted::Refused(cause) => {
-            console::print_refused(cause);
-        }
+        Counted::Counts(counts) => put_counts(console, output, counts),
+        Counted::Refused(cause) => console.put_refused(output, cause),
     }
 }

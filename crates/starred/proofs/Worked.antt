@@ -38,6 +38,7 @@ use Rattle.counting.specs.Count.{classOf, countAnswer}
 use Rattle.frames.specs.Hex as Hex
 use Rattle.frames.specs.Line as Line
 use Rattle.frames.specs.DesignFrame as DesignFrame
+use Rattle.frames.specs.DesignText as DesignText
 use Rattle.encoding.specs.Bytes as Bytes
 use Rattle.encoding.specs.Encode as Encode
 use Rattle.encoding.specs.DesignBytes as DesignBytes
@@ -47,6 +48,7 @@ use Rattle.lines.specs.Lines.{lineAt}
 use Rattle.writing.specs.declared.Written.{Written}
 use Rattle.writing.specs.Write as Write
 use Rattle.writing.specs.Write.{writeAnswer}
+use Rattle.reading.specs.declared.Reading.{Reading}
 use Rattle.reading.specs.ReadLine as ReadLine
 use Rattle.reading.specs.ReadLine.{session, verdictOn, readAnswer}
 use Rattle.records.specs.IntelHex as IntelHex
@@ -194,6 +196,17 @@ entry-0-changed entry n buffer = writeAnswer G (set (initialEntries G) 0 entry) 
 -- Record 0 with this entry as 16384
 abbrev G-record-0-over : String
 G-record-0-over = ":10000000004000000F59000EE7000E7B000E1600A6"
+
+-- A state of a reading
+abbrev at : Design → ℕ → Reading
+at design taken = record { design = design; taken = taken }
+
+-- G with another pair at m, and a design of a kind that there is not
+abbrev behind-m : Design
+behind-m = record { kind = 0; w = 8; q = 8; g = 4; alpha = 5; m = 1; pairs = pair 3 3 ∷ pair 9 9 ∷ pair 0 0 ∷ pair 0 0 ∷ [] }
+
+abbrev no-kind : Design
+no-kind = record { kind = 9; w = 8; q = 8; g = 4; alpha = 5; m = 1; pairs = pair 3 3 ∷ pair 0 0 ∷ pair 0 0 ∷ pair 0 0 ∷ [] }
 
 -- What a reading of G's lines with so many taken answers to a line: into tables of zeros, and into tables of no entries
 abbrev number-in : ℕ → String → ℕ
@@ -377,6 +390,15 @@ pub record Worked : Type 0 where
       × (setRecord G (set (initialEntries G) 0 16384) (offsetEntries G) 0 ≡ ascii G-record-0-over)
       × (number-on (held 0 0 0) G-record-0-over ≡ 0)
       × (take 2 (hexAfter G (into-zeros (held 0 0 0)) (ascii G-record-0-over) .initial) ≡ 16384 ∷ 3929 ∷ [])
+  -- An empty line with none, 1, 97 and all 98 of G's lines taken, and with one more than there are
+  pub empty-lines : map (λ taken. number-in taken "") (0 ∷ 1 ∷ 97 ∷ 98 ∷ 99 ∷ []) ≡ 0 ∷ 16 ∷ 16 ∷ 0 ∷ 17 ∷ []
+  -- Tables of no entries are no fault there, and neither is a design that is not legal, with no line taken: it stands
+  pub empty-untried : (map (λ taken. number-in-none taken "") (0 ∷ 1 ∷ 98 ∷ []) ≡ 0 ∷ 16 ∷ 0 ∷ [])
+      × (readAnswer (session (at no-kind 0) [] []) [] ≡ record { verdict = Verdict.Passed; state = at no-kind 0 })
+  -- After a finished set the design stands as it came, pairs beyond m too, and no line is taken
+  pub empty-after-set : readAnswer (session (at behind-m 98) [] []) [] ≡ record { verdict = Verdict.Passed; state = at behind-m 0 }
+  -- A carriage return is no empty line, and the next set's first line is not due before one
+  pub not-empty : (verdictNumber (verdictOn (session (at G 98) [] []) (13 ∷ [])) ≡ 15) × (number-in 98 G-line ≡ 16)
   -- Input words in decimal: leading zeros, and the greatest
   pub decimal-words : map (λ line. wordIn (ascii line)) ("007" ∷ "4294967295" ∷ []) ≡ ReadWord.Word 7 ∷ ReadWord.Word 4294967295 ∷ []
   -- No input words: an empty line, the character before 0, the one after 9, 2^32
@@ -387,11 +409,12 @@ unfolding
     calls-opened Hex.digitValue Hex.allDigits Hex.bytesOf Lists.total Line.sumFails Line.textFails Line.digitsFail Line.lineFails
     Line.lineChecks
     DesignFrame.frameFails DesignFrame.frameChecks DesignFrame.framePair DesignFrame.frameDesign DesignFrame.firstChecks
+    DesignText.designLineVerdict
     Bytes.bigEndian Bytes.complement Bytes.fits
     Encode.digitOf Encode.hexOf Encode.sumByte Encode.withSum Encode.lineOf DesignBytes.pairBytes DesignBytes.designBytes
     Slots.lineCount Slots.tableOf Slots.offsetSlot Slots.slotOf Lines.frameHead Lines.entryWidth Lines.entryNumber Lines.entryFits
     Lines.entryOver Lines.frameOf Lines.lineAt Write.numberCheck Write.entryChecks Write.askedChecks Write.writeVerdict Write.writeAnswer
-    ReadLine.possible ReadLine.stateCheck ReadLine.designAfter ReadLine.laterFails ReadLine.entryIn ReadLine.laterChecks
+    ReadLine.possible ReadLine.stateCheck ReadLine.finished ReadLine.between ReadLine.emptyCheck ReadLine.designAfter ReadLine.laterFails ReadLine.entryIn ReadLine.laterChecks
     ReadLine.dueChecks ReadLine.readVerdict ReadLine.verdictOn ReadLine.after ReadLine.readAnswer
     ReadLine.begins ReadLine.headFails Bytes.numberIn Bytes.fromComplement Bytes.fitsSigned
     IntelHex.dataCount IntelHex.recordCount IntelHex.bytesBefore IntelHex.lengthAt IntelHex.headOf IntelHex.recordHead IntelHex.recordText
@@ -402,7 +425,7 @@ unfolding
     ReadRecord.heldCount ReadRecord.unusedFail ReadRecord.hexPossible ReadRecord.hexStateCheck ReadRecord.recordDueCheck
     ReadRecord.hexChecks ReadRecord.hexVerdictOn ReadRecord.dataOf ReadRecord.stream ReadRecord.holding ReadRecord.hexAfter
     Storing.storedAt Storing.storedFrom Storing.cutBytes
-    Words.decimalWithin Words.decimal Words.textOf Report.lineText Report.designText Report.refusedText Report.reportVerdict Report.reportOf
+    Words.decimalWithin Words.decimal Words.textOf Report.lineText Report.designText Report.refusedText Report.reportOf
     Decimal.allDecimal Decimal.isDecimal Decimal.decimalNumber Decimal.wordIn
 worked =
     record {
@@ -469,6 +492,10 @@ worked =
       limit-read = (refl, refl);
       limit-before-tables = refl;
       still-carried = (refl, refl, refl, refl);
+      empty-lines = refl;
+      empty-untried = (refl, refl);
+      empty-after-set = refl;
+      not-empty = (refl, refl);
       decimal-words = refl;
       no-words = refl;
     }

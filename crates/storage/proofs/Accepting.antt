@@ -1,4 +1,4 @@
--- The one law of lines: a line that is accepted is the writer's line for the design and for the tables with the entry that it stores.
+-- The one law of lines: a line that is accepted and not empty is the writer's line for the design and for the tables with the entry that it stores.
 use mathlib.Core.Path.{_≡_, refl, sym, ap, _∙_}
 use mathlib.Core.Bool.{false, not}
 use mathlib.Core.List.{List, [], _∷_, _++_, append-nil}
@@ -16,6 +16,7 @@ use Rattle.design.specs.declared.Design.{Design}
 use Rattle.tables.specs.Inputs.{Usable}
 use Rattle.tables.proofs.SetLaws.{usable, set-lengths}
 use Rattle.frames.specs.Hex.{bytesOf}
+use Rattle.frames.specs.Line.{isEmpty}
 use Rattle.frames.specs.DesignFrame.{frameDesign}
 use Rattle.encoding.specs.Bytes.{bigEndian}
 use Rattle.encoding.specs.Encode.{sumByte, withSum, lineOf}
@@ -122,7 +123,7 @@ pub record Accepted (s : Session) (line : List ℕ) (design : Design) (number : 
 
 -- A line that passes, the frame it is the line of, and the design that counts after it
 module _ (s : Session) (line f : List ℕ) (d : Design) (small : Bytes f) (is-line : lineOf f ≡ line) (bytes : bytesOf line ≡ withSum f)
-    (passes : verdictOn s line ≡ Verdict.Passed) (counts : designAfter (s .state) (withSum f) ≡ d)
+    (not-empty : isEmpty line ≡ false) (passes : verdictOn s line ≡ Verdict.Passed) (counts : designAfter (s .state) (withSum f) ≡ d)
     (tables : Usable d (length (s .initial)) (length (s .offsets))) (within : s .state .taken < lineCount d) where
   abbrev slot : Slot
   slot = slotOf d (s .state .taken)
@@ -133,7 +134,7 @@ module _ (s : Session) (line f : List ℕ) (d : Design) (small : Bytes f) (is-li
   stepped : after s line ≡ session (record { design = d; taken = s .state .taken + 1 })
       (initialStored slot (entryIn d slot (withSum f)) (s .initial)) (offsetsStored slot (entryIn d slot (withSum f)) (s .offsets))
   unfolding after
-  stepped = rw (passes, bytes, counts)
+  stepped = rw (passes, not-empty, bytes, counts)
 
   as-accepted : Parts d slot f → entryOver d slot (entryIn d slot (withSum f)) ≡ false → (0 < s .state .taken → d ≡ s .state .design)
       → Accepted s line d (entryIn d slot (withSum f))
@@ -163,16 +164,16 @@ some-lines : (d : Design) → 0 < lineCount d
 unfolding lineCount
 some-lines d = omega arith
 
--- So an accepted line is the writer's, whether it is the first or a later one.
+-- So an accepted line that is not empty is the writer's, whether it is the first or a later one.
 pub record SomeAccepted (s : Session) (line : List ℕ) : Type 0 where
   pub design : Design
   pub number : ℕ
   pub accepted : Accepted s line design number
 
-module _ (s : Session) (line : List ℕ) (passes : verdictOn s line ≡ Verdict.Passed) where
+module _ (s : Session) (line : List ℕ) (not-empty : isEmpty line ≡ false) (passes : verdictOn s line ≡ Verdict.Passed) where
   tried : Passing (s .state) (length (s .initial)) (length (s .offsets)) line
   unfolding verdictOn
-  tried = passing (s .state) (length (s .initial)) (length (s .offsets)) line passes
+  tried = passing (s .state) (length (s .initial)) (length (s .offsets)) line not-empty passes
 
   first-accepted : (w : Front line) → s .state .taken ≡ 0 → SomeAccepted s line
   first-accepted w none =
@@ -185,7 +186,7 @@ module _ (s : Session) (line : List ℕ) (passes : verdictOn s line ≡ Verdict.
         design = d;
         number = entryIn d (slotOf d (s .state .taken)) bytes;
         accepted =
-            as-accepted s line (w .frame) d (w .small) (w .line) (w .bytes) passes (first-design (s .state) bytes none) (p .tables)
+            as-accepted s line (w .frame) d (w .small) (w .line) (w .bytes) not-empty passes (first-design (s .state) bytes none) (p .tables)
             (omega (arith, some-lines d)) parts (first-below d (s .state .taken) _ none) (λ some. absurd (omega arith));
       }
 
@@ -200,7 +201,7 @@ module _ (s : Session) (line : List ℕ) (passes : verdictOn s line ≡ Verdict.
         design = d;
         number = entryIn d (slotOf d (s .state .taken)) bytes;
         accepted =
-            as-accepted s line (w .frame) d (w .small) (w .line) (w .bytes) passes (later-design (s .state) bytes some) tables
+            as-accepted s line (w .frame) d (w .small) (w .line) (w .bytes) not-empty passes (later-design (s .state) bytes some) tables
             (p .within) (due-parts d (slotOf d (s .state .taken)) (w .frame) (p .head)) (p .below) (λ h. refl);
       }
 

@@ -8,6 +8,7 @@ pub mod Fitting
 pub mod Accepting
 pub mod Taking
 -- Inductions over lines:
+pub mod Feeds
 pub mod Standing
 pub mod Uniqueness
 pub mod ReadingBack

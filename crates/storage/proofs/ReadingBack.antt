@@ -29,31 +29,13 @@ use Rattle.lines.proofs.SlotLaws.{slot-initial, slot-offset, slot-last}
 use Rattle.writing.proofs.WriteLaws.{Carried}
 use Rattle.reading.specs.ReadLine.{Session, session, initialStored, offsetsStored, verdictOn, after}
 use Rattle.reading.proofs.ReadLaws.{finished-at-end}
-use Rattle.storage.specs.Feeding.{Begins, Finished, feed, keptIf, accepted}
+use Rattle.storage.specs.Feeding.{Begins, Finished, feed, accepted}
 use Rattle.storage.specs.Sets.{TableSet, Storable, linesIn}
 use Rattle.storage.specs.Storage.{ReadsBack}
+use Rattle.storage.proofs.Feeds.{feed-append, accepted-append}
 use Rattle.storage.proofs.SameDesigns.{initial-count-same, offset-total-same, line-count-same, slot-same, over-same, line-same}
 use Rattle.storage.proofs.Fitting.{storable-lines}
 use Rattle.storage.proofs.Taking.{given-usable, first-passes, first-taken, later-passes, later-taken}
-
--- One line more
-feed-last : (lines : List (List ℕ)) (line : List ℕ) (s : Session) → feed s (lines ++ (line ∷ [])) ≡ after (feed s lines) line
-unfolding feed
-feed-last [] line s = refl
-feed-last (first ∷ lines) line s = feed-last lines line (after s first)
-
-pub keeps-last : (v : Verdict) (first : List ℕ) (lines last : List (List ℕ))
-    → keptIf v first (lines ++ last) ≡ keptIf v first lines ++ last
-keeps-last Verdict.Passed first lines last = refl
-keeps-last (Verdict.Refused cause) first lines last = refl
-
-accepted-last : (lines : List (List ℕ)) (line : List ℕ) (s : Session)
-    → accepted s (lines ++ (line ∷ [])) ≡ accepted s lines ++ keptIf (verdictOn (feed s lines) line) line []
-unfolding feed accepted
-accepted-last [] line s = refl
-accepted-last (first ∷ lines) line s =
-    ap (keptIf (verdictOn s first) first) (accepted-last lines line (after s first))
-    ∙ keeps-last (verdictOn s first) first (accepted (after s first) lines) _
 
 -- The first n of some lines are all accepted, and the reading comes to `end`.
 record Reached (line : ℕ → List ℕ) (s : Session) (n : ℕ) (end : Session) : Type 0 where
@@ -62,11 +44,11 @@ record Reached (line : ℕ → List ℕ) (s : Session) (n : ℕ) (end : Session)
 
 reached-more : (line : ℕ → List ℕ) (s : Session) (n : ℕ) (end next : Session) → Reached line s n end
     → verdictOn end (line n) ≡ Verdict.Passed → after end (line n) ≡ next → Reached line s (suc n) next
-unfolding listBelow
+unfolding listBelow feed accepted
 reached-more line s n end next r passes moves =
     record {
-      comes-to = feed-last (listBelow n line) (line n) s ∙ rw (r .comes-to) moves;
-      all-taken = accepted-last (listBelow n line) (line n) s ∙ rw (r .all-taken, r .comes-to, passes);
+      comes-to = feed-append (line n ∷ []) (listBelow n line) s ∙ rw (r .comes-to) moves;
+      all-taken = accepted-append (line n ∷ []) (listBelow n line) s ∙ rw (r .all-taken, r .comes-to, passes);
     }
 
 -- The first n of the entries, written over a table: its first n are these, and the rest stands.

@@ -16,8 +16,9 @@ use Rattle.design.specs.Legal.{Legal}
 use Rattle.tables.specs.Inputs.{Usable}
 use Rattle.tables.proofs.SetLaws.{tables-long}
 use Rattle.frames.specs.Hex.{bytesOf}
-use Rattle.frames.specs.Line.{lineFails}
+use Rattle.frames.specs.Line.{isEmpty, lineFails}
 use Rattle.frames.specs.DesignFrame.{frameDesign}
+use Rattle.frames.proofs.LineLaws.{sound-some}
 use Rattle.encoding.specs.Bytes.{bigEndian}
 use Rattle.encoding.specs.Encode.{sumByte, withSum}
 use Rattle.encoding.specs.DesignBytes.{designBytes}
@@ -79,6 +80,9 @@ module _ (d : Design) (legal : Legal d) (initial : List ℕ) (offsets : List ℤ
       line-sound _ (frame-small d (slotOf d n) initial offsets legal)
       (rw (frame-length d (slotOf d n) initial offsets) (frame-short d legal (slotOf d n)))
 
+  pub not-empty : isEmpty (lineAt d initial offsets n) ≡ false
+  not-empty = sound-some (lineAt d initial offsets n) sound
+
 -- A later line: in a possible state with a line taken, the line that is due
 module _ (d : Design) (n : ℕ) (initial set-initial : List ℕ) (offsets set-offsets : List ℤ) (some : 0 < n) (within : n < lineCount d)
     (tables : Usable d (length initial) (length offsets)) (entry : Carried d (slotOf d n) set-initial set-offsets) where
@@ -112,6 +116,7 @@ module _ (d : Design) (n : ℕ) (initial set-initial : List ℕ) (offsets set-of
   later-taken =
       rw (
         later-passes,
+        not-empty d (tables .legal) set-initial set-offsets n,
         line-bytes d (tables .legal) set-initial set-offsets n,
         later-design state (withSum (frame d (slotOf d n) set-initial set-offsets)) some,
         entry-back d (slotOf d n) set-initial set-offsets (entry .fits),
@@ -156,4 +161,12 @@ module _ (d : Design) (legal : Legal d) (set-initial : List ℕ) (set-offsets : 
 
   pub first-taken : after s (lineAt d set-initial set-offsets 0) ≡ session (record { design = given; taken = 1 }) (s .initial) (s .offsets)
   unfolding after initialStored offsetsStored
-  first-taken = rw (first-passes, first-bytes, first-design (s .state) (withSum (designBytes d)) none, none, slot-first given)
+  first-taken =
+      rw (
+        first-passes,
+        not-empty d legal set-initial set-offsets 0,
+        first-bytes,
+        first-design (s .state) (withSum (designBytes d)) none,
+        none,
+        slot-first given,
+      )

@@ -1,13 +1,16 @@
 -- A finished reading came from exactly the lines the writer gives.
 use mathlib.Core.Path.{_≡_, refl, sym, ap, ap₂, _∙_}
+use mathlib.Core.Bool.{Bool, true, false, cond}
 use mathlib.Core.List.{List, [], _∷_, _++_, append-nil}
 use Prim.Native.Nat.{ℕ, _+_, _≤_, _<_}
 use native.Mathlib.Decide.{decLt}
 use native.Mathlib.Numerals.{add-one}
 use native.Mathlib.Omega.{arith}
+use lib.Dec.{eqb}
 use lib.ListN.{length, getD, take, length-set}
-use lib.Seq.{append-snoc, getD-take}
+use lib.Seq.{getD-take}
 use lib.IntN.{ℤ}
+use borrow.Author.Tests.{eqb-true, ne-eqb}
 use Rattle.general.specs.Below.{listBelow}
 use Rattle.general.proofs.ListLaws.{list-congruence}
 use Rattle.refusal.specs.declared.Cause.{Cause}
@@ -15,14 +18,15 @@ use Rattle.refusal.specs.declared.Verdict.{Verdict}
 use Rattle.design.specs.Cut.{sumLimit}
 use Rattle.design.specs.Stored.{initialCount}
 use Rattle.tables.specs.Inputs.{Usable}
+use Rattle.frames.specs.Line.{isEmpty}
 use Rattle.encoding.specs.Bytes.{entryBytes, fromComplement}
 use Rattle.lines.specs.declared.Slot.{Slot}
 use Rattle.lines.specs.Slots.{lineCount, slotOf}
 use Rattle.lines.specs.Lines.{lineAt, setLines}
 use Rattle.writing.proofs.WriteLaws.{Carried}
-use Rattle.reading.specs.ReadLine.{Session, session, initialStored, offsetsStored, verdictOn, after}
+use Rattle.reading.specs.ReadLine.{Session, session, noneTaken, initialStored, offsetsStored, verdictOn, after}
 use Rattle.reading.proofs.ReadLaws.{all-taken}
-use Rattle.storage.specs.Feeding.{Begins, Finished, feed, keptIf, accepted}
+use Rattle.storage.specs.Feeding.{Begins, Finished, feed, accepted, withLine, takenFrom, taken}
 use Rattle.storage.specs.Sets.{TableSet, SameSet}
 use Rattle.storage.specs.Storage.{CameFrom, setIn}
 use Rattle.storage.proofs.SameDesigns.{initial-count-same}
@@ -92,33 +96,59 @@ module _ (s : Session) (came : List (List ℕ)) (so-far : SoFar s came) (line : 
           entries = entry-next;
         }
 
-  so-far-accepted : verdictOn s line ≡ Verdict.Passed → SoFar (after s line) (came ++ (line ∷ []))
-  so-far-accepted passes = let some = accepted-line s line passes in rw (some .accepted .moved) (one-more some)
-
 -- A refused line changes nothing.
 pub refused-stands : (s : Session) (line : List ℕ) (cause : Cause) → verdictOn s line ≡ Verdict.Refused cause → after s line ≡ s
 unfolding after
 refused-stands s line cause e = rw e
 
+-- An accepted empty line leaves no line taken, and both tables.
+pub empty-restarts : (s : Session) (line : List ℕ) → isEmpty line ≡ true → verdictOn s line ≡ Verdict.Passed
+    → after s line ≡ session (noneTaken (s .state)) (s .initial) (s .offsets)
+unfolding after
+empty-restarts s line empty e = rw (e, empty)
+
+-- No line is taken yet.
+none-taken : (s : Session) → Begins s → SoFar s []
+unfolding listBelow
+none-taken s none = record { lines = rw none; tables = λ h. absurd (omega arith); entries = λ n h. absurd (omega arith) }
+
+-- Whatever a line is, what counts after it are the writer's lines.
+module _ (s : Session) (came : List (List ℕ)) (so-far : SoFar s came) (line : List ℕ) where
+  abbrev StillSo : Type 0
+  StillSo = SoFar (after s line) (withLine came s line)
+
+  still-refused : (cause : Cause) → verdictOn s line ≡ Verdict.Refused cause → StillSo
+  unfolding withLine
+  still-refused cause e = rw (e, refused-stands s line cause e) (go (eqb (s .state .taken) 0) refl)
+    where
+      go : (none : Bool) → eqb (s .state .taken) 0 ≡ none → SoFar s (cond (eqb (s .state .taken) 0) [] (came ++ []))
+      go true e = rw e (none-taken s (eqb-true _ _ e))
+      go false e = rw (e, append-nil came) so-far
+
+  still-restarted : isEmpty line ≡ true → verdictOn s line ≡ Verdict.Passed → StillSo
+  unfolding withLine
+  still-restarted empty e = rw (empty-restarts s line empty e) (none-taken _ refl)
+
+  still-accepted : isEmpty line ≡ false → verdictOn s line ≡ Verdict.Passed → StillSo
+  unfolding withLine
+  still-accepted not-empty e =
+      let some = accepted-line s line not-empty e in
+      rw (e, some .accepted .moved, ne-eqb (s .state .taken + 1) 0 (λ z. omega arith)) (one-more s came so-far line some)
+
+  still-so : StillSo
+  still-so = go (verdictOn s line) (isEmpty line) refl refl
+    where
+      go : (v : Verdict) (empty : Bool) → verdictOn s line ≡ v → isEmpty line ≡ empty → StillSo
+      go Verdict.Passed true e f = still-restarted f e
+      go Verdict.Passed false e f = still-accepted f e
+      go (Verdict.Refused cause) true e f = still-refused cause e
+      go (Verdict.Refused cause) false e f = still-refused cause e
+
 -- So it goes on, line by line.
-abbrev Follows : List (List ℕ) → Type 0
-Follows lines = (s : Session) (came : List (List ℕ)) → SoFar s came → SoFar (feed s lines) (came ++ accepted s lines)
-
-one-line : (line : List ℕ) (lines : List (List ℕ)) → Follows lines → Follows (line ∷ lines)
-unfolding feed accepted
-one-line line lines rest s came so-far = go (verdictOn s line) refl
-  where
-    go : (v : Verdict) → verdictOn s line ≡ v
-        → SoFar (feed (after s line) lines) (came ++ keptIf (verdictOn s line) line (accepted (after s line) lines))
-    go Verdict.Passed e =
-        rw (e, ← append-snoc came line (accepted (after s line) lines))
-        (rest (after s line) (came ++ (line ∷ [])) (so-far-accepted s came so-far line e))
-    go (Verdict.Refused cause) e = rw (e, refused-stands s line cause e) (rest s came so-far)
-
-follows : (lines : List (List ℕ)) → Follows lines
-unfolding feed accepted
-follows [] s came so-far = rw (append-nil came) so-far
-follows (line ∷ lines) s came so-far = one-line line lines (follows lines) s came so-far
+follows : (lines : List (List ℕ)) (s : Session) (came : List (List ℕ)) → SoFar s came → SoFar (feed s lines) (takenFrom came s lines)
+unfolding feed takenFrom
+follows [] s came so-far = so-far
+follows (line ∷ lines) s came so-far = follows lines (after s line) (withLine came s line) (still-so s came so-far line)
 
 -- Refused lines do not count: the accepted ones alone lead to the same, and all of them are accepted.
 module _ (s : Session) (line : List ℕ) (lines : List (List ℕ)) where
@@ -144,11 +174,6 @@ unfolding feed accepted
 refused-skipped s [] = (refl, refl)
 refused-skipped s (line ∷ lines) = one-counts s line lines (refused-skipped (after s line) lines)
 
--- No line is taken yet.
-none-taken : (s : Session) → Begins s → SoFar s []
-unfolding listBelow
-none-taken s none = record { lines = rw none; tables = λ h. absurd (omega arith); entries = λ n h. absurd (omega arith) }
-
 -- All lines are taken: the set has a stored form, and they are its lines.
 module _ (s : Session) (came : List (List ℕ)) (so-far : SoFar s came) (at-end : Finished s) where
   finished : s .state .taken ≡ lineCount (s .state .design)
@@ -162,8 +187,8 @@ module _ (s : Session) (came : List (List ℕ)) (so-far : SoFar s came) (at-end 
         lines = so-far .lines ∙ rw finished;
       }
 
-pub unique : (s : Session) (lines : List (List ℕ)) → Begins s → Finished (feed s lines) → CameFrom (setIn (feed s lines)) (accepted s lines)
-unique s lines begins finished = came-from (feed s lines) (accepted s lines) (follows lines s [] (none-taken s begins)) finished
+pub unique : (s : Session) (lines : List (List ℕ)) → Begins s → Finished (feed s lines) → CameFrom (setIn (feed s lines)) (taken s lines)
+unique s lines begins finished = came-from (feed s lines) (taken s lines) (follows lines s [] (none-taken s begins)) finished
 
 -- So a set with an initial entry at the limit on sums or beyond it is none that a reading is finished with.
 module _ (t : TableSet) (index : ℕ) (within : index < initialCount (t .design)) where

@@ -18,7 +18,7 @@ use Rattle.writing.specs.Write.{writeAnswer, bufferAfter}
 use Rattle.reading.specs.ReadLine.{Session}
 use Rattle.storage.specs.Sets.{TableSet, SameSet, Storable, lineIn, linesIn}
 use Rattle.storage.specs.File.{fileOf}
-use Rattle.storage.specs.Feeding.{Begins, Finished, feed, accepted}
+use Rattle.storage.specs.Feeding.{Begins, Finished, feed, accepted, taken}
 
 -- "the lines the writer gives": asked for line n, it answers the line's length and leaves the line at the start of the buffer.
 pub record Gives (t : TableSet) (n : ℕ) (buffer : List ℕ) : Type 0 where
@@ -38,7 +38,8 @@ pub record ReadsBack (t : TableSet) (s end : Session) : Type 0 where
   pub initial-beyond : drop (initialCount (t .design)) (end .initial) ≡ drop (initialCount (t .design)) (s .initial)
   pub offsets-beyond : drop (offsetTotal (t .design)) (end .offsets) ≡ drop (offsetTotal (t .design)) (s .offsets)
 
--- "a finished reading came from exactly the lines the writer gives": for the design and the tables that it ends with
+-- "a finished reading came from exactly the lines the writer gives": for the design and the tables that it ends with, and with document 02,
+-- A8, the lines since it last had no line taken
 pub record CameFrom (t : TableSet) (came : List (List ℕ)) : Type 0 where
   pub storable : Storable t
   pub lines : came ≡ linesIn t
@@ -63,7 +64,7 @@ pub record Storage : Type 0 where
       → ReadsBack t s (feed s (linesIn t))
   -- and a reading that is finished, whatever lines were fed, took the writer's lines
   pub unique : (s : Session) (lines : List (List ℕ)) → Begins s → Finished (feed s lines)
-      → CameFrom (setIn (feed s lines)) (accepted s lines)
+      → CameFrom (setIn (feed s lines)) (taken s lines)
   -- whatever lines were fed, no reading is finished with a set that has "such an entry"
   pub no-form : (t : TableSet) (index : ℕ) → index < initialCount (t .design) → sumLimit (t .design) ≤ getD (t .initial) index 0
       → (s : Session) (lines : List (List ℕ)) → Begins s → Finished (feed s lines) → SameSet (setIn (feed s lines)) t → ⊥

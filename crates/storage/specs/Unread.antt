@@ -1,6 +1,7 @@
 -- Document 01, "A design": "Pairs beyond m are not read; a reader leaves zeros there on an 01 line and keeps them as they came on later
 -- lines, and sets are compared without them."
 use mathlib.Core.Path.{_≡_}
+use mathlib.Core.Bool.{true, false}
 use mathlib.Core.List.{List}
 use Prim.Native.Nat.{ℕ, _≤_, _<_}
 use lib.ListN.{getD}
@@ -20,6 +21,7 @@ use Rattle.evaluating.specs.Evaluate.{evaluateAnswer, evaluateTold}
 use Rattle.evaluating.specs.Batch.{batchAnswer, batchTold, outputAfter}
 use Rattle.checking.specs.Check.{checkAnswer, checkTold}
 use Rattle.counting.specs.Count.{countAnswer, countTold}
+use Rattle.frames.specs.Line.{isEmpty}
 use Rattle.lines.specs.Lines.{lineAt, setLines}
 use Rattle.writing.specs.Write.{writeAnswer, bufferAfter, writeTold}
 use Rattle.reading.specs.ReadLine.{finished, Session, verdictOn, after}
@@ -102,9 +104,11 @@ pub record Unread : Type 0 where
   pub not-read : (d e : Design) → Same d e → SameAnswers d e
   -- and not by the reader of lines, whose state has the design in it
   pub reader : (s t : Session) → SameReading s t → (line : List ℕ) → SameRead s t line
-  -- "a reader leaves zeros there on an 01 line"
-  pub zeros : (s : Session) (line : List ℕ) → s .state .taken ≡ 0 → verdictOn s line ≡ Verdict.Passed
+  -- "a reader leaves zeros there on an 01 line": the first that is not empty
+  pub zeros : (s : Session) (line : List ℕ) → s .state .taken ≡ 0 → isEmpty line ≡ false → verdictOn s line ≡ Verdict.Passed
       → (i : ℕ) → after s line .state .design .m ≤ i
       → getD (after s line .state .design .pairs) i noPair ≡ noPair
-  -- "and keeps them as they came on later lines"
+  -- "and keeps them as they came on later lines", also after the last, where an empty line leaves "the design in it standing as it came",
   pub kept : (s : Session) (line : List ℕ) → 0 < s .state .taken → after s line .state .design ≡ s .state .design
+  -- and on an empty line before the first, with which "the state" is "unchanged"
+  pub passed-over : (s : Session) (line : List ℕ) → s .state .taken ≡ 0 → isEmpty line ≡ true → after s line ≡ s

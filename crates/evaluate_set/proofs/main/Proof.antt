@@ -13,5 +13,9 @@ main-spec =
     (tie.spec
     (λ c. search needs)
     (λ c. search needs)
+    (λ c. search needs)
+    (λ c. search needs)
     read-and-answer-requires
+    (λ c. search needs)
+    (λ c κs. search needs)
     (λ c. search needs))

@@ -1,50 +1,52 @@
 -- `hex_console::read_records` meets its contract: each step feeds what it took, and the loop ends since no more records are taken than the
 -- set has.
+use mathlib.Core.Path.{_≡_, refl}
+use native.Mathlib.Omega.{arith}
+use lib.ListN.{length}
 use borrow.Author.Needs.{needs}
 use Rattle.records.specs.IntelHex.{recordCount}
 use Rattle.records.specs.SetBytes.{byteCount}
 use Rattle.record_reading.specs.ReadRecord.{hexSession}
 use Rattle.record_reading.proofs.StateLaws.{taken-within}
-use Rattle.set_console.proofs.FeedLaws.{left, left-less}
+use Rattle.set_console.specs.Reading.{isLine}
+use Rattle.set_console.proofs.FeedLaws.{left}
 use Rattle.hex_console.specs.Loaded.{HexCame}
-use Rattle.hex_console.proofs.LoadLaws.{loaded-none, loaded-more, came-underway}
+use Rattle.hex_console.proofs.LoadLaws.{loaded-none, loaded-more, few-records, left-less}
 use Rattle.hex_console.proofs.read_records.Statement.{statement}
 use Rattle.hex_console.proofs.read_records.Tie as tie
 
 abbrev Inv-loop : tie.InvT-loop
-Inv-loop d initial₀ offsets₀ state₀ more₀ initial offsets state more = HexCame d initial₀ offsets₀ (hexSession state initial offsets)
+Inv-loop d input₀ output initial₀ offsets₀ step₀ more₀ input initial offsets step more =
+    HexCame d initial₀ offsets₀ (hexSession (step .state) initial offsets) × (length input ≡ length input₀)
 
 abbrev μ-loop : tie.MeasureT-loop
-μ-loop d initial₀ offsets₀ state₀ more₀ initial offsets state more = left (recordCount (byteCount d)) more (state .taken)
+μ-loop d input₀ output initial₀ offsets₀ step₀ more₀ input initial offsets step more =
+    left (recordCount (byteCount d)) more (step .state .taken)
 
 loop-holds : tie.Need-loop-holds Inv-loop μ-loop
-loop-holds c = loaded-none _ _ _
-
-take-record-requires : tie.Need-take-record-requires Inv-loop μ-loop
-take-record-requires c κs =
-    let l = c .before .before .before in
-    came-underway _ _ _ _ (l .before .before .pre .legal) (l .loop .inv)
+loop-holds c = (loaded-none _ _ _, refl)
 
 loop-less : tie.Need-loop-less Inv-loop μ-loop
 loop-less c =
-    let t = c .before .before .before .before in
-    let i = t .before .before .before in
-    let l = i .before .loop in
-    left-less _ (l .state .taken) _ _ _ (taken-within _ _ (l .inv .is-possible)) (i .loop-test .taken) (t .take-record .ensures .moves)
+    let t = c .before .before .before .before .before .before in
+    let l = t .before .before .before .before in
+    rw (c .is-line .ensures)
+    (left-less _ (l .before .loop .step .state .taken) _ _ (isLine (t .take-record .result .came))
+    (taken-within _ _ (l .before .loop .inv .0 .is-possible)) (l .loop-test .taken) (t .take-record .ensures .moves))
 
 loop-again : tie.Need-loop-again Inv-loop μ-loop
 loop-again c =
-    let t = c .before .before .before .before in
-    loaded-more _ _ _ _ _ _ (t .before .before .before .before .loop .inv) (t .take-record .ensures)
+    let t = c .before .before .before .before .before .before in
+    let l = t .before .before .before .before .before .loop in
+    (loaded-more _ _ _ _ _ _ (l .inv .0) (t .take-record .ensures), search needs)
 
-same-length : tie.Need-same-length Inv-loop μ-loop
-same-length c = c .before .before .loop .inv .initial-length
-
-same-length-2 : tie.Need-same-length-2 Inv-loop μ-loop
-same-length-2 c = c .before .before .loop .inv .offsets-length
+add-lines : tie.Need-add-t24 Inv-loop μ-loop
+add-lines c =
+    let l = c .before .before .before .before in
+    omega (arith, few-records _ _ _ _ (l .before .before .before .before .pre .legal) (l .loop .inv .0))
 
 returns : tie.Need-returns Inv-loop μ-loop
-returns c = (c .before .before .loop .inv, c .is-finished .ensures)
+returns c = (c .before .before .before .before .loop .inv .0, c .is-finished .ensures)
 
 pub read-records-spec : {M : Type 1} → statement M
 read-records-spec =
@@ -53,10 +55,13 @@ read-records-spec =
     Inv-loop
     μ-loop
     loop-holds
-    take-record-requires
+    (λ c κs. search needs)
+    (λ c κs. search needs)
     loop-less
     loop-again
     (λ c κs. search needs)
-    same-length
-    same-length-2
+    add-lines
+    (λ c. search needs)
+    (λ c. search needs)
+    (λ c. search needs)
     returns)

@@ -9,8 +9,8 @@ use Rattle.hex_console.proofs.read_text.Tie as tie
 
 returns : tie.Need-returns
 returns c =
-    let read = c .before .before .before .before .read-start in
-    let room : longestRecord + 2 ≤ length (read .last .0) = search needs in
+    let read = c .before .before .before .before .before .before .before .read-start in
+    let room : longestRecord + 2 ≤ length (read .last .1 .1 .1 .0) = search needs in
     text-read _ _ _ room (read .ensures) (c .text-length .ensures .0) (c .text-length .ensures .1)
 
 pub read-text-spec : {M : Type 1} → statement M
@@ -19,5 +19,6 @@ read-text-spec =
     (tie.spec
     (λ c κs. search needs)
     (λ c κs. search needs)
+    (λ c. search needs)
     (λ c. search needs)
     returns)

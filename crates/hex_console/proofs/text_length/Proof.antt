@@ -17,6 +17,10 @@ returns-3 : tie.Need-returns-3
 unfolding lineText
 returns-3 c = rw (c .enum-told3 .given .1) (search needs, refl)
 
+returns-4 : tie.Need-returns-4
+unfolding lineText
+returns-4 c = rw (c .enum-told4 .given .1) (search needs, refl)
+
 pub text-length-spec : {M : Type 1} → statement M
 text-length-spec =
     tie.close
@@ -25,6 +29,8 @@ text-length-spec =
     (λ c κs. search needs)
     (λ c. search needs)
     (λ c. search needs)
+    (λ c. search needs)
     returns
     returns-2
-    returns-3)
+    returns-3
+    returns-4)

@@ -14,7 +14,13 @@ main-spec =
     (λ c κs. search needs)
     (λ c. search needs)
     (λ c. search needs)
+    (λ c κs. search needs)
+    (λ c. search needs)
+    (λ c. search needs)
+    (λ c. search needs)
     (λ c. search needs)
     (λ c. search needs)
     make-requires
+    (λ c. search needs)
+    (λ c κs. search needs)
     (λ c. search needs))

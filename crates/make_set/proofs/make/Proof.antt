@@ -5,9 +5,9 @@ use Rattle.storage.proofs.FilledFits.{fill-storable}
 use Rattle.make_set.proofs.make.Statement.{statement}
 use Rattle.make_set.proofs.make.Tie as tie
 
-print-set-requires : tie.Need-print-set-requires
-print-set-requires c κs =
-    let t = c .before .before in
+put-set-requires : tie.Need-put-set-requires
+put-set-requires c κs =
+    let t = c .before .before .before in
     let f = t .before .before .before .before .before in
     let tables = f .fill .ensures .1 .1 in
     rw (tables .0, tables .1) (fill-storable _ _ _ (sym (f .fill .ensures .0) ∙ t .enum-told2 .given .1))
@@ -17,6 +17,11 @@ make-spec =
     tie.close
     (tie.spec
     (λ c κs. search needs)
+    (λ c. search needs)
+    (λ c κs. search needs)
+    (λ c. search needs)
+    (λ c. search needs)
+    (λ c. search needs)
     (λ c κs. search needs)
     (λ c. search needs)
     (λ c κs. search needs)
@@ -24,14 +29,9 @@ make-spec =
     (λ c. search needs)
     (λ c. search needs)
     (λ c. search needs)
-    (λ c κs. search needs)
     (λ c. search needs)
-    (λ c κs. search needs)
+    put-set-requires
     (λ c. search needs)
-    (λ c. search needs)
-    (λ c. search needs)
-    (λ c. search needs)
-    print-set-requires
     (λ c. search needs)
     (λ c. search needs)
     (λ c. search needs))

@@ -1,42 +1,44 @@
--- `set_console::read_set` meets its contract: each step feeds what it took, and the loop ends since no set has more lines than are left.
+-- `set_console::read_set` meets its contract: each line is fed after those before it, and the loop ends since the number of lines does.
+use mathlib.Core.Path.{_≡_, refl}
+use mathlib.Core.Bool.{true}
+use lib.ListN.{length}
 use borrow.Author.Needs.{needs}
-use Rattle.lines.specs.Slots.{mostLines}
 use Rattle.reading.specs.ReadLine.{session}
-use Rattle.reading.proofs.ReadLaws.{first-possible}
-use Rattle.set_console.specs.Reading.{Came}
-use Rattle.set_console.proofs.FeedLaws.{came-none, came-more, few-taken, left, left-less}
+use Rattle.set_console.proofs.FeedLaws.{Underway, underway, underway-more, linesLeft, fewer-left, line-more}
 use Rattle.set_console.proofs.read_set.Statement.{statement}
 use Rattle.set_console.proofs.read_set.Tie as tie
 
 abbrev Inv-loop : tie.InvT-loop
-Inv-loop initial₀ offsets₀ state₀ more₀ initial offsets state more = Came initial₀ offsets₀ (session state initial offsets)
+Inv-loop input₀ output initial₀ offsets₀ next₀ more₀ input initial offsets next more =
+    Underway (session (next₀ .state) initial₀ offsets₀) (session (next .state) initial offsets) (next₀ .lines) (next .lines) (next .came) more
+    × (length input ≡ length input₀) × (length initial ≡ length initial₀) × (length offsets ≡ length offsets₀)
 
 abbrev μ-loop : tie.MeasureT-loop
-μ-loop initial₀ offsets₀ state₀ more₀ initial offsets state more = left mostLines more (state .taken)
+μ-loop input₀ output initial₀ offsets₀ next₀ more₀ input initial offsets next more = linesLeft more (next .lines)
 
 loop-holds : tie.Need-loop-holds Inv-loop μ-loop
-loop-holds c = came-none _ _ _ (c .begin .ensures) (first-possible _ (c .begin .ensures))
+loop-holds c = (underway _ _ _, refl, refl, refl)
 
 loop-less : tie.Need-loop-less Inv-loop μ-loop
 loop-less c =
-    let t = c .before .before .before .before in
-    let i = t .before .before .before in
-    let l = i .before .loop in
-    left-less mostLines (l .state .taken) _ _ _ (few-taken _ (l .inv .is-possible)) (i .loop-test .taken) (t .take-line .ensures .moves)
+    let t = c .before .before .before .before .before .before in
+    let l = t .before .before .before .before in
+    let e = t .take-line .ensures in
+    fewer-left (l .before .loop .next .lines) _ _ (c .is-line .result) (l .loop-test .taken)
+    (line-more (t .take-line .result .came) _ _ _ (e .1 .0) (c .is-line .ensures)) (e .1 .1)
 
 loop-again : tie.Need-loop-again Inv-loop μ-loop
 loop-again c =
-    let t = c .before .before .before .before in
-    came-more _ _ _ _ _ (t .before .before .before .before .loop .inv) (t .take-line .ensures)
-
-same-length : tie.Need-same-length Inv-loop μ-loop
-same-length c = c .before .before .loop .inv .initial-length
-
-same-length-2 : tie.Need-same-length-2 Inv-loop μ-loop
-same-length-2 c = c .before .before .loop .inv .offsets-length
+    let t = c .before .before .before .before .before .before in
+    let l = t .before .before .before .before in
+    let e = t .take-line .ensures in
+    let before : Underway _ _ _ _ _ true = rw (l .loop-test .taken) at (l .before .loop .inv .0) in
+    (underway-more _ _ _ _ _ _ _ _ _ before (e .0) (e .1 .0) (e .1 .1) (c .is-line .ensures), search needs, search needs, search needs)
 
 returns : tie.Need-returns Inv-loop μ-loop
-returns c = (c .before .before .loop .inv, c .is-finished .ensures)
+returns c =
+    let u = rw (c .loop-test .left) at (c .before .loop .inv .0) in
+    (u .led, (u .ended refl, (u .later refl, u .few refl)))
 
 pub read-set-spec : {M : Type 1} → statement M
 read-set-spec =
@@ -44,12 +46,12 @@ read-set-spec =
     (tie.spec
     Inv-loop
     μ-loop
-    (λ c κs. search needs)
     loop-holds
+    (λ c κs. search needs)
     (λ c κs. search needs)
     loop-less
     loop-again
-    (λ c κs. search needs)
-    same-length
-    same-length-2
+    (λ c. search needs)
+    (λ c. search needs)
+    (λ c. search needs)
     returns)

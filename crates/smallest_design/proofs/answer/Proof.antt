@@ -23,8 +23,8 @@ legal-found : (kind w q : ℕ) (found : Found) → found ≡ smallestAnswer kind
     → Legal (found .best .design)
 legal-found kind w q found is passed = rw is (answered kind w q (smallestVerdict kind w q) refl (rw is at passed))
 
-print-design-requires : tie.Need-print-design-requires
-print-design-requires c κs = legal-found _ _ _ _ (c .before .before .before .smallest .ensures .0) (c .enum-told .given .1)
+put-design-requires : tie.Need-put-design-requires
+put-design-requires c κs = legal-found _ _ _ _ (c .before .before .before .before .smallest .ensures .0) (c .before .enum-told .given .1)
 
 pub answer-spec : {M : Type 1} → statement M
 answer-spec =
@@ -32,8 +32,10 @@ answer-spec =
     (tie.spec
     (λ c κs. search needs)
     (λ c. search needs)
-    print-design-requires
+    put-design-requires
     (λ c. search needs)
     (λ c κs. search needs)
+    (λ c. search needs)
+    (λ c. search needs)
     (λ c. search needs)
     (λ c. search needs))

@@ -1,0 +1,65 @@
+-- `console::Console::read_start` meets its contract: the count stays within the lent bytes, no newline is stored, and a line is cut off only
+-- where all of them are used.
+use Prim.Native.Nat.{ℕ, _-_, _≤_}
+use mathlib.Core.Path.{_≡_}
+use native.Mathlib.Nat.{not-suc-le-zero}
+use native.Mathlib.Omega.{arith}
+use borrow.Author.Needs.{needs}
+use lib.ListN.{length}
+use Rattle.console.specs.Reading.{NoNewline}
+use Rattle.console.proofs.LineLaws.{one-more, by-input, by-newline, cut-off}
+use Rattle.console.proofs.Console.read_start.Statement.{statement}
+use Rattle.console.proofs.Console.read_start.Tie as tie
+
+abbrev Inv-loop : tie.InvT-loop
+Inv-loop input₀ output bytes₀ console₀ count₀ input bytes console count =
+    (count ≤ length bytes₀) × (length bytes ≡ length bytes₀) × (length input ≡ length input₀) × NoNewline bytes count
+
+abbrev μ-loop : tie.MeasureT-loop
+μ-loop input₀ output bytes₀ console₀ count₀ input bytes console count = length bytes₀ - count
+
+loop-holds : tie.Need-loop-holds Inv-loop μ-loop
+loop-holds c = (search needs, search needs, search needs, λ i h. absurd (not-suc-le-zero h))
+
+returns : tie.Need-returns Inv-loop μ-loop
+returns c =
+    let l = c .before .before .before .before .before .before .before .before .loop in
+    rw (c .last-end .ensures) (by-input _ (l .bytes) (l .count) (omega (arith, l .inv)) (l .inv .3))
+
+returns-2 : tie.Need-returns-2 Inv-loop μ-loop
+returns-2 c =
+    let l = c .before .before .before .before .before .before .before .before .loop in
+    by-newline _ (l .bytes) (l .count) (omega (arith, l .inv)) (l .inv .3)
+
+loop-again : tie.Need-loop-again Inv-loop μ-loop
+loop-again c =
+    let l = c .before .before .before .before .before .before .before .before .loop in
+    (search needs, search needs, search needs, one-more (l .bytes) (l .count) _ (omega arith) (l .inv .3) (c .if2 .left))
+
+returns-3 : tie.Need-returns-3 Inv-loop μ-loop
+returns-3 c =
+    let l = c .before .loop in
+    cut-off _ (l .bytes) (l .count) (omega (arith, l .inv)) (l .inv .3) (omega (arith, l .inv))
+
+pub read-start-spec : {M : Type 1} → statement M
+read-start-spec =
+    tie.close
+    (tie.spec
+    Inv-loop
+    μ-loop
+    loop-holds
+    (λ c κs. search needs)
+    (λ c κs. search needs)
+    (λ c. search needs)
+    (λ c. search needs)
+    returns
+    (λ c. search needs)
+    (λ c. search needs)
+    returns-2
+    (λ c. search needs)
+    (λ c. search needs)
+    (λ c. search needs)
+    loop-again
+    (λ c. search needs)
+    (λ c. search needs)
+    returns-3)

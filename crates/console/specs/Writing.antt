@@ -1,0 +1,22 @@
+-- What can be said of output, wherever it goes: what is pending in the lent block.
+use mathlib.Core.Bool.{Bool, cond}
+use mathlib.Core.List.{List, [], _++_}
+use Prim.Native.Nat.{ℕ, _+_}
+use lib.Dec.{leb}
+use lib.ListN.{length, take}
+use Rattle.console.specs.declared.Console.{Console}
+
+-- Nothing is pending, and the input is where it was. Whether all that was pending could be written, nothing tells.
+abbrev pub flushed : Console → Bool → Console
+flushed c failed = record { at = c .at; count = c .count; pending = 0; failed = failed }
+
+-- Room for so many bytes behind what is pending: the block has it, or what is pending goes out.
+abbrev pub withRoom : Console → ℕ → ℕ → Bool → Console
+withRoom c block count failed = cond (leb (c .pending + count) block) c (flushed c failed)
+
+-- What is pending once a text is put: the text behind what was pending; the text alone, where the block has no room for both; nothing, where
+-- no block holds the text.
+unfoldable pub pendingWith : Console → List ℕ → List ℕ → List ℕ
+pendingWith c block text =
+    cond (leb (c .pending + length text) (length block)) (take (c .pending) block ++ text)
+    (cond (leb (length text) (length block)) text [])
