@@ -7,13 +7,10 @@ use native.Mathlib.Nat.{le-refl, le-step, not-suc-le-zero}
 use native.Mathlib.Numerals.{add-one}
 use native.Mathlib.Omega.{arith}
 use Rattle.general.specs.Below.{joined}
+use Rattle.general.specs.Lists.{All}
 use Rattle.general.proofs.Sums.{below-suc}
 
--- Each element has the property; some element has it; each element is related to every later one.
-abbrev pub All : {A : Type 0} → (A → Type 0) → List A → Type 0
-All P [] = Unit {0}
-All P (x ∷ xs) = P x × All P xs
-
+-- Some element has the property; each element is related to every later one.
 abbrev pub Some : {A : Type 0} → (A → Type 0) → List A → Type 0
 Some P [] = ⊥
 Some P (x ∷ xs) = P x ⊎ Some P xs

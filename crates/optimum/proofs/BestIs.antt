@@ -7,7 +7,8 @@ use Prim.Native.Nat.{ℕ, _≤_, _<_}
 use native.Mathlib.Nat.{le-refl, le-trans, le-of-lt, lt-of-le-of-lt, not-le-of-lt}
 use native.Mathlib.Decide.{decLt}
 use native.Mathlib.Omega.{arith}
-use Rattle.general.proofs.JoinedLaws.{All, Some, Ordered}
+use Rattle.general.specs.Lists.{All}
+use Rattle.general.proofs.JoinedLaws.{Some, Ordered}
 use Rattle.design.specs.declared.Design.{Design}
 use Rattle.sizing.specs.Size.{size}
 use Rattle.searching.specs.declared.SizedDesign.{SizedDesign}

@@ -10,8 +10,9 @@ use native.Mathlib.Omega.{arith}
 use lib.ListN.{length, getD, take, length-set, length-take, List·getD-eq-default}
 use lib.Seq.{getD-set-other, ext-getD}
 use Rattle.general.specs.Below.{forEach}
+use Rattle.general.specs.Lists.{All}
 use Rattle.general.proofs.Sums.{below-suc}
-use Rattle.general.proofs.JoinedLaws.{All, Some, all-weaker, some-weaker, all-joined, some-joined}
+use Rattle.general.proofs.JoinedLaws.{Some, all-weaker, some-weaker, all-joined, some-joined}
 use Rattle.values.specs.Widths.{limitsOf}
 use Rattle.design.specs.declared.Pair.{Pair}
 use Rattle.design.specs.declared.Design.{Design}

@@ -5,7 +5,8 @@ use native.Mathlib.Nat.{le-trans}
 use native.Mathlib.Omega.{arith}
 use lib.ListN.{length, length-set}
 use Rattle.general.specs.Below.{forEach}
-use Rattle.general.proofs.JoinedLaws.{All, Ordered, all-weaker, all-joined, ordered-joined}
+use Rattle.general.specs.Lists.{All}
+use Rattle.general.proofs.JoinedLaws.{Ordered, all-weaker, all-joined, ordered-joined}
 use Rattle.values.specs.Widths.{limitsOf}
 use Rattle.design.specs.declared.Pair.{Pair}
 use Rattle.design.specs.declared.Design.{Design}

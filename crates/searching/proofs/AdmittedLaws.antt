@@ -5,8 +5,9 @@ use Prim.Native.Nat.{ℕ, zero, suc, _+_, _*_, _≤_}
 use native.Mathlib.Nat.{add-suc, add-zero, le-trans}
 use native.Mathlib.Omega.{arith}
 use borrow.Author.Tests.{ltb-true, lt-ltb}
+use Rattle.general.specs.Lists.{All}
 use Rattle.general.proofs.Tests.{both}
-use Rattle.general.proofs.JoinedLaws.{All, all-weaker}
+use Rattle.general.proofs.JoinedLaws.{all-weaker}
 use Rattle.refusal.specs.Checks.{passes}
 use Rattle.refusal.proofs.Answers.{only-passed}
 use Rattle.design.specs.declared.Design.{Design}

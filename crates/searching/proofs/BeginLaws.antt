@@ -5,7 +5,8 @@ use Prim.Native.Nat.{ℕ, _+_, _-_, _*_, _≤_, _<_}
 use native.Mathlib.Nat.{le-refl, not-suc-le-zero}
 use native.Mathlib.Omega.{arith}
 use Rattle.general.specs.Below.{joined, forEach}
-use Rattle.general.proofs.JoinedLaws.{All, all-joined}
+use Rattle.general.specs.Lists.{All}
+use Rattle.general.proofs.JoinedLaws.{all-joined}
 use Rattle.values.specs.Widths.{limitsOf}
 use Rattle.design.specs.declared.Design.{Design}
 use Rattle.design.specs.Limits.{leastInitialBits, mostInitialBits, mostTables, mostOffsetBits}

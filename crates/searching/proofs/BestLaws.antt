@@ -8,7 +8,8 @@ use native.Mathlib.Omega.{arith}
 use borrow.Author.Tests.{le-ltb, lt-ltb}
 use lib.Dec.{ltb}
 use Rattle.general.specs.Below.{joined}
-use Rattle.general.proofs.JoinedLaws.{All, joined-next}
+use Rattle.general.specs.Lists.{All}
+use Rattle.general.proofs.JoinedLaws.{joined-next}
 use Rattle.design.specs.declared.Design.{Design}
 use Rattle.sizing.specs.Size.{size}
 use Rattle.searching.specs.declared.SizedDesign.{SizedDesign}

@@ -8,8 +8,9 @@ use native.Mathlib.Omega.{arith}
 use lib.ListN.{length, getD, take, length-take, List·getD-eq-default}
 use lib.Seq.{getD-set-same, getD-set-other, getD-take}
 use Rattle.general.specs.Below.{sumBelow, forEach}
+use Rattle.general.specs.Lists.{All}
 use Rattle.general.proofs.Sums.{sum-congruence, sum-mono}
-use Rattle.general.proofs.JoinedLaws.{All, all-weaker, all-joined}
+use Rattle.general.proofs.JoinedLaws.{all-weaker, all-joined}
 use Rattle.values.specs.Slopes.{largestSpread}
 use Rattle.design.specs.declared.Pair.{Pair}
 use Rattle.design.specs.declared.Design.{Design}

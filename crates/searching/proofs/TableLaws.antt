@@ -5,7 +5,8 @@ use Prim.Native.Nat.{ℕ, suc, _+_, _-_, _≤_, _<_}
 use native.Mathlib.Nat.{add-le-add, le-refl, le-trans}
 use native.Mathlib.Omega.{arith}
 use Rattle.general.specs.Below.{joined, forEach}
-use Rattle.general.proofs.JoinedLaws.{All, all-joined}
+use Rattle.general.specs.Lists.{All}
+use Rattle.general.proofs.JoinedLaws.{all-joined}
 use Rattle.values.specs.Inputs.{SlopeInput}
 use Rattle.values.specs.Slopes.{largestSum}
 use Rattle.design.specs.declared.Design.{Design}

@@ -13,6 +13,9 @@ pub mod Standing
 pub mod Uniqueness
 pub mod ReadingBack
 pub mod InOrder
+-- Empty lines and several sets:
+pub mod EmptyLines
+pub mod Several
 -- What the fill writes:
 pub mod FilledFits
 -- Demand 2's last sentence, all together:

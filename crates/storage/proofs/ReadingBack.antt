@@ -1,6 +1,7 @@
 -- Written lines read back to the same set.
 use mathlib.Core.Path.{_≡_, refl, sym, ap, _∙_}
-use mathlib.Core.List.{List, [], _∷_, _++_}
+use mathlib.Core.Bool.{false, cond}
+use mathlib.Core.List.{List, [], _∷_, _++_, append-nil}
 use Prim.Native.Nat.{ℕ, zero, suc, _+_, _≤_, _<_}
 use native.Mathlib.Nat.{add-zero, add-suc, le-refl}
 use native.Mathlib.Numerals.{add-one}
@@ -8,6 +9,7 @@ use native.Mathlib.Omega.{arith}
 use lib.ListN.{length, getD, take, drop}
 use lib.Seq.{getD-take, length-take-le, take-at, drop-at, take-take}
 use lib.IntN.{ℤ, pos}
+use borrow.Author.Tests.{ne-eqb}
 use Rattle.general.specs.Below.{listBelow}
 use Rattle.general.specs.Lists.{over}
 use Rattle.general.proofs.WritingLaws.{over-none, over-start, over-length, over-next}
@@ -27,29 +29,36 @@ use Rattle.lines.specs.Slots.{lineCount, slotOf, offsetSlot}
 use Rattle.lines.specs.Lines.{entryNumber, entryFits, lineAt, setLines}
 use Rattle.lines.proofs.SlotLaws.{slot-initial, slot-offset, slot-last}
 use Rattle.writing.proofs.WriteLaws.{Carried}
+use Rattle.reading.specs.Inputs.{Begun}
 use Rattle.reading.specs.ReadLine.{Session, session, initialStored, offsetsStored, verdictOn, after}
-use Rattle.reading.proofs.ReadLaws.{finished-at-end}
-use Rattle.storage.specs.Feeding.{Begins, Finished, feed, accepted}
+use Rattle.reading.specs.ReadLine.{finished as is-finished}
+use Rattle.reading.proofs.ReadLaws.{finished-at-end, by-count, begun-possible}
+use Rattle.storage.specs.Feeding.{Begins, Finished, feed, accepted, finishedBy, finishes}
 use Rattle.storage.specs.Sets.{TableSet, Storable, linesIn}
 use Rattle.storage.specs.Storage.{ReadsBack}
-use Rattle.storage.proofs.Feeds.{feed-append, accepted-append}
+use Rattle.storage.proofs.Feeds.{feed-append, accepted-append, finishes-append}
 use Rattle.storage.proofs.SameDesigns.{initial-count-same, offset-total-same, line-count-same, slot-same, over-same, line-same}
 use Rattle.storage.proofs.Fitting.{storable-lines}
 use Rattle.storage.proofs.Taking.{given-usable, first-passes, first-taken, later-passes, later-taken}
 
--- The first n of some lines are all accepted, and the reading comes to `end`.
-record Reached (line : ℕ → List ℕ) (s : Session) (n : ℕ) (end : Session) : Type 0 where
+-- The first n of some lines are all accepted, the reading comes to `end`, and these are the sets that it finished.
+record Reached (line : ℕ → List ℕ) (s : Session) (n : ℕ) (end : Session) (sets : List Session) : Type 0 where
   comes-to : feed s (listBelow n line) ≡ end
   all-taken : accepted s (listBelow n line) ≡ listBelow n line
+  finished-sets : finishes s (listBelow n line) ≡ sets
 
-reached-more : (line : ℕ → List ℕ) (s : Session) (n : ℕ) (end next : Session) → Reached line s n end
-    → verdictOn end (line n) ≡ Verdict.Passed → after end (line n) ≡ next → Reached line s (suc n) next
-unfolding listBelow feed accepted
-reached-more line s n end next r passes moves =
-    record {
-      comes-to = feed-append (line n ∷ []) (listBelow n line) s ∙ rw (r .comes-to) moves;
-      all-taken = accepted-append (line n ∷ []) (listBelow n line) s ∙ rw (r .all-taken, r .comes-to, passes);
-    }
+module _ (line : ℕ → List ℕ) (s : Session) (n : ℕ) (end next : Session) (sets : List Session) where
+  reached-more : Reached line s n end sets → verdictOn end (line n) ≡ Verdict.Passed → after end (line n) ≡ next
+      → (set : List Session) → cond (is-finished (next .state)) (next ∷ []) [] ≡ set → Reached line s (suc n) next (sets ++ set)
+  unfolding listBelow feed accepted finishes finishedBy
+  reached-more r passes moves set set-is =
+      record {
+        comes-to = feed-append (line n ∷ []) (listBelow n line) s ∙ rw (r .comes-to) moves;
+        all-taken = accepted-append (line n ∷ []) (listBelow n line) s ∙ rw (r .all-taken, r .comes-to, passes);
+        finished-sets =
+            finishes-append (line n ∷ []) (listBelow n line) s
+            ∙ rw (r .finished-sets, r .comes-to, passes, moves, set-is, append-nil set);
+      }
 
 -- The first n of the entries, written over a table: its first n are these, and the rest stands.
 module _ {A : Type 0} (table entries : List A) (n m : ℕ) (same : m ≡ n) (long : length (take m entries) ≡ m) where
@@ -93,20 +102,37 @@ module _ (t : TableSet) (ok : Storable t) (s : Session) (begins : Begins s) (ini
         below = rw (over-same e (t .design) same (slotOf e n), slot-same e (t .design) same n) (entry .below);
       }
 
+  -- Before the last line the reading is not finished.
+  unfinished : (n : ℕ) → 0 < n → n < lineCount e → is-finished (record { design = e; taken = n }) ≡ false
+  unfinished n some within =
+      let b : Begun (record { design = e; taken = n }) =
+      record { some = some; legal = usable-given .legal; within = omega arith } in
+      by-count _ (begun-possible _ b) ∙ ne-eqb n (lineCount e) (λ z. omega arith)
+
   -- One later line
   module _ (n : ℕ) (initial : List ℕ) (offsets : List ℤ) (some : 0 < n) (within : n < lineCount e)
       (initial-kept : length initial ≡ length (s .initial)) (offsets-kept : length offsets ≡ length (s .offsets)) where
-    reached-later : (initial-next : List ℕ) (offsets-next : List ℤ)
+    reached-line : (initial-next : List ℕ) (offsets-next : List ℤ)
         → let v = entryNumber (slotOf e n) (t .initial) (t .offsets) in
+        let next = session (record { design = e; taken = suc n }) initial-next offsets-next in
         initialStored (slotOf e n) v initial ≡ initial-next → offsetsStored (slotOf e n) v offsets ≡ offsets-next
-        → Reached line s n (session (record { design = e; taken = n }) initial offsets)
-        → Reached line s (suc n) (session (record { design = e; taken = suc n }) initial-next offsets-next)
-    reached-later initial-next offsets-next initial-is offsets-are r =
+        → Reached line s n (session (record { design = e; taken = n }) initial offsets) []
+        → (set : List Session) → cond (is-finished (next .state)) (next ∷ []) [] ≡ set → Reached line s (suc n) next set
+    reached-line initial-next offsets-next initial-is offsets-are r =
         let usable : Usable e (length initial) (length offsets) = rw (initial-kept, offsets-kept) usable-given in
         let moves = later-taken e n initial (t .initial) offsets (t .offsets) some within usable (entry-given n within) in
-        reached-more line s n _ _ r
+        reached-more line s n _ _ [] r
         (rw (line-given n) (later-passes e n initial (t .initial) offsets (t .offsets) some within usable (entry-given n within)))
         (rw (line-given n, ← add-one n, ← initial-is, ← offsets-are) moves)
+
+    -- that is not the last
+    reached-later : suc n < lineCount e → (initial-next : List ℕ) (offsets-next : List ℤ)
+        → let v = entryNumber (slotOf e n) (t .initial) (t .offsets) in
+        initialStored (slotOf e n) v initial ≡ initial-next → offsetsStored (slotOf e n) v offsets ≡ offsets-next
+        → Reached line s n (session (record { design = e; taken = n }) initial offsets) []
+        → Reached line s (suc n) (session (record { design = e; taken = suc n }) initial-next offsets-next) []
+    reached-later more initial-next offsets-next initial-is offsets-are r =
+        reached-line initial-next offsets-next initial-is offsets-are r [] (rw (unfinished (suc n) (omega arith) more))
 
   -- the set's entries
   abbrev initial-entries : List ℕ
@@ -172,20 +198,22 @@ module _ (t : TableSet) (ok : Storable t) (s : Session) (begins : Begins s) (ini
   offset-only p v h = rw (slot-offset e (initialCount e + 1 + p) p refl h)
 
   -- After the first line and k initial entries
-  start : Reached line s 0 s
-  unfolding listBelow feed accepted
-  start = record { comes-to = refl; all-taken = refl }
+  start : Reached line s 0 s []
+  unfolding listBelow feed accepted finishes
+  start = record { comes-to = refl; all-taken = refl; finished-sets = refl }
 
   reached-initial : (k : ℕ) → k ≤ initialCount e
-      → Reached line s (suc k) (session (record { design = e; taken = suc k }) (over (s .initial) 0 (take k initial-entries)) (s .offsets))
+      → Reached line s (suc k)
+      (session (record { design = e; taken = suc k }) (over (s .initial) 0 (take k initial-entries)) (s .offsets)) []
   unfolding lineCount
   reached-initial zero h =
       let moves = first-taken (t .design) (ok .usable .legal) (t .initial) (t .offsets) s begins initial-long offsets-long in
-      reached-more line s 0 s _ start
+      reached-more line s 0 s _ [] start
       (first-passes (t .design) (ok .usable .legal) (t .initial) (t .offsets) s begins initial-long offsets-long)
       (moves ∙ ap (λ (initial : List ℕ). session (record { design = e; taken = 1 }) initial (s .offsets)) (over-none (s .initial) 0))
+      [] (rw (unfinished 1 (omega arith) (omega arith)))
   reached-initial (suc k) h =
-      reached-later (suc k) _ (s .offsets) (omega arith) (omega arith) (initial-length k (omega arith)) refl _ _
+      reached-later (suc k) _ (s .offsets) (omega arith) (omega arith) (initial-length k (omega arith)) refl (omega arith) _ _
       (initial-more k h) (initial-only k _ h) (reached-initial k (omega arith))
 
   -- after all of them and p offsets
@@ -194,7 +222,7 @@ module _ (t : TableSet) (ok : Storable t) (s : Session) (begins : Begins s) (ini
 
   reached-offset : (p : ℕ) → p ≤ offsetTotal e
       → Reached line s (initialCount e + 1 + p)
-      (session (record { design = e; taken = initialCount e + 1 + p }) initial-read (over (s .offsets) 0 (take p offset-entries)))
+      (session (record { design = e; taken = initialCount e + 1 + p }) initial-read (over (s .offsets) 0 (take p offset-entries))) []
   unfolding lineCount
   reached-offset zero h =
       rw (add-zero (initialCount e + 1), add-one (initialCount e), ← over-none (s .offsets) 0)
@@ -202,7 +230,7 @@ module _ (t : TableSet) (ok : Storable t) (s : Session) (begins : Begins s) (ini
   reached-offset (suc p) h =
       rw (add-suc (initialCount e + 1) p)
       (reached-later (initialCount e + 1 + p) initial-read _ (omega arith) (omega arith) (initial-length (initialCount e) (le-refl _))
-      (offsets-length p (omega arith)) _ _ (offset-only p _ h) (offset-more p h) (reached-offset p (omega arith)))
+      (offsets-length p (omega arith)) (omega arith) _ _ (offset-only p _ h) (offset-more p h) (reached-offset p (omega arith)))
 
   -- and after the last line
   abbrev offsets-read : List ℤ
@@ -217,12 +245,17 @@ module _ (t : TableSet) (ok : Storable t) (s : Session) (begins : Begins s) (ini
   last-is : slotOf e n-last ≡ Slot.End n-last
   last-is = slot-last e n-last (omega arith)
 
-  reached-last : Reached line s (suc n-last) end
+  finished : Finished end
+  unfolding lineCount
+  finished =
+      finished-at-end (end .state) (record { some = omega arith; legal = usable-given .legal; within = omega arith }) (omega arith)
+
+  reached-last : Reached line s (suc n-last) end (end ∷ [])
   unfolding lineCount initialStored offsetsStored
   reached-last =
-      reached-later n-last initial-read offsets-read (omega arith) (omega arith) (initial-length (initialCount e) (le-refl _))
+      reached-line n-last initial-read offsets-read (omega arith) (omega arith) (initial-length (initialCount e) (le-refl _))
       (offsets-length (offsetTotal e) (le-refl _)) initial-read offsets-read (rw last-is) (rw last-is)
-      (reached-offset (offsetTotal e) (le-refl _))
+      (reached-offset (offsetTotal e) (le-refl _)) (end ∷ []) (rw finished)
 
   all-lines : linesIn t ≡ listBelow (suc n-last) line
   unfolding setLines lineCount
@@ -234,10 +267,9 @@ module _ (t : TableSet) (ok : Storable t) (s : Session) (begins : Begins s) (ini
   comes-to-end : feed s (linesIn t) ≡ end
   comes-to-end = rw all-lines (reached-last .comes-to)
 
-  finished : Finished end
-  unfolding lineCount
-  finished =
-      finished-at-end (end .state) (record { some = omega arith; legal = usable-given .legal; within = omega arith }) (omega arith)
+  -- which is the only one that finishes a set
+  pub finished-once : finishes s (linesIn t) ≡ feed s (linesIn t) ∷ []
+  finished-once = rw (all-lines, reached-last .comes-to) (reached-last .finished-sets)
 
   pub read-back : ReadsBack t s (feed s (linesIn t))
   read-back =

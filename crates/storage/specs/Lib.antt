@@ -3,4 +3,5 @@ pub mod Sets
 pub mod File
 pub mod Feeding
 pub mod Storage
+pub mod Several
 pub mod Unread
