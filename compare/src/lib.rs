@@ -1,4 +1,4 @@
-//! Document 01 and requests A1, A2 and A4 to A7 written a second time, in Rust, and what is
+//! Document 01 and requests A1, A2 and A4 to A8 written a second time, in Rust, and what is
 //! needed to hold them against the proved library.
 
 // The reference is compiled twice on purpose, see `wide` and `narrow`.

@@ -1,4 +1,5 @@
-//! "Bits, lines": a set stored as lines of hexadecimal, one frame a line.
+//! "Bits, lines": a set stored as lines of hexadecimal, one frame a line; and request A8's empty
+//! lines between sets.
 
 use super::bytes::{
     initial_bytes, initial_entry, last_byte, offset_bytes, offset_entry, read_digits, sum,
@@ -171,8 +172,13 @@ fn end_frame(before: usize) -> Frame {
     Frame::sealed(&[4, n1, n0])
 }
 
-/// The design of a first line; refusals 15, 16, then 1 to 9. The pairs beyond m are zeros.
-pub fn read_design(line: &[u8]) -> Result<(Design, Legal), u8> {
+/// The design of an 01 line on its own; refusals 15, 16, then 1 to 9. The pairs beyond m are zeros.
+pub fn read_design(line: &[u8]) -> Result<Design, u8> {
+    read_legal(line).map(|(design, _)| design)
+}
+
+/// The same with what the design fixes.
+pub fn read_legal(line: &[u8]) -> Result<(Design, Legal), u8> {
     let frame = Frame::from_line(line)?;
     let &[1, kind, w, q, g, alpha, m, ref rest @ ..] = frame.bytes() else {
         return Err(refusal::NOT_DUE);
@@ -242,14 +248,17 @@ pub struct Reading {
 }
 
 impl Reading {
-    /// Takes one line; refusals 17, 15, 16, on an 01 line 1 to 9, on a 02 line 23, then 10. A
-    /// refused line gives back the state that came in.
+    /// Takes one line; refusals 17, 15, 16, on an 01 line 1 to 9, on a 02 line 23, then 10; for an
+    /// empty line 17 and 16 alone. A refused line gives back the state that came in.
     pub fn read_line(
         self,
         initial: &mut [u32],
         offsets: &mut [i32],
         line: &[u8],
     ) -> (Result<(), u8>, Reading) {
+        if line.is_empty() {
+            return self.read_empty();
+        }
         let design = if self.taken == 0 {
             read_first(initial, offsets, line)
         } else {
@@ -263,6 +272,20 @@ impl Reading {
                     taken: self.taken + 1,
                 },
             ),
+            Err(refusal) => (Err(refusal), self),
+        }
+    }
+
+    /// Request A8: "after a finished set" an empty line "gives a reading state with no line taken,
+    /// the design in it standing as it came", "before a set's first line" it "is passed over, the
+    /// state unchanged", and "inside a set it is refused with 16".
+    fn read_empty(self) -> (Result<(), u8>, Reading) {
+        if self.taken == 0 {
+            return (Ok(()), self);
+        }
+        match self.possible() {
+            Ok(legal) if self.taken == legal.lines() => (Ok(()), Reading { taken: 0, ..self }),
+            Ok(_) => (Err(refusal::NOT_DUE), self),
             Err(refusal) => (Err(refusal), self),
         }
     }
@@ -309,7 +332,7 @@ impl Reading {
 
 /// The first line: its design is the one to go on with.
 fn read_first(initial: &[u32], offsets: &[i32], line: &[u8]) -> Result<Design, u8> {
-    let (design, legal) = read_design(line)?;
+    let (design, legal) = read_legal(line)?;
     legal.fits(initial, offsets)?;
     Ok(design)
 }

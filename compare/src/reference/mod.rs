@@ -1,5 +1,5 @@
 //! Document 01: multipartite tables for reciprocal, root and reciprocal root; and requests A1, A2
-//! and A4 to A7.
+//! and A4 to A8.
 //!
 //! Names are the document's: kind, w, q, g, alpha, m, a, b, P, hi, lo, budget. `Int` is the type
 //! of every intermediate product, `Signed` that of sums; both come from the module that includes this
@@ -34,7 +34,7 @@ pub use design::{legal, Design};
 pub use evaluate::{evaluate, evaluate_batch, sum};
 pub use fill::fill;
 pub use function::{value, Value};
-pub use lines::{write_line, Reading};
+pub use lines::{read_design, write_line, Reading};
 pub use quick_smallest::quick_smallest;
 pub use records::{write_record, HexReading};
 pub use report::report;

@@ -1,5 +1,5 @@
 //! The document's examples, starred or not, and its traps; then those of requests A1, A2 and A4 to
-//! A7.
+//! A8.
 
 use super::design::{Legal, Table};
 use super::function::Function;
@@ -389,7 +389,7 @@ fn lines_refused() {
     let illegal = Design { kind: 9, ..d };
     assert_eq!(read(1, illegal, ""), 17);
     assert_eq!(read(99, d, ""), 17);
-    assert_eq!(read(98, d, ""), 15);
+    assert_eq!(read(98, d, "\r"), 15);
     assert_eq!(read(98, d, "0400619B"), 16);
     assert_eq!(read(97, d, "0400609C"), 16);
     assert_eq!(read(97, d, "0400619B"), 0);
@@ -465,6 +465,152 @@ fn reports() {
     assert_eq!(report(b""), "REFUSED 15\n");
     assert_eq!(report(b"0400619B"), "REFUSED 16\n");
     assert_eq!(report(b"01050508040501030 3DF"), "REFUSED 15\n");
+}
+
+/// What an empty line does in a state of G, whose set has 98 lines, and in states of a design that is
+/// not legal: the refusal, 0 if there is none, and the lines taken afterwards. The tables are too
+/// short for any set, and all the rest stands as it came, pairs beyond m, too.
+fn after_empty_line(design: Design, taken: usize) -> (u8, usize) {
+    let state = Reading { design, taken };
+    let (mut initial, mut offsets) = (vec![5; 1], vec![]);
+    let (answer, next) = state.read_line(&mut initial, &mut offsets, b"");
+    assert_eq!((next.design, initial), (design, vec![5]));
+    (answer.err().unwrap_or(0), next.taken)
+}
+
+#[test]
+fn empty_lines() {
+    let mut d = example();
+    d.pairs[1..].copy_from_slice(&[(7, 0), (u32::MAX, 9), (1, 1)]);
+    let illegal = Design { kind: 9, ..d };
+    for design in [d, illegal, Design { m: 77, ..d }, with_pair(3, 2)] {
+        assert_eq!(after_empty_line(design, 0), (0, 0));
+    }
+    for taken in 1..98 {
+        assert_eq!(after_empty_line(d, taken), (16, taken));
+    }
+    assert_eq!(after_empty_line(d, 98), (0, 0));
+    for taken in [99, 196, usize::MAX] {
+        assert_eq!(after_empty_line(d, taken), (17, taken));
+    }
+    for taken in [1, 2, 97, 98, 99, usize::MAX] {
+        assert_eq!(after_empty_line(illegal, taken), (17, taken));
+        assert_eq!(after_empty_line(with_pair(3, 2), taken), (17, taken));
+    }
+}
+
+/// Only a line with no byte at all is empty.
+#[test]
+fn lines_that_are_not_empty() {
+    let d = example();
+    for line in ["\r", " ", "\0", "0", "\n"] {
+        for (taken, refusal) in [(0, 15), (1, 15), (97, 15), (98, 15), (99, 17)] {
+            let state = Reading { design: d, taken };
+            let (answer, next) = state.read_line(&mut [], &mut [], line.as_bytes());
+            assert_eq!((answer, next), (Err(refusal), state), "{line:?}");
+        }
+        assert_eq!(read_design(line.as_bytes()), Err(15));
+    }
+    assert_eq!(read_design(b""), Err(15));
+    assert_eq!(read_design(b"010008080405010303DF"), Ok(d));
+}
+
+/// The state after G's last line: nothing but an empty line leads on from it. From there on the
+/// design of the set before is not read, and stands as long as lines are refused.
+#[test]
+fn next_set_after_an_empty_line() {
+    let d = example();
+    let finished = Reading {
+        design: d,
+        taken: 98,
+    };
+    let begun = Reading {
+        design: d,
+        taken: 0,
+    };
+    // As long as the set of 4 initial entries and 16 offsets needs, and too short for G's.
+    let (mut initial, mut offsets) = (vec![5; 4], vec![5; 16]);
+    let mut read = |state: Reading, line: &str| {
+        let (answer, next) = state.read_line(&mut initial, &mut offsets, line.as_bytes());
+        (answer.err().unwrap_or(0), next)
+    };
+    let second = "010006060202040101010101010101E3";
+    assert_eq!(read(finished, "010008080405010303DF"), (16, finished));
+    assert_eq!(read(finished, second), (16, finished));
+    assert_eq!(read(finished, ""), (0, begun));
+    assert_eq!(read(begun, ""), (0, begun));
+    assert_eq!(read(begun, "0400619B"), (16, begun));
+    assert_eq!(read(begun, "010508080405010303DA"), (1, begun));
+    assert_eq!(read(begun, "010008080405010303DF"), (10, begun));
+    let design = cut([0, 6, 6, 2, 2], &[(1, 1); 4]);
+    let taken = |taken| Reading { design, taken };
+    assert_eq!(read(begun, second), (0, taken(1)));
+    assert_eq!(read(taken(1), ""), (16, taken(1)));
+    // Its limit is 2^10, that of G 2^14.
+    assert_eq!(read(taken(1), "020000000400FA"), (23, taken(1)));
+    assert_eq!(read(taken(1), "0200000003FFFC"), (0, taken(2)));
+    assert_eq!((&initial[..2], offsets[0]), (&[1023, 5][..], 5));
+}
+
+/// The lines of a set.
+fn all_lines(d: &Design, initial: &[u32], offsets: &[i32]) -> Vec<Vec<u8>> {
+    let write = |number| {
+        let mut line = [0; 32];
+        let length = write_line(d, initial, offsets, number, &mut line).ok()?;
+        Some(line[..length].to_vec())
+    };
+    (0..).map_while(write).collect()
+}
+
+/// Reads some empty lines, each of which is passed over or begins anew.
+fn read_empty_lines(mut state: Reading, lines: usize) -> Reading {
+    for _ in 0..lines {
+        let (answer, next) = state.read_line(&mut [], &mut [], b"");
+        let taken = 0;
+        assert_eq!((answer, next), (Ok(()), Reading { taken, ..state }));
+        state = next;
+    }
+    state
+}
+
+/// Reads the lines of a filled set. What lies beyond it in the tables stands.
+fn read_filled(mut state: Reading, d: &Design, tables: &mut Tables) -> Reading {
+    let legal = Legal::new(d).unwrap();
+    let (initial, offsets) = filled(d);
+    let mut expected = tables.clone();
+    expected.initial[..legal.initial()].copy_from_slice(&initial[..legal.initial()]);
+    expected.offsets[..legal.offsets].copy_from_slice(&offsets[..legal.offsets]);
+    for line in all_lines(d, &initial, &offsets) {
+        assert!(!state.is_finished());
+        let (answer, next) = state.read_line(&mut tables.initial, &mut tables.offsets, &line);
+        assert_eq!((answer, next.taken), (Ok(()), state.taken + 1));
+        state = next;
+    }
+    assert!(state.is_finished());
+    assert_eq!((state.design, &*tables), (*d, &expected));
+    state
+}
+
+/// "Their lines with one empty line between sets read back to each set in turn", also with more
+/// empty lines, and with some around all of them.
+#[test]
+fn several_sets_read_back() {
+    let narrow = cut([2, 6, 6, 3, 3], &[(1, 1), (1, 2)]);
+    let sets = [three_tables(2), narrow, example(), three_tables(0)];
+    for (around, between) in [(0, 1), (1, 1), (0, 2), (3, 5)] {
+        let mut tables = Tables {
+            initial: vec![5; 33],
+            offsets: vec![5; 145],
+        };
+        let design = with_pair(3, 2);
+        let mut state = read_empty_lines(Reading { design, taken: 0 }, around);
+        for (number, d) in sets.iter().enumerate() {
+            let empty = if number == 0 { 0 } else { between };
+            state = read_filled(read_empty_lines(state, empty), d, &mut tables);
+        }
+        state = read_empty_lines(state, around);
+        assert_eq!(state.is_finished(), around == 0);
+    }
 }
 
 /// Trap: A_i cut from the low end of A. With a_i < alpha the two words of x differ, and only the
