@@ -432,6 +432,10 @@ impl Calls {
         } else if refusal == 0 {
             self.tally.note("report: ADMITTED");
         }
+        if line.is_empty() {
+            self.tally
+                .note(&format!("report: empty line refused {refusal}"));
+        }
         let outcomes = (&Outcome::of(reference), &Outcome::of(library));
         let shown = || format!("line {:?}\n", String::from_utf8_lossy(line));
         self.same("report", refusal, outcomes, shown);

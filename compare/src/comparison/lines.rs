@@ -19,7 +19,7 @@ pub fn body(line: &[u8]) -> Option<Vec<u8>> {
     Some(bytes)
 }
 
-fn lines_of(d: &Design) -> usize {
+pub fn lines_of(d: &Design) -> usize {
     let (initial, offsets) = lengths(d);
     initial + offsets + 2
 }
@@ -77,8 +77,8 @@ impl Comparison {
             .note(&format!("whole set stored: kind {}", d.kind));
     }
 
-    /// A line that is refused between two accepted ones. An accepted change of an entry is
-    /// written over by the line that is due.
+    /// A line that is refused between two accepted ones, or passed over. An accepted change of an
+    /// entry is written over by the line that is due.
     fn refused_between(&mut self, state: Reading, read: Tables, line: &[u8]) -> Tables {
         let damaged = self.damaged(line.to_vec());
         self.calls.read(state, read, &damaged).2
@@ -191,7 +191,7 @@ impl Comparison {
     }
 
     /// The number of lines taken: at the ends, past them, anywhere between.
-    fn taken(&mut self, d: &Design) -> usize {
+    pub fn taken(&mut self, d: &Design) -> usize {
         let lines = lines_of(d);
         match self.random.within(0..=11) {
             0 => 0,
@@ -214,7 +214,7 @@ impl Comparison {
     }
 
     /// A line for a state: mostly the one that is due, whole or damaged, else another one.
-    fn any_line(&mut self, d: &Design, tables: &Tables, taken: usize) -> Vec<u8> {
+    pub fn any_line(&mut self, d: &Design, tables: &Tables, taken: usize) -> Vec<u8> {
         let number = match self.random.within(0..=5) {
             0 => self.line_number(d),
             1 => taken.wrapping_add(1),
@@ -231,7 +231,7 @@ impl Comparison {
 
     /// The line with a number, with a random entry where the tables have none or one that no line
     /// carries.
-    fn written(&mut self, d: &Design, tables: &Tables, number: usize) -> Vec<u8> {
+    pub fn written(&mut self, d: &Design, tables: &Tables, number: usize) -> Vec<u8> {
         let (initial, offsets) = lengths(d);
         let mut whole = tables.clone();
         whole.initial.resize(initial, 1);
@@ -293,7 +293,7 @@ impl Comparison {
     }
 
     /// An 01 line: of a design of any sort, of another byte count, damaged.
-    fn first_line(&mut self, d: &Design) -> Vec<u8> {
+    pub fn first_line(&mut self, d: &Design) -> Vec<u8> {
         let pairs = match self.random.within(0..=7) {
             0 => self.random.place(6),
             _ => (d.m as usize).min(5),

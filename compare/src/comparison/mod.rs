@@ -2,6 +2,7 @@
 
 mod calls;
 mod counts;
+mod empty_lines;
 mod limits;
 mod lines;
 mod records;
@@ -24,7 +25,7 @@ pub struct Comparison {
 type Part = fn(&mut Comparison);
 
 /// The parts of the comparison, each with a seed of its own.
-const PARTS: [(&str, Part); 29] = [
+const PARTS: [(&str, Part); 31] = [
     ("values", Comparison::values),
     ("designs", Comparison::designs),
     ("fills", Comparison::fills),
@@ -63,6 +64,11 @@ const PARTS: [(&str, Part); 29] = [
     ("searches refused", Comparison::searches_refused),
     ("sizes of all narrow designs", Comparison::sizes_of_narrow),
     ("sizes of all widths", Comparison::sizes_of_all_widths),
+    ("files of several sets", Comparison::files_of_sets),
+    (
+        "empty lines in every state",
+        Comparison::empty_lines_in_every_state,
+    ),
 ];
 
 /// Ends the program at the first difference. Returns whether all that should come up did.

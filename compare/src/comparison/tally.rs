@@ -14,7 +14,7 @@ const fn call(name: &'static str, refusals: &'static [u8]) -> Call {
 
 /// The document's "Checks in order"; the count "refuses as the check does", and the calls of
 /// records as request A2 says, but for 20: no legal set is that large. 23 is request A4's, 24 A5's,
-/// and 11 of the size A6's.
+/// and 11 of the size A6's. Which of the reader's an empty line meets is noted apart.
 pub const CALLS: [Call; 16] = [
     call("value", &[0, 1, 2, 3, 4, 12]),
     call("legal", &[0, 1, 2, 3, 4, 5, 6, 7, 8, 9]),
@@ -53,7 +53,7 @@ pub const CALLS: [Call; 16] = [
 const PLAIN: [Call; 2] = [call("is_finished", &[0]), call("records_finished", &[0])];
 
 /// Things that must come up, and how often at the least.
-const WANTED: [(&str, u64); 174] = [
+const WANTED: [(&str, u64); 201] = [
     ("value: whole at x = 0, kind 0", 150),
     ("value: whole at x = 0, kind 1", 150),
     ("value: whole at x = 0, kind 3", 150),
@@ -231,6 +231,45 @@ const WANTED: [(&str, u64); 174] = [
     ("size, 4 different widths", 2000),
     ("size, greatest offset just not too wide", 10000),
     ("size, greatest offset just too wide for a bit less", 4500),
+    ("file read, sets: 1", 150),
+    ("file read, sets: 2", 150),
+    ("file read, sets: 3", 150),
+    ("file read, sets: 4", 150),
+    ("set of a file restored: kind 0", 300),
+    ("set of a file restored: kind 1", 300),
+    ("set of a file restored: kind 2", 300),
+    ("set of a file restored: kind 3", 300),
+    ("set of a file restored: kind 4", 300),
+    ("no empty line between sets: 16", 1000),
+    ("empty line, no line taken, enough room: 0", 1000),
+    ("empty line, no line taken, too little room: 0", 1000),
+    (
+        "empty line, no line taken, design illegal, too little room: 0",
+        500,
+    ),
+    ("empty line, after a finished set, enough room: 0", 1000),
+    ("empty line, after a finished set, too little room: 0", 400),
+    ("empty line, inside a set, enough room: 16", 1000),
+    ("empty line, inside a set, too little room: 16", 1000),
+    ("empty line, past the set, enough room: 17", 500),
+    ("empty line, past the set, too little room: 17", 1000),
+    (
+        "empty line, lines taken, design illegal, too little room: 17",
+        1000,
+    ),
+    ("line that looks empty, no line taken: 15", 500),
+    (
+        "line that looks empty, no line taken, design illegal: 15",
+        200,
+    ),
+    ("line that looks empty, inside a set: 15", 1000),
+    ("line that looks empty, after a finished set: 15", 500),
+    ("line that looks empty, past the set: 17", 1000),
+    (
+        "line that looks empty, lines taken, design illegal: 17",
+        1000,
+    ),
+    ("report: empty line refused 15", 20),
 ];
 
 #[derive(Default)]
