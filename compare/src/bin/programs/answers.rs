@@ -3,12 +3,14 @@
 use std::collections::BTreeMap;
 
 /// A program with answers it must give: those of its own, and its refusals, for most of them those
-/// of a design's line, with how they are printed.
+/// of a design's line, with how they are printed. One that goes through several sets must give them
+/// behind a set, too; what it prints for each ends with certain characters.
 struct Wanted {
     name: &'static str,
     answers: &'static [&'static str],
     refused: &'static str,
     refusals: &'static [u8],
+    ends: Option<&'static str>,
 }
 
 /// Refusal 10 is none of them: the programs' tables are long enough for every set.
@@ -18,18 +20,21 @@ const WANTED: [Wanted; 8] = [
         answers: &["ADMITTED", "BITS 0 NOT ADMITTED"],
         refused: "REFUSED",
         refusals: &REFUSALS,
+        ends: None,
     },
     Wanted {
         name: "make_set",
         answers: &["digits", "REFUSED 11"],
         refused: "REFUSED",
         refusals: &REFUSALS,
+        ends: None,
     },
     Wanted {
         name: "check_set",
         answers: &["FAITHFUL", "UNFAITHFUL", "UNFINISHED", "LINE REFUSED 23"],
         refused: "LINE REFUSED",
         refusals: &REFUSALS,
+        ends: Some("\n"),
     },
     Wanted {
         name: "count_set",
@@ -44,6 +49,7 @@ const WANTED: [Wanted; 8] = [
         ],
         refused: "LINE REFUSED",
         refusals: &REFUSALS,
+        ends: Some("\n"),
     },
     Wanted {
         name: "evaluate_set",
@@ -57,12 +63,14 @@ const WANTED: [Wanted; 8] = [
         ],
         refused: "LINE REFUSED",
         refusals: &REFUSALS,
+        ends: None,
     },
     Wanted {
         name: "set_to_hex",
         answers: &["record", "UNFINISHED", "LINE REFUSED 23"],
         refused: "LINE REFUSED",
         refusals: &REFUSALS,
+        ends: Some("\n\n"),
     },
     Wanted {
         name: "hex_to_set",
@@ -75,24 +83,44 @@ const WANTED: [Wanted; 8] = [
         ],
         refused: "LINE REFUSED",
         refusals: &REFUSALS,
+        ends: None,
     },
     Wanted {
         name: "smallest_design",
         answers: &["digits", "ADMITTED", "NOT THREE NUMBERS"],
         refused: "REFUSED",
         refusals: &[1, 2, 3, 24],
+        ends: None,
     },
 ];
 
 /// The refusals of a design's line.
 const REFUSALS: [u8; 11] = [15, 16, 1, 2, 3, 4, 5, 6, 7, 8, 9];
 
+/// What is added to an answer behind a set.
+const BEHIND: &str = " behind a set";
+
 impl Wanted {
-    fn all(&self) -> impl Iterator<Item = String> + '_ {
+    fn of(name: &str) -> Option<&'static Wanted> {
+        WANTED.iter().find(|wanted| wanted.name == name)
+    }
+
+    fn all(&self) -> Vec<String> {
         let refusals = self.refusals.iter();
         let refused = refusals.map(|n| format!("{} {n}", self.refused));
         let answers = self.answers.iter().map(|answer| answer.to_string());
-        answers.chain(refused)
+        let all: Vec<String> = answers.chain(refused).collect();
+        let behind = all.iter().filter(|_| self.ends.is_some());
+        let behind: Vec<String> = behind.map(|answer| answer.clone() + BEHIND).collect();
+        [all, behind].concat()
+    }
+
+    /// What the program printed for each set and at last.
+    fn parts<'a>(&self, text: &'a str) -> Vec<&'a str> {
+        match self.ends {
+            Some(ends) => text.split(ends).filter(|part| !part.is_empty()).collect(),
+            None => vec![text],
+        }
     }
 }
 
@@ -127,8 +155,12 @@ pub struct Answers {
 impl Answers {
     /// Counts the answers in each printed line.
     pub fn note(&mut self, name: &'static str, text: &str) {
-        for answer in text.lines().flat_map(answers_in) {
-            *self.counts.entry((name, answer)).or_default() += 1;
+        let parts = Wanted::of(name).map_or(vec![text], |wanted| wanted.parts(text));
+        for (part, text) in parts.into_iter().enumerate() {
+            let behind = if part == 0 { "" } else { BEHIND };
+            for answer in text.lines().flat_map(answers_in) {
+                *self.counts.entry((name, answer + behind)).or_default() += 1;
+            }
         }
     }
 
@@ -142,6 +174,7 @@ impl Answers {
         for wanted in &WANTED {
             let each = wanted
                 .all()
+                .into_iter()
                 .map(|answer| format!("{answer}: {}", self.count(wanted.name, &answer)));
             println!("{:15} {}", wanted.name, each.collect::<Vec<_>>().join("  "));
         }
@@ -152,6 +185,7 @@ impl Answers {
         let of_program = |wanted: &'static Wanted| {
             let unmet = wanted
                 .all()
+                .into_iter()
                 .filter(|answer| self.count(wanted.name, answer) == 0);
             unmet
                 .map(|answer| format!("{}: {answer}", wanted.name))

@@ -69,52 +69,73 @@ pub fn report(input: &[u8]) -> String {
 }
 
 pub fn make_set(input: &[u8]) -> String {
-    let Tables {
-        mut initial,
-        mut offsets,
-    } = largest_tables();
-    let (taken, state) = begin().read_line(&mut initial, &mut offsets, first_line(input));
-    let filled = taken.and_then(|()| reference::fill(&state.design, &mut initial, &mut offsets));
-    match filled {
-        Ok(()) => lines_of(&state.design, &Tables { initial, offsets }).concat(),
+    match filled_set(first_line(input)) {
+        Ok((d, tables)) => lines_of(&d, &tables).concat(),
         Err(refusal) => format!("REFUSED {refusal}\n"),
     }
 }
 
-/// What is printed where the input ends too early, and for a line that is refused, by the number
-/// of lines taken.
-fn unfinished(taken: usize) -> String {
-    format!("UNFINISHED {taken}\n")
+/// The filled tables of a design's line.
+fn filled_set(line: &[u8]) -> Result<(Design, Tables), u8> {
+    let (d, mut tables) = (reference::read_design(line)?, largest_tables());
+    reference::fill(&d, &mut tables.initial, &mut tables.offsets)?;
+    Ok((d, tables))
 }
 
-fn refused(taken: usize, refusal: u8) -> String {
-    format!("LINE {taken} REFUSED {refusal}\n")
+/// What is printed where the input ends too early, by the number of all its lines, and for a line
+/// that is refused, by its own. Empty lines count, too.
+fn unfinished(lines: usize) -> String {
+    format!("UNFINISHED {lines}\n")
 }
 
-/// A set that is read to its end with the lines behind it, or what is printed instead.
-fn read_set(input: &[u8]) -> Result<(Design, Tables, Vec<&[u8]>), String> {
-    let Tables {
-        mut initial,
-        mut offsets,
-    } = largest_tables();
-    let mut state = begin();
-    let mut lines = input_lines(input).into_iter();
-    while !state.is_finished() {
-        let line = lines.next().ok_or_else(|| unfinished(state.taken))?;
-        let (answer, next) = state.read_line(&mut initial, &mut offsets, line);
-        answer.map_err(|refusal| refused(state.taken, refusal))?;
+fn refused(number: usize, refusal: u8) -> String {
+    format!("LINE {number} REFUSED {refusal}\n")
+}
+
+/// What is printed for a file of sets: something for each set, and at last why not all of the input
+/// was taken, if so. The tables keep what the sets before have left.
+fn parts_of_file(input: &[u8], part: fn(&Design, &Tables) -> String) -> Vec<String> {
+    let (mut state, mut tables, mut parts) = (begin(), largest_tables(), vec![]);
+    let lines = input_lines(input);
+    for (number, line) in lines.iter().enumerate() {
+        let (answer, next) = state.read_line(&mut tables.initial, &mut tables.offsets, line);
+        if let Err(refusal) = answer {
+            parts.push(refused(number, refusal));
+            return parts;
+        }
         state = next;
+        if state.is_finished() {
+            parts.push(part(&state.design, &tables));
+        }
     }
-    let tables = Tables { initial, offsets };
-    Ok((state.design, tables, lines.collect()))
+    let between_sets = state.taken == 0 && !parts.is_empty();
+    if !state.is_finished() && !between_sets {
+        parts.push(unfinished(lines.len()));
+    }
+    parts
+}
+
+/// The first set of an input with the lines behind it, or what is printed instead.
+fn first_set(input: &[u8]) -> Result<(Design, Tables, Vec<&[u8]>), String> {
+    let (mut state, mut tables) = (begin(), largest_tables());
+    let lines = input_lines(input);
+    for (number, line) in lines.iter().enumerate() {
+        let (answer, next) = state.read_line(&mut tables.initial, &mut tables.offsets, line);
+        answer.map_err(|refusal| refused(number, refusal))?;
+        state = next;
+        if state.is_finished() {
+            return Ok((state.design, tables, lines[number + 1..].to_vec()));
+        }
+    }
+    Err(unfinished(lines.len()))
 }
 
 pub fn check_set(input: &[u8]) -> String {
-    let (d, tables, _) = match read_set(input) {
-        Ok(set) => set,
-        Err(text) => return text,
-    };
-    match reference::check(&d, &tables.initial, &tables.offsets) {
+    parts_of_file(input, verdict).concat()
+}
+
+fn verdict(d: &Design, tables: &Tables) -> String {
+    match reference::check(d, &tables.initial, &tables.offsets) {
         Ok(Checked::Faithful) => "FAITHFUL\n".into(),
         Ok(Checked::Unfaithful(x)) => format!("UNFAITHFUL {x}\n"),
         Err(refusal) => format!("REFUSED {refusal}\n"),
@@ -122,11 +143,11 @@ pub fn check_set(input: &[u8]) -> String {
 }
 
 pub fn count_set(input: &[u8]) -> String {
-    let (d, tables, _) = match read_set(input) {
-        Ok(set) => set,
-        Err(text) => return text,
-    };
-    match reference::count(&d, &tables.initial, &tables.offsets) {
+    parts_of_file(input, counts).concat()
+}
+
+fn counts(d: &Design, tables: &Tables) -> String {
+    match reference::count(d, &tables.initial, &tables.offsets) {
         Ok(counts) => {
             let [outside, nearest, faithful, low, high] = counts.all();
             let passing = format!("NEAREST {nearest} FAITHFUL {faithful}");
@@ -144,7 +165,7 @@ fn decimal(line: &[u8]) -> Option<u32> {
 }
 
 pub fn evaluate_set(input: &[u8]) -> String {
-    let (d, tables, words) = match read_set(input) {
+    let (d, tables, words) = match first_set(input) {
         Ok(set) => set,
         Err(text) => return text,
     };
@@ -158,11 +179,9 @@ pub fn evaluate_set(input: &[u8]) -> String {
     words.iter().map(answer).collect()
 }
 
+/// The files of all sets with an empty line between them, and before a message behind one.
 pub fn set_to_hex(input: &[u8]) -> String {
-    match read_set(input) {
-        Ok((d, tables, _)) => records_of(&d, &tables).concat(),
-        Err(text) => text,
-    }
+    parts_of_file(input, |d, tables| records_of(d, tables).concat()).join("\n")
 }
 
 /// The lines of an input from a device programmer: a carriage return before the newline is no part
@@ -184,9 +203,7 @@ fn read_hex(input: &[u8]) -> Result<(Design, Tables), String> {
     } = largest_tables();
     let mut lines = programmer_lines(input);
     let line = lines.next().ok_or_else(|| unfinished(0))?;
-    let (answer, begun) = begin().read_line(&mut initial, &mut offsets, line);
-    answer.map_err(|refusal| refused(0, refusal))?;
-    let d = begun.design;
+    let d = reference::read_design(line).map_err(|refusal| refused(0, refusal))?;
     let mut state = HexReading::default();
     while !state.is_finished(&d) {
         let taken = 1 + state.taken;

@@ -26,7 +26,7 @@ pub fn with_ends(lines: &[String], end: &str) -> String {
 }
 
 /// A sound record of so many zeros. Its text has 11 characters and two a byte.
-fn zeros(bytes: usize) -> String {
+pub fn zeros(bytes: usize) -> String {
     String::from_utf8(record(0, 0, &vec![0; bytes])).expect("digits")
 }
 

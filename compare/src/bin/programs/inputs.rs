@@ -3,8 +3,7 @@
 use std::ops::RangeInclusive;
 
 use super::expected::lines_of;
-use super::hex_inputs::{file_of, with_ends};
-use super::Runs;
+use super::{Runs, LINE_PROGRAMS};
 use compare::frames::{design_line, initial_line, sealed};
 use compare::random::{is_admitted, largest, lengths, sum_limit, Given, Tables, LARGEST};
 use compare::wide::reference::Design;
@@ -24,7 +23,7 @@ const LINES: [&str; 9] = [
 ];
 
 /// The design with the fewest entries there are.
-const SMALLEST: Design = Design {
+pub const SMALLEST: Design = Design {
     kind: 0,
     w: 6,
     q: 6,
@@ -34,8 +33,19 @@ const SMALLEST: Design = Design {
     pairs: [(1, 1); 4],
 };
 
+/// An admitted design with as few.
+pub const SHORT: Design = Design {
+    kind: 2,
+    w: 6,
+    q: 6,
+    g: 3,
+    alpha: 3,
+    m: 2,
+    pairs: [(1, 1), (1, 2), (0, 0), (0, 0)],
+};
+
 /// A design with few entries and the most words.
-const FEW_ENTRIES: Design = Design {
+pub const FEW_ENTRIES: Design = Design {
     kind: 1,
     w: 16,
     q: 14,
@@ -77,12 +87,12 @@ const ODD_WORDS: [&str; 16] = [
 ];
 
 /// Words of many digits, one of them small.
-fn long_words(digits: usize) -> [String; 2] {
+pub fn long_words(digits: usize) -> [String; 2] {
     ["0".repeat(digits) + "7\n", "7".repeat(digits) + "\n"]
 }
 
 /// A range of words, one a line.
-fn words(range: RangeInclusive<u32>) -> impl Iterator<Item = String> {
+pub fn words(range: RangeInclusive<u32>) -> impl Iterator<Item = String> {
     range.map(|x| format!("{x}\n"))
 }
 
@@ -118,6 +128,9 @@ impl Runs {
             self.largest_set(&largest(kind, (14, 6), cut));
         }
         self.width_inputs();
+        self.several_inputs();
+        self.block_inputs();
+        self.stepwise();
     }
 
     /// Sets of a kind: filled ones, one that nobody filled, and one with four tables.
@@ -178,19 +191,12 @@ impl Runs {
         self.set_and_words(d, &tables);
     }
 
-    /// Nothing is read behind the line or the set that is asked for, nor is anything waited for.
+    /// Nothing is read behind the one line that is asked for, nor is anything waited for.
     fn nothing_behind(&mut self, d: &Design) {
-        let tables = self.random.filled(d);
-        let lines = lines_of(d, &tables);
-        for name in ["report", "make_set"] {
-            self.reads_only(name, &lines[0], &lines[1]);
-        }
-        for name in ["check_set", "count_set", "set_to_hex"] {
-            self.reads_only(name, &lines.concat(), "7\n");
-        }
-        let file = file_of(d, &tables);
-        for end in ["\n", "\r\n"] {
-            self.reads_only("hex_to_set", &with_ends(&file, end), "7\n");
+        let line = design_line(d, d.m as usize);
+        let line = String::from_utf8(line).expect("digits") + "\n";
+        for (name, _) in LINE_PROGRAMS {
+            self.reads_only(name, &line, &line);
         }
     }
 

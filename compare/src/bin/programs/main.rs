@@ -2,15 +2,20 @@
 //! reference says they should. Its argument is the directory of the programs.
 
 mod answers;
+mod block_inputs;
 mod expected;
+#[cfg(test)]
+mod expected_tests;
 mod hex_inputs;
 mod inputs;
+mod several_inputs;
+mod stepwise;
 mod width_inputs;
 
 use std::fs::File;
 use std::io::{Seek, Write};
 use std::path::{Path, PathBuf};
-use std::process::{Command, ExitCode, Output, Stdio};
+use std::process::{Child, ChildStdin, Command, ExitCode, Output, Stdio};
 
 use answers::Answers;
 use compare::random::Random;
@@ -18,18 +23,19 @@ use compare::random::Random;
 /// A program by its name, and what it should print for an input.
 type Program = (&'static str, fn(&[u8]) -> String);
 
-/// The programs that read a line, those that read a set, the one that reads records, and the one
-/// that reads a kind and two widths.
+/// A way to run a program on an input.
+type Run = fn(&Path, &[u8]) -> Output;
+
+/// The programs that read a line, those that go through a file of sets, the one that reads a set and
+/// words, the one that reads records, and the one that reads a kind and two widths.
 const LINE_PROGRAMS: [Program; 2] = [
     ("report", expected::report),
     ("make_set", expected::make_set),
 ];
-const SET_PROGRAMS: [Program; 4] = [
-    ("check_set", expected::check_set),
-    ("count_set", expected::count_set),
-    ("evaluate_set", expected::evaluate_set),
-    ("set_to_hex", expected::set_to_hex),
-];
+const CHECK_SET: Program = ("check_set", expected::check_set);
+const SET_TO_HEX: Program = ("set_to_hex", expected::set_to_hex);
+const FILE_PROGRAMS: [Program; 3] = [CHECK_SET, ("count_set", expected::count_set), SET_TO_HEX];
+const WORDS_PROGRAM: Program = ("evaluate_set", expected::evaluate_set);
 const HEX_PROGRAM: Program = ("hex_to_set", expected::hex_to_set);
 const WIDTHS_PROGRAM: Program = ("smallest_design", expected::smallest_design);
 
@@ -52,8 +58,8 @@ impl Runs {
 
     /// The programs that are not there.
     fn missing(&self) -> Vec<&'static str> {
-        let programs = LINE_PROGRAMS.iter().chain(&SET_PROGRAMS);
-        let programs = programs.chain([&HEX_PROGRAM, &WIDTHS_PROGRAM]);
+        let programs = LINE_PROGRAMS.iter().chain(&FILE_PROGRAMS);
+        let programs = programs.chain([&WORDS_PROGRAM, &HEX_PROGRAM, &WIDTHS_PROGRAM]);
         programs
             .map(|program| program.0)
             .filter(|name| !self.directory.join(name).is_file())
@@ -75,11 +81,22 @@ impl Runs {
         }
     }
 
-    /// The programs that read a set.
+    /// The programs that read sets, or one and words.
     fn set(&mut self, input: &[u8]) {
-        for program in SET_PROGRAMS {
+        self.every_set(input);
+        self.words(input);
+    }
+
+    /// The programs that go through a file of sets.
+    fn every_set(&mut self, input: &[u8]) {
+        for program in FILE_PROGRAMS {
             self.compare(program, input);
         }
+    }
+
+    /// The program that reads a set and words.
+    fn words(&mut self, input: &[u8]) {
+        self.compare(WORDS_PROGRAM, input);
     }
 
     /// The program that reads records.
@@ -94,7 +111,11 @@ impl Runs {
 
     /// Returns what the program prints, and ends everything at a difference. A program ends with
     /// status 0 whatever it prints.
-    fn compare(&mut self, (name, expected): Program, input: &[u8]) -> String {
+    fn compare(&mut self, program: Program, input: &[u8]) -> String {
+        self.compare_run(run, program, input)
+    }
+
+    fn compare_run(&mut self, run: Run, (name, expected): Program, input: &[u8]) -> String {
         let output = run(&self.directory.join(name), input);
         let expected = expected(input);
         if output.stdout != expected.as_bytes() || !output.status.success() {
@@ -123,13 +144,19 @@ impl Runs {
     }
 }
 
-fn run(program: &Path, input: &[u8]) -> Output {
+/// Starts a program with pipes for its input, which is returned beside it, and its output.
+fn start(program: &Path) -> (Child, ChildStdin) {
     let mut child = Command::new(program)
         .stdin(Stdio::piped())
         .stdout(Stdio::piped())
         .spawn()
         .unwrap_or_else(|error| panic!("{} does not start: {error}", program.display()));
-    let mut stdin = child.stdin.take().expect("a pipe");
+    let stdin = child.stdin.take().expect("a pipe");
+    (child, stdin)
+}
+
+fn run(program: &Path, input: &[u8]) -> Output {
+    let (child, mut stdin) = start(program);
     let input = input.to_vec();
     // A program may end before it has read all, and then the rest cannot be written.
     let writer = std::thread::spawn(move || {
@@ -140,13 +167,30 @@ fn run(program: &Path, input: &[u8]) -> Output {
     output
 }
 
-/// How much of an input a program reads. The program shares its place in the file.
-fn bytes_read(program: &Path, input: &[u8]) -> std::io::Result<u64> {
+/// A file with an input, which has no name any more.
+fn file_with(input: &[u8]) -> std::io::Result<File> {
     let path = std::env::temp_dir().join(format!("programs-{}", std::process::id()));
     std::fs::write(&path, input)?;
     let file = File::open(&path);
     std::fs::remove_file(&path)?;
-    let mut file = file?;
+    file
+}
+
+/// Runs a program on a file, of which it always gets as many bytes as it asks for while there are
+/// some. A pipe may give fewer.
+fn run_on_file(program: &Path, input: &[u8]) -> Output {
+    let output = file_with(input).and_then(|file| {
+        Command::new(program)
+            .stdin(file)
+            .stderr(Stdio::inherit())
+            .output()
+    });
+    output.unwrap_or_else(|error| panic!("{} on a file: {error}", program.display()))
+}
+
+/// How much of an input a program reads. The program shares its place in the file.
+fn bytes_read(program: &Path, input: &[u8]) -> std::io::Result<u64> {
+    let mut file = file_with(input)?;
     Command::new(program)
         .stdin(file.try_clone()?)
         .stdout(Stdio::null())
