@@ -124,16 +124,13 @@ fn refused(state: Reading, cause: Cause) -> Read
 fn empty_line(state: Reading) -> Read
     ensures { λ r. ⌜ r ≡ emptyAnswer state ⌝ }
 {
-    let d = state.design;
+    let design = state.design;
     if !state.is_between() {
         return refused(state, Cause::Frame);
     }
     Read {
         verdict: Verdict::Passed,
-        state: Reading {
-            design: d,
-            taken: 0,
-        },
+        state: Reading { design, taken: 0 },
     }
 }
 
@@ -226,7 +223,8 @@ impl Reading {
     pub fn is_between(self) -> bool
         ensures { λ r. ⌜ r ≡ between self ⌝ }
     {
-        if self.taken == 0 {
+        let taken = self.taken;
+        if taken == 0 {
             return true;
         }
         self.is_finished()
