@@ -15,6 +15,7 @@ pub mod ReadingBack
 pub mod InOrder
 -- Empty lines and several sets:
 pub mod EmptyLines
+pub mod OnlyThese
 pub mod Several
 -- What the fill writes:
 pub mod FilledFits

@@ -16,6 +16,7 @@ use Rattle.storage.specs.Several.{separated, Spaced, setsOf, fileLines, 
 use Rattle.storage.proofs.Feeds.{feed-append, accepted-append, finishes-append}
 use Rattle.storage.proofs.EmptyLines.{empty-before, empty-behind, empty-refused, restarted, Kept, fed-kept}
 use Rattle.storage.proofs.ReadingBack.{read-back, finished-once}
+use Rattle.storage.proofs.OnlyThese.{only-these}
 
 -- Lines that are all accepted, lead from one reading to another and finish these sets on the way
 record Goes (s : Session) (lines : List (List ℕ)) (end : Session) (sets : List Session) : Type 0 where
@@ -181,4 +182,5 @@ several =
       in-turn = in-turn;
       last = λ t rest s r none. rw (goes-separated rest t s r none .comes-to) (ends-finished rest t s r none);
       more-empty = λ file behind s r apart none. spaced behind s none file r apart;
+      only-these = only-these;
     }

@@ -108,7 +108,7 @@ unfolding after
 empty-restarts s line empty e = rw (e, empty)
 
 -- No line is taken yet.
-none-taken : (s : Session) → Begins s → SoFar s []
+pub none-taken : (s : Session) → Begins s → SoFar s []
 unfolding listBelow
 none-taken s none = record { lines = rw none; tables = λ h. absurd (omega arith); entries = λ n h. absurd (omega arith) }
 
@@ -135,7 +135,7 @@ module _ (s : Session) (came : List (List ℕ)) (so-far : SoFar s came) (line : 
       let some = accepted-line s line not-empty e in
       rw (e, some .accepted .moved, ne-eqb (s .state .taken + 1) 0 (λ z. omega arith)) (one-more s came so-far line some)
 
-  still-so : StillSo
+  pub still-so : StillSo
   still-so = go (verdictOn s line) (isEmpty line) refl refl
     where
       go : (v : Verdict) (empty : Bool) → verdictOn s line ≡ v → isEmpty line ≡ empty → StillSo
@@ -179,7 +179,7 @@ module _ (s : Session) (came : List (List ℕ)) (so-far : SoFar s came) (at-end 
   finished : s .state .taken ≡ lineCount (s .state .design)
   finished = all-taken (s .state) at-end
 
-  came-from : CameFrom (setIn s) came
+  pub came-from : CameFrom (setIn s) came
   unfolding setLines lineCount
   came-from =
       record {

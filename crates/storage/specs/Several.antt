@@ -1,6 +1,6 @@
 -- Document 02, A8, "An empty line between sets": what an empty line does, and what a file of several sets reads back to.
 use mathlib.Core.Path.{_≡_}
-use mathlib.Core.Bool.{true, false}
+use mathlib.Core.Bool.{true, false, cond}
 use mathlib.Core.List.{List, [], _∷_, _++_, map}
 use Prim.Native.Nat.{ℕ, _≤_, _<_}
 use lib.ListN.{length, replicate}
@@ -8,9 +8,10 @@ use Rattle.general.specs.Lists.{All}
 use Rattle.refusal.specs.declared.Cause.{Cause}
 use Rattle.refusal.specs.declared.Verdict.{Verdict}
 use Rattle.design.specs.Stored.{initialCount, offsetTotal}
+use Rattle.frames.specs.Line.{isEmpty}
 use Rattle.reading.specs.ReadLine.{possible, finished, noneTaken, Session, session, verdictOn, after}
 use Rattle.storage.specs.Sets.{TableSet, SameSet, Storable, linesIn}
-use Rattle.storage.specs.Feeding.{Begins, Finished, feed, accepted, finishes}
+use Rattle.storage.specs.Feeding.{Begins, Finished, feed, accepted, taken, finishes}
 use Rattle.storage.specs.Storage.{setIn}
 
 -- The lines of sets "with one empty line between sets"
@@ -54,6 +55,20 @@ InTurn [] (t ∷ rest) = ⊥
 InTurn (s ∷ more) [] = ⊥
 InTurn (s ∷ more) (t ∷ rest) = SameSet (setIn s) t × InTurn more rest
 
+-- Lines without the empty ones
+unfoldable pub withoutEmpty : List (List ℕ) → List (List ℕ)
+withoutEmpty [] = []
+withoutEmpty (line ∷ lines) = cond (isEmpty line) (withoutEmpty lines) (line ∷ withoutEmpty lines)
+
+-- The writer's lines of the sets that readings are finished with, one set after another
+unfoldable pub linesOf : List Session → List (List ℕ)
+linesOf [] = []
+linesOf (s ∷ more) = linesIn (setIn s) ++ linesOf more
+
+-- The lines of a set that is not finished yet, of a reading that begins with no line taken
+abbrev pub unfinishedLines : Session → List (List ℕ) → List (List ℕ)
+unfinishedLines s lines = cond (finished (feed s lines .state)) [] (taken s lines)
+
 -- A8, whole
 pub record Several : Type 0 where
   -- "An empty line before a set's first line is passed over, the state unchanged."
@@ -76,3 +91,7 @@ pub record Several : Type 0 where
       → (accepted s (fileLines file after-last) ≡ fileLines file after-last)
       × (finishes s (fileLines file after-last) ≡ finishes s (separated (setsOf file)))
       × (feed s (fileLines file after-last) ≡ feed (feed s (separated (setsOf file))) (replicate after-last []))
+  -- The other way round, whatever lines are fed: "a finished reading is compared with the writer's lines without the empty ones". All that
+  -- was accepted is, in order, the writer's lines of each set that was finished, and what is there of one that is not.
+  pub only-these : (s : Session) (lines : List (List ℕ)) → Begins s
+      → withoutEmpty (accepted s lines) ≡ linesOf (finishes s lines) ++ unfinishedLines s lines
