@@ -14,20 +14,20 @@ use Rattle.reading.proofs.ReadSteps.{frame-held, sound-held, impossible
 use Rattle.reading.proofs.Reading.read_line.Statement.{statement}
 use Rattle.reading.proofs.Reading.read_line.Tie as tie
 
--- where the state is possible, and the line not empty
-state-possible : (c : tie.Else1) → possible (c .before .before .before .before .args .self) ≡ true
-state-possible c = tested (c .before .is-possible .ensures) (not-false _ (c .if1 .left))
-
--- where the line is sound
-held-passed : (c : tie.After-enum-told) → c .before .before .before .decode .result .verdict ≡ Verdict.Passed
-held-passed c = c .enum-told .given .1
-
 returns : tie.Need-returns
 returns c =
     let a = c .before .before in
     let s = a .before .before .before in
     impossible _ (s .args .initial .now) (s .args .offsets .now) _ _ (c .refused .ensures)
     (tested (a .is-possible .ensures) (not-true _ (c .before .if1 .taken)))
+
+-- where the state is possible
+state-possible : (c : tie.Else1) → possible (c .before .before .before .before .args .self) ≡ true
+state-possible c = tested (c .before .is-possible .ensures) (not-false _ (c .if1 .left))
+
+-- where the line is sound
+held-passed : (c : tie.After-enum-told) → c .before .before .before .decode .result .verdict ≡ Verdict.Passed
+held-passed c = c .enum-told .given .1
 
 returns-2 : tie.Need-returns-2
 returns-2 c =
