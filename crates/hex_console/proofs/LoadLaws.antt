@@ -19,7 +19,6 @@ use Rattle.records.proofs.AddressLaws.{bytes-few}
 use Rattle.records.proofs.CountLaws.{before-none, before-next}
 use Rattle.record_writing.specs.WriteRecord.{hexWriteVerdict}
 use Rattle.record_writing.proofs.GivenLaws.{given}
-use Rattle.record_reading.specs.declared.HexReading.{HexReading}
 use Rattle.record_reading.specs.Storing.{initialHome, offsetHome, cutBytes}
 use Rattle.record_reading.specs.ReadRecord.{
   heldCount,

@@ -1,9 +1,8 @@
 -- What an empty line does, by where it comes, and that no line changes the lengths of the tables.
-use mathlib.Core.Path.{_≡_, refl, ap, _∙_}
+use mathlib.Core.Path.{_≡_, refl, _∙_}
 use mathlib.Core.Bool.{Bool, true, false}
 use mathlib.Core.List.{List, [], _∷_}
 use Prim.Native.Nat.{ℕ, _<_}
-use native.Mathlib.Omega.{arith}
 use lib.ListN.{length}
 use Rattle.general.proofs.Tests.{both}
 use Rattle.refusal.specs.declared.Cause.{Cause}

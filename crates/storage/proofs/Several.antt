@@ -1,6 +1,6 @@
 -- Document 02, A8: a file of several sets reads back to each set in turn.
-use mathlib.Core.Path.{_≡_, refl, sym, ap, ap₂, _∙_}
-use mathlib.Core.List.{List, [], _∷_, _++_, append-nil}
+use mathlib.Core.Path.{_≡_, refl, sym, ap, _∙_}
+use mathlib.Core.List.{List, [], _∷_, _++_}
 use Prim.Native.Nat.{ℕ, zero, suc, _≤_}
 use native.Mathlib.Nat.{le-refl}
 use native.Mathlib.Omega.{arith}
@@ -14,7 +14,7 @@ use Rattle.storage.specs.Sets.{TableSet, Storable, linesIn}
 use Rattle.storage.specs.Feeding.{Begins, Finished, feed, accepted, finishedBy, finishes}
 use Rattle.storage.specs.Several.{separated, Spaced, setsOf, fileLines, Apart, LongFor, Readable, InTurn, Several}
 use Rattle.storage.proofs.Feeds.{feed-append, accepted-append, finishes-append}
-use Rattle.storage.proofs.EmptyLines.{empty-before, empty-behind, empty-refused, restarted, Kept, fed-kept}
+use Rattle.storage.proofs.EmptyLines.{empty-before, empty-behind, empty-refused, restarted, fed-kept}
 use Rattle.storage.proofs.ReadingBack.{read-back, finished-once}
 use Rattle.storage.proofs.OnlyThese.{only-these}
 

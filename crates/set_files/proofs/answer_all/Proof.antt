@@ -1,5 +1,5 @@
 -- `set_files::answer_all` is safe and ends: each turn of its loop takes a line or more.
-use mathlib.Core.Path.{_≡_, refl}
+use mathlib.Core.Path.{_≡_}
 use lib.ListN.{length}
 use borrow.Author.Needs.{needs}
 use Rattle.set_console.proofs.FeedLaws.{linesLeft, fewer-left}

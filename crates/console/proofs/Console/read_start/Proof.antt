@@ -1,6 +1,6 @@
 -- `console::Console::read_start` meets its contract: the count stays within the lent bytes, no newline is stored, and a line is cut off only
 -- where all of them are used.
-use Prim.Native.Nat.{ℕ, _-_, _≤_}
+use Prim.Native.Nat.{_-_, _≤_}
 use mathlib.Core.Path.{_≡_}
 use native.Mathlib.Nat.{not-suc-le-zero}
 use native.Mathlib.Omega.{arith}
