@@ -184,14 +184,16 @@ impl Runs {
         self.answers.note(name, &text);
     }
 
-    /// A set's line is printed before more input is waited for.
+    /// What there is to print of a set is printed before more input is waited for.
     fn sets_in_steps(&mut self, [first, second, third]: &[String; 3]) {
         let (start, rest) = second.split_at(second.len() / 2);
         let last = third.len() - 1;
         let steps = [first, "\n", start, rest, "\n", "\n\n", &third[..last], "\n"];
-        self.in_steps(CHECK_SET, &steps);
         let both = [first, "\n", second, "\n"].concat();
-        self.in_steps(CHECK_SET, &["\n", "\n", &both, third]);
+        for program in FILE_PROGRAMS {
+            self.in_steps(program, &steps);
+            self.in_steps(program, &["\n", "\n", &both, third]);
+        }
     }
 
     /// Words are answered one by one, also one that comes in two parts and several at once.
