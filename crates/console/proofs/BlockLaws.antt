@@ -1,6 +1,6 @@
 -- A byte that is left in a block of the input, and what is pending in a block of the output.
 use mathlib.Core.Path.{_≡_, refl, sym, ap, _∙_}
-use mathlib.Core.Bool.{Bool, true, false, true≢false}
+use mathlib.Core.Bool.{Bool, true, false, cond, true≢false}
 use mathlib.Core.List.{List, _++_}
 use Prim.Native.Nat.{ℕ, _+_, _-_, _≤_, _<_}
 use native.Mathlib.Decide.{decLe}
@@ -44,13 +44,13 @@ module _ (c : Console) (before : List ℕ) (next : Next) (next-is : next ≡ inB
         from-start = λ none. absurd (true≢false (sym none ∙ ap (λ (n : Next). n .ended) (sym next-is) ∙ e));
       }
 
-  pub from-next : next .ended ≡ true → (begun : Console) (block : List ℕ) (first : Next) → begun .at ≡ 0 → first ≡ inBlock begun block
-      → NextRead c before block first
+  pub from-next : next .ended ≡ true → (begun : Console) (block : List ℕ) (first : Next) → (begun .at ≡ 0) × (begun .pending ≡ 0)
+      → first ≡ inBlock begun block → NextRead c before block first
   from-next e begun block first at-start first-is =
       record {
         left = λ some. absurd (true≢false (sym e ∙ ap (λ (n : Next). n .ended) next-is ∙ some));
         begun = begun;
-        from-start = λ none. (at-start, first-is);
+        from-start = λ none. (at-start .0, at-start .1, first-is);
       }
 
 -- Room in a block of the output
@@ -78,6 +78,13 @@ module _ (c : Console) (block text : List ℕ) (next : Console) (next-is : next 
       let e : withRoom c (length block) (length text) (next .failed) ≡ flushed c (next .failed) =
       rw (lt-leb (c .pending + length text) (length block) h) in
       ap (λ (n : Console). n .pending) (next-is ∙ e)
+
+  pub input-stands : (next .at ≡ c .at) × (next .count ≡ c .count)
+  input-stands = rw next-is (go (leb (c .pending + length text) (length block)))
+    where
+      go : (room : Bool) → let r = cond room c (flushed c (next .failed)) in (r .at ≡ c .at) × (r .count ≡ c .count)
+      go true = (refl, refl)
+      go false = (refl, refl)
 
   pub place-within : next .pending ≤ length block
   place-within =

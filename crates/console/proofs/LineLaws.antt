@@ -32,26 +32,29 @@ cut-fails bytes rest n fits long =
 -- What is read of a line, by how it ended
 module _ (console : Console) (bytes : List ℕ) (n : ℕ) (fits : n ≤ length bytes) (none : NoNewline bytes n) where
   pub ended : (end : LineEnd) → (end ≡ LineEnd.Cut → n ≡ length bytes) → (end ≡ LineEnd.Absent → n ≡ 0)
-      → StartRead bytes (record { console = console; count = n; end = end })
-  ended end full absent = record { counts = counts _ _ fits; no-newline = none; full = full; none = absent }
+      → (end ≡ LineEnd.Input → 0 < n) → StartRead bytes (record { console = console; count = n; end = end })
+  ended end full absent some = record { counts = counts _ _ fits; no-newline = none; full = full; none = absent; some = some }
 
   pub by-newline : StartRead bytes (record { console = console; count = n; end = LineEnd.Newline })
   by-newline =
       ended LineEnd.Newline (λ e. let z : _≡_ {A = ℕ} 0 1 = cc in absurd (omega arith))
-      (λ e. let z : _≡_ {A = ℕ} 0 1 = cc in absurd (omega arith))
+      (λ e. let z : _≡_ {A = ℕ} 0 1 = cc in absurd (omega arith)) (λ e. let z : _≡_ {A = ℕ} 0 1 = cc in absurd (omega arith))
 
   pub cut-off : n ≡ length bytes → StartRead bytes (record { console = console; count = n; end = LineEnd.Cut })
-  cut-off all = ended LineEnd.Cut (λ e. all) (λ e. let z : _≡_ {A = ℕ} 0 1 = cc in absurd (omega arith))
+  cut-off all =
+      ended LineEnd.Cut (λ e. all) (λ e. let z : _≡_ {A = ℕ} 0 1 = cc in absurd (omega arith))
+      (λ e. let z : _≡_ {A = ℕ} 0 1 = cc in absurd (omega arith))
 
 -- The input ends behind some bytes of a line, or before the first.
 pub by-input : (console : Console) (bytes : List ℕ) (n : ℕ) → n ≤ length bytes → NoNewline bytes n
     → StartRead bytes (record { console = console; count = n; end = lastEnd n })
 by-input console bytes zero fits none =
     ended console bytes 0 fits none LineEnd.Absent (λ e. let z : _≡_ {A = ℕ} 0 1 = cc in absurd (omega arith)) (λ e. refl)
+    (λ e. let z : _≡_ {A = ℕ} 0 1 = cc in absurd (omega arith))
 by-input console bytes (suc n) fits none =
     rw (lt-ltb 0 (suc n) (omega arith))
     (ended console bytes (suc n) fits none LineEnd.Input (λ e. let z : _≡_ {A = ℕ} 0 1 = cc in absurd (omega arith))
-    (λ e. let z : _≡_ {A = ℕ} 0 1 = cc in absurd (omega arith)))
+    (λ e. let z : _≡_ {A = ℕ} 0 1 = cc in absurd (omega arith)) (λ e. omega arith))
 
 -- A line of which so many bytes are read is refused where it is cut off, whatever follows.
 pub whole-line : (bytes : List ℕ) (start : LineStart) → longestLine < length bytes → StartRead bytes start

@@ -24,12 +24,16 @@ inBlock c block =
     })
     (record { console = c; byte = 0; ended = true })
 
+-- A block of which so many bytes came
+abbrev pub withBlock : Console → ℕ → Console
+withBlock c count = record { at = 0; count = count; pending = c .pending; failed = c .failed }
+
 -- The next byte of the input: the one that is left in the block, which stands then; where none is, the first of the next block, if there
--- is one.
+-- is one, before which what was pending went out.
 pub record NextRead (c : Console) (before block : List ℕ) (next : Next) : Type 0 where
   pub left : inBlock c before .ended ≡ false → (next ≡ inBlock c before) × (block ≡ before)
   pub begun : Console
-  pub from-start : inBlock c before .ended ≡ true → (begun .at ≡ 0) × (next ≡ inBlock begun block)
+  pub from-start : inBlock c before .ended ≡ true → (begun .at ≡ 0) × (begun .pending ≡ 0) × (next ≡ inBlock begun block)
 
 -- Document 01: "the line is all bytes before the first newline, or all there are if none comes". 10 is the newline.
 abbrev pub NoNewline : List ℕ → ℕ → Type 0
@@ -50,9 +54,10 @@ pub record StartRead (bytes : List ℕ) (start : LineStart) : Type 0 where
   -- the bytes read are the first `count`, and no newline is among them
   pub counts : Counts (start .count) bytes
   pub no-newline : NoNewline bytes (start .count)
-  -- a line is cut off only where all lent bytes are used, and absent only where it has none
+  -- a line is cut off only where all lent bytes are used; it is absent where the input ended and it has none, and there where it has one
   pub full : start .end ≡ LineEnd.Cut → start .count ≡ length bytes
   pub none : start .end ≡ LineEnd.Absent → start .count ≡ 0
+  pub some : start .end ≡ LineEnd.Input → 0 < start .count
 
 -- The start of a line, as much of it as the longest line has and a byte more
 pub record LineRead (line : Line) : Type 0 where

@@ -6,7 +6,7 @@ use lib.Dec.{leb}
 use lib.ListN.{length, take}
 use Rattle.console.specs.declared.Console.{Console}
 
--- Nothing is pending, and the input is where it was. Whether all that was pending could be written, nothing tells.
+-- Nothing is pending, and the input is where it was. Whether all that was pending could be written, `failed` tells, and no definition.
 abbrev pub flushed : Console → Bool → Console
 flushed c failed = record { at = c .at; count = c .count; pending = 0; failed = failed }
 
@@ -15,7 +15,7 @@ abbrev pub withRoom : Console → ℕ → ℕ → Bool → Console
 withRoom c block count failed = cond (leb (c .pending + count) block) c (flushed c failed)
 
 -- What is pending once a text is put: the text behind what was pending; the text alone, where the block has no room for both; nothing, where
--- no block holds the text.
+-- the block does not hold the text, which then goes out by itself.
 unfoldable pub pendingWith : Console → List ℕ → List ℕ → List ℕ
 pendingWith c block text =
     cond (leb (c .pending + length text) (length block)) (take (c .pending) block ++ text)

@@ -4,7 +4,10 @@
 mod output;
 
 ghost use mathlib.Core.Path.{_≡_};
-ghost use Rattle.console.specs.Reading.{inBlock, NextRead, lastEnd, isAbsent, StartRead, LineRead};
+ghost use mathlib.Core.Bool.{false};
+ghost use lib.ListN.{length};
+ghost use Rattle.console.specs.Reading.{inBlock, withBlock, NextRead, lastEnd, isAbsent, StartRead, LineRead};
+ghost use Rattle.io.specs.Counts.{clamped};
 use frames::LONGEST_LINE;
 use libc::STDIN_FILENO;
 
@@ -60,7 +63,9 @@ pub struct Line {
 
 impl Console {
     // Nothing has come in, and nothing is to go out.
-    pub fn new() -> Console {
+    pub fn new() -> Console
+        ensures { λ r. ⌜ r ≡ record { at = 0; count = 0; pending = 0; failed = false } ⌝ }
+    {
         Console {
             at: 0,
             count: 0,
@@ -90,16 +95,24 @@ impl Console {
         }
     }
 
-    // Reads the next block, as much as one call gives, so that nothing that is there is held up. The block may have to be waited for, so what
-    // is pending goes out before. An input that cannot be read counts as ended.
-    fn next_block(self, input: &mut [u8], output: &[u8]) -> Console
-        ensures { λ r. ⌜ r .at ≡ 0 ⌝ }
+    // A block of which so many bytes came is to be read from its start; -1 says that none could be read.
+    fn filled(self, got: isize, input: &[u8]) -> Console
+        ensures { λ r. ⌜ r ≡ withBlock self (clamped got (length (now (input .entry)))) ⌝ }
     {
-        let mut console = self.flush(output);
-        let got = libc::read(STDIN_FILENO, input);
+        let mut console = self;
         console.at = 0;
         console.count = io::count(got, input);
         console
+    }
+
+    // Reads the next block, as much as one call gives, so that nothing that is there is held up. The block may have to be waited for, so what
+    // is pending goes out before. An input that cannot be read counts as ended.
+    fn next_block(self, input: &mut [u8], output: &[u8]) -> Console
+        ensures { λ r. ⌜ (r .at ≡ 0) × (r .pending ≡ 0) ⌝ }
+    {
+        let console = self.flush(output);
+        let got = libc::read(STDIN_FILENO, input);
+        console.filled(got, input)
     }
 
     // The next byte of the input.

@@ -1,5 +1,6 @@
 // Texts that go to standard output, gathered in a block.
 ghost use mathlib.Core.Path.{_≡_};
+ghost use mathlib.Core.Bool.{true};
 ghost use Prim.Native.Nat.{_+_, _≤_};
 ghost use lib.ListN.{length, take};
 ghost use Rattle.general.specs.Lists.{over};
@@ -26,6 +27,7 @@ impl Console {
     // Writes what is pending.
     pub fn flush(self, output: &[u8]) -> Console
         ensures { λ r. ⌜ r ≡ flushed self (r .failed) ⌝ }
+        ensures { λ r. ⌜ (self .failed ≡ true → r .failed ≡ true) ⌝ }
     {
         let pending = self.pending;
         let mut console = self;
@@ -36,7 +38,7 @@ impl Console {
         console
     }
 
-    // Room in the block for so many bytes behind what is pending, if the block has room for them at all: else what is pending goes out.
+    // Room in the block for so many bytes behind what is pending: where there is none, what is pending goes out.
     fn with_room(self, output: &[u8], count: usize) -> Console
         ensures { λ r. ⌜ r ≡ withRoom self (length (now (output .entry))) count (r .failed) ⌝ }
     {
@@ -46,10 +48,12 @@ impl Console {
         self.flush(output)
     }
 
-    // The text behind what is pending. That goes out first where the block has no room for both; a text that no block holds goes out by
-    // itself.
+    // The text behind what is pending. That goes out first where the block has no room for both; a text that the block does not hold goes out
+    // by itself.
     pub fn put(self, output: &mut [u8], text: &[u8]) -> Console
-        ensures { λ r. ⌜ take (r .pending) (now (output .exit)) ≡ pendingWith self (now (output .entry)) (now (text .entry)) ⌝ }
+        ensures pending { λ r.
+            ⌜ take (r .pending) (now (output .exit)) ≡ pendingWith self (now (output .entry)) (now (text .entry)) ⌝ }
+        ensures input { λ r. ⌜ (r .at ≡ self .at) × (r .count ≡ self .count) ⌝ }
     {
         let mut console = self.with_room(output, text.len());
         let place = console.pending;

@@ -11,7 +11,8 @@ ghost use Rattle.record_writing.specs.WriteRecord.{hexWriteVerdict};
 ghost use Rattle.record_reading.specs.ReadRecord.{hexFinished, hexSession};
 ghost use Rattle.set_console.specs.Reading.{isLine};
 ghost use Rattle.hex_console.specs.LineTexts.{lineText, withoutReturn, TextRead};
-ghost use Rattle.hex_console.specs.Loaded.{DesignCame, HexStepped, HexCame};
+ghost use Rattle.frames.specs.DesignText.{designLineVerdict};
+ghost use Rattle.hex_console.specs.Loaded.{cameBy, DesignCame, HexStepped, HexCame};
 use console::Console;
 use console::LineEnd;
 use console::LineStart;
@@ -88,6 +89,7 @@ pub struct DesignRead {
 // The line stands by itself, as the report's does: it is refused with 15, 16, 1 to 9, an empty one too.
 fn take_design(console: Console, line: &[u8]) -> DesignRead
     ensures { λ r. ⌜ (isLine (r .came) ≡ true → DesignCame (r .design)) ⌝ }
+    ensures { λ r. ⌜ r .came ≡ cameBy (designLineVerdict (now (line .entry))) ⌝ }
 {
     let read = design_line(line);
     let verdict = read.verdict;
@@ -219,6 +221,7 @@ pub fn read_records(
     ensures came { λ r.
         ⌜ HexCame d (now (initial .entry)) (now (offsets .entry)) (hexSession (r .state) (now (initial .exit)) (now (offsets .exit))) ⌝ }
     ensures told { λ r. ⌜ r .finished ≡ hexFinished d (r .state) ⌝ }
+    ensures counted { λ r. ⌜ r .lines ≡ r .state .taken + 1 ⌝ }
 {
     let mut step = HexStep {
         state: HexReading {

@@ -33,7 +33,7 @@ fn make(
 }
 
 fn main() {
-    // A byte at a time, so that nothing behind the line is waited for.
+    // A byte at a time, so that nothing behind the line is taken from the input.
     let mut input = [0u8; 1];
     let mut output = [0u8; BLOCK];
     let mut initial = [0u32; MOST_INITIAL];

@@ -2,7 +2,7 @@
 use console::Console;
 
 fn main() {
-    // A byte at a time, so that nothing behind the line is waited for.
+    // A byte at a time, so that nothing behind the line is taken from the input.
     let mut input = [0u8; 1];
     let mut output = [0u8; 128];
     let line = Console::new().read_line(&mut input, &output);

@@ -4,40 +4,38 @@ use mathlib.Core.Bool.{Bool, true, false, cond, true≢false}
 use mathlib.Core.List.{List, [], _∷_, _++_}
 use Prim.Native.Nat.{ℕ, _+_, _-_, _^_, _≤_, _<_}
 use native.Mathlib.Omega.{arith}
+use lib.ListN.{length-append}
 use lib.IntN.{ℤ}
 use Rattle.refusal.specs.declared.Cause.{Cause}
 use Rattle.refusal.specs.declared.Verdict.{Verdict}
 use Rattle.reading.specs.declared.Reading.{Reading}
 use Rattle.reading.specs.declared.Read.{Read}
 use Rattle.reading.specs.ReadLine.{finished, Session, session, verdictOn, after, readAnswer}
-use Rattle.storage.specs.Feeding.{feed, finishedBy, finishes}
-use Rattle.storage.proofs.Feeds.{feed-append, finishes-append}
+use Rattle.storage.specs.Feeding.{feed, accepted, finishedBy, finishes}
+use Rattle.storage.proofs.Feeds.{feed-append, accepted-append, finishes-append}
 use Rattle.storage.proofs.Uniqueness.{refused-stands}
 use Rattle.set_console.specs.declared.Came.{Came}
 use Rattle.set_console.specs.Reading.{cameOf, isLine, linesWith, finishedAs, Led}
 
 -- No line came yet, or none comes any more: the reading stands.
-pub none-yet : (s : Session) → Led s s Came.Line
-unfolding feed finishes
-none-yet s =
+stands : (s : Session) (n : ℕ) (came : Came) → finishedAs came s ≡ [] → ((cause : Cause) → came ≡ Came.Refused cause → ⊥) → Led s s n n came
+unfolding feed accepted finishes
+stands s n came none other =
     record {
       lines = [];
       fed = refl;
-      sets = refl;
+      all-taken = refl;
+      counted = omega arith;
+      sets = sym none;
       line = [];
-      refused = λ cause e. let z : _≡_ {A = ℕ} 0 1 = cc in absurd (omega arith);
+      refused = λ cause e. absurd (other cause e);
     }
 
-pub nothing-came : (s : Session) → Led s s Came.Nothing
-unfolding feed finishes
-nothing-came s =
-    record {
-      lines = [];
-      fed = refl;
-      sets = refl;
-      line = [];
-      refused = λ cause e. let z : _≡_ {A = ℕ} 0 1 = cc in absurd (omega arith);
-    }
+pub none-yet : (s : Session) (n : ℕ) → Led s s n n Came.Line
+none-yet s n = stands s n Came.Line refl (λ cause e. let z : _≡_ {A = ℕ} 0 1 = cc in omega arith)
+
+pub nothing-came : (s : Session) (n : ℕ) → Led s s n n Came.Nothing
+nothing-came s n = stands s n Came.Nothing refl (λ cause e. let z : _≡_ {A = ℕ} 0 1 = cc in omega arith)
 
 taken-no-refusal : (is : Bool) (cause : Cause) → cameOf is ≡ Came.Refused cause → ⊥
 taken-no-refusal true cause e = let z : _≡_ {A = ℕ} 0 1 = cc in omega arith
@@ -59,15 +57,17 @@ module _ (state : Reading) (initial initial' : List ℕ) (offsets offsets' : Lis
     state-told = ap (λ (r : Read). r .state) answer
 
     -- It was refused: the reading stands,
-    pub line-refused : (cause : Cause) → read .verdict ≡ Verdict.Refused cause
-        → Led s (session state initial' offsets') (Came.Refused cause)
-    unfolding feed finishes
-    line-refused cause e =
+    pub line-refused : (cause : Cause) (n : ℕ) → read .verdict ≡ Verdict.Refused cause
+        → Led s (session state initial' offsets') n n (Came.Refused cause)
+    unfolding feed accepted finishes
+    line-refused cause n e =
         let told = verdict-told e in
         rw (initial-is, offsets-is, refused-stands s line cause told)
         (record {
           lines = [];
           fed = refl;
+          all-taken = refl;
+          counted = omega arith;
           sets = refl;
           line = line;
           refused = λ other same. told ∙ ap Verdict.Refused (cc);
@@ -83,14 +83,16 @@ module _ (state : Reading) (initial initial' : List ℕ) (offsets offsets' : Lis
         go true = refl
         go false = refl
 
-    pub line-taken : read .verdict ≡ Verdict.Passed
-        → Led s (session (read .state) initial' offsets') (cameOf (finished (read .state)))
-    unfolding feed
-    line-taken e =
+    pub line-taken : (n : ℕ) → read .verdict ≡ Verdict.Passed
+        → Led s (session (read .state) initial' offsets') n (n + 1) (cameOf (finished (read .state)))
+    unfolding feed accepted
+    line-taken n e =
         rw (initial-is, offsets-is, state-told)
         (record {
           lines = line ∷ [];
           fed = refl;
+          all-taken = rw (verdict-told e);
+          counted = refl;
           sets = one-finish e;
           line = line;
           refused = λ cause f. absurd (taken-no-refusal (finished (after s line .state)) cause f);
@@ -102,11 +104,13 @@ one-line-more true lines = refl
 one-line-more false lines = refl
 
 -- One line more
-pub led-more : (s next end : Session) (came : Came) → Led s next Came.Line → Led next end came → Led s end came
-led-more s next end came first rest =
+pub led-more : (s next end : Session) (n m k : ℕ) (came : Came) → Led s next n m Came.Line → Led next end m k came → Led s end n k came
+led-more s next end n m k came first rest =
     record {
       lines = first .lines ++ rest .lines;
       fed = feed-append (rest .lines) (first .lines) s ∙ rw (first .fed) (rest .fed);
+      all-taken = accepted-append (rest .lines) (first .lines) s ∙ rw (first .fed, first .all-taken, rest .all-taken);
+      counted = omega (arith, first .counted, rest .counted, length-append (first .lines) (rest .lines));
       sets = finishes-append (rest .lines) (first .lines) s ∙ rw (first .sets, first .fed) (rest .sets);
       line = rest .line;
       refused = rest .refused;
@@ -114,7 +118,7 @@ led-more s next end came first rest =
 
 -- The state of things while a set is read: more of it may come, or what came last ended it.
 pub record Underway (before next : Session) (first : ℕ) (lines : ℕ) (came : Came) (more : Bool) : Type 0 where
-  pub led : Led before next (cond more Came.Line came)
+  pub led : Led before next first lines (cond more Came.Line came)
   pub ended : more ≡ false → isLine came ≡ false
   pub from : first ≤ lines
   pub later : more ≡ false → came ≡ Came.Set → first < lines
@@ -123,7 +127,7 @@ pub record Underway (before next : Session) (first : ℕ) (lines : ℕ) (came : 
 pub underway : (s : Session) (lines : ℕ) (came : Came) → Underway s s lines lines came true
 underway s lines came =
     record {
-      led = none-yet s;
+      led = none-yet s lines;
       ended = λ e. absurd (true≢false e);
       from = omega arith;
       later = λ e. absurd (true≢false e);
@@ -144,12 +148,12 @@ counted-from Came.Nothing lines next e = (omega arith, λ f. let z : _≡_ {A = 
 counted-from (Came.Refused cause) lines next e = (omega arith, λ f. let z : _≡_ {A = ℕ} 0 1 = cc in absurd (omega arith))
 
 pub underway-more : (s here next : Session) (first lines lines' : ℕ) (before came : Came) (more : Bool)
-    → Underway s here first lines before true → Led here next came → lines' ≡ linesWith came lines → lines' < 2 ^ 64
+    → Underway s here first lines before true → Led here next lines lines' came → lines' ≡ linesWith came lines → lines' < 2 ^ 64
     → more ≡ isLine came → Underway s next first lines' came more
 underway-more s here next first lines lines' before came more u led counted few told =
     let from = counted-from came lines lines' counted in
     record {
-      led = rw (told, as-it-came came) (led-more s here next came (u .led) led);
+      led = rw (told, as-it-came came) (led-more s here next first lines lines' came (u .led) led);
       ended = λ e. sym told ∙ e;
       from = omega (arith, u .from, from .0);
       later = λ e set. omega (arith, u .from, from .1 set);

@@ -3,13 +3,14 @@ use mathlib.Core.Path.{_≡_}
 use mathlib.Core.Bool.{Bool, true, false, cond}
 use mathlib.Core.List.{List, [], _∷_}
 use Prim.Native.Nat.{ℕ, _+_}
+use lib.ListN.{length}
 use Rattle.refusal.specs.declared.Cause.{Cause}
 use Rattle.refusal.specs.declared.Verdict.{Verdict}
 use Rattle.design.specs.declared.Design.{Design}
 use Rattle.design.specs.Legal.{Legal}
 use Rattle.tables.specs.Inputs.{Usable}
 use Rattle.reading.specs.ReadLine.{Session, verdictOn}
-use Rattle.storage.specs.Feeding.{feed, finishes}
+use Rattle.storage.specs.Feeding.{feed, accepted, finishes}
 use Rattle.set_console.specs.declared.Came.{Came}
 
 -- Tables of these lengths hold every legal set, so that 10 never turns one down.
@@ -48,13 +49,16 @@ finishedAs Came.Set next = next ∷ []
 finishedAs Came.Nothing next = []
 finishedAs (Came.Refused cause) next = []
 
--- What the lines of the input did to a reading: they were fed to it one by one, "each call given the state that the call before gave back and
--- the same tables", so that what `Storage` says of a finished reading holds of it.
-pub record Led (before next : Session) (came : Came) : Type 0 where
+-- What some lines did to a reading, all of which were taken: they were fed to it one by one, "each call given the state that the call before
+-- gave back and the same tables", so that what `Storage` and `Several` say holds of a reading that began with no line taken.
+pub record Led (before next : Session) (first last : ℕ) (came : Came) : Type 0 where
   pub lines : List (List ℕ)
   pub fed : feed before lines ≡ next
+  pub all-taken : accepted before lines ≡ lines
+  -- They are counted, empty ones too.
+  pub counted : last ≡ first + length lines
   -- A set is said to be finished exactly where one is, and only with the last of these lines.
   pub sets : finishes before lines ≡ finishedAs came next
-  -- A line is said to be refused where the reader refuses it, for this cause.
+  -- Some line that the reader refuses for a cause is there where one is said to be refused for it.
   pub line : List ℕ
   pub refused : (cause : Cause) → came ≡ Came.Refused cause → verdictOn next line ≡ Verdict.Refused cause

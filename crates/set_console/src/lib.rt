@@ -60,9 +60,9 @@ pub fn begin() -> Reading
     }
 }
 
-// The start of the input.
+// The start of the input, with nothing taken.
 pub fn start() -> SetRead
-    ensures { λ r. ⌜ r .state .taken ≡ 0 ⌝ }
+    ensures { λ r. ⌜ (r .state .taken ≡ 0) × (r .lines ≡ 0) ⌝ }
 {
     SetRead {
         state: begin(),
@@ -111,7 +111,7 @@ fn feed_line(set: SetRead, initial: &mut [u32], offsets: &mut [i32], line: &[u8]
     requires { ⌜ set .lines < 2 ^ 64 - 1 ⌝ }
     ensures led { λ r.
         ⌜ Led (session (set .state) (now (initial .entry)) (now (offsets .entry)))
-        (session (r .state) (now (initial .exit)) (now (offsets .exit))) (r .came) ⌝ }
+        (session (r .state) (now (initial .exit)) (now (offsets .exit))) (set .lines) (r .lines) (r .came) ⌝ }
     ensures counted { λ r. ⌜ r .lines ≡ linesWith (r .came) (set .lines) ⌝ }
     ensures few { λ r. ⌜ r .lines < 2 ^ 64 ⌝ }
 {
@@ -146,7 +146,7 @@ fn take_line(
 ) -> SetRead
     ensures led { λ r.
         ⌜ Led (session (set .state) (now (initial .entry)) (now (offsets .entry)))
-        (session (r .state) (now (initial .exit)) (now (offsets .exit))) (r .came) ⌝ }
+        (session (r .state) (now (initial .exit)) (now (offsets .exit))) (set .lines) (r .lines) (r .came) ⌝ }
     ensures counted { λ r. ⌜ r .lines ≡ linesWith (r .came) (set .lines) ⌝ }
     ensures few { λ r. ⌜ r .lines < 2 ^ 64 ⌝ }
 {
@@ -184,7 +184,7 @@ pub fn read_set(
     requires { ⌜ HoldsEverySet (length (now initial)) (length (now offsets)) ⌝ }
     ensures led { λ r.
         ⌜ Led (session (set .state) (now (initial .entry)) (now (offsets .entry)))
-        (session (r .state) (now (initial .exit)) (now (offsets .exit))) (r .came) ⌝ }
+        (session (r .state) (now (initial .exit)) (now (offsets .exit))) (set .lines) (r .lines) (r .came) ⌝ }
     ensures ended { λ r. ⌜ isLine (r .came) ≡ false ⌝ }
     ensures later { λ r. ⌜ (r .came ≡ Came.Set → set .lines < r .lines) ⌝ }
     ensures few { λ r. ⌜ r .lines < 2 ^ 64 ⌝ }
@@ -199,7 +199,7 @@ pub fn read_set(
     next
 }
 
-// What came of putting a text: whether there was one, and no text before it was lost.
+// What came of putting a text: where to go on, and whether there was a text and nothing before it failed to go out.
 pub struct Put {
     pub console: Console,
     pub more: bool,

@@ -3,7 +3,8 @@ ghost use mathlib.Core.Path.{_≡_};
 ghost use mathlib.Core.Bool.{true};
 ghost use Prim.Native.Nat.{_^_, _<_};
 ghost use lib.ListN.{length};
-ghost use Rattle.set_console.specs.Reading.{HoldsEverySet};
+ghost use Rattle.reading.specs.ReadLine.{session};
+ghost use Rattle.set_console.specs.Reading.{HoldsEverySet, Led};
 ghost use Rattle.set_files.specs.Whole.{isWhole};
 use checking::check;
 use console::BLOCK;
@@ -43,7 +44,7 @@ fn is_whole(set: SetRead, any: bool) -> bool
     }
 }
 
-// An empty line keeps a HEX file apart from the one before, and so does it what is said where a set breaks off behind one.
+// An empty line keeps a HEX file apart from the one before it, and from what is said where a later set breaks off.
 fn put_between(task: Task, any: bool, console: Console, output: &mut [u8]) -> Console {
     match task {
         Task::Check => console,
@@ -110,8 +111,11 @@ fn answer_next(
     offsets: &mut [i32],
 ) -> Answered
     requires { ⌜ HoldsEverySet (length (now initial)) (length (now offsets)) ⌝ }
-    ensures { λ r. ⌜ (r .more ≡ true → set .lines < r .set .lines) ⌝ }
-    ensures { λ r. ⌜ r .set .lines < 2 ^ 64 ⌝ }
+    ensures led { λ r.
+        ⌜ Led (session (set .state) (now (initial .entry)) (now (offsets .entry)))
+        (session (r .set .state) (now (initial .exit)) (now (offsets .exit))) (set .lines) (r .set .lines) (r .set .came) ⌝ }
+    ensures later { λ r. ⌜ (r .more ≡ true → set .lines < r .set .lines) ⌝ }
+    ensures few { λ r. ⌜ r .set .lines < 2 ^ 64 ⌝ }
 {
     let read = read_set(set, input, output, initial, offsets);
     let state = read.state;

@@ -82,7 +82,7 @@ fn read_and_answer(input: &mut [u8], output: &mut [u8]) -> Console {
 }
 
 fn main() {
-    // A byte at a time, so that nothing behind the line is waited for.
+    // A byte at a time, so that nothing behind the line is taken from the input.
     let mut input = [0u8; 1];
     let mut output = [0u8; 128];
     let console = read_and_answer(&mut input, &mut output);

@@ -24,7 +24,7 @@ use Rattle.reading.specs.ReadLine.{
 }
 use Rattle.reading.proofs.ReadLaws.{empty-verdict, first-possible, before-set, by-finish, after-set, empty-passes, empty-fails}
 use Rattle.storage.specs.Feeding.{Begins, Finished, feed}
-use Rattle.storage.proofs.Uniqueness.{initial-length, offsets-length, empty-restarts}
+use Rattle.storage.proofs.Uniqueness.{initial-length, offsets-length, refused-stands, empty-restarts}
 use Rattle.storage.proofs.Unread.{passed-over}
 
 -- An empty line in a possible state is tried by whether the reading is between sets.
@@ -36,8 +36,11 @@ module _ (s : Session) (is-possible : possible (s .state) ≡ true) where
   pub empty-taken : between (s .state) ≡ true → verdictOn s [] ≡ Verdict.Passed
   empty-taken e = by-state ∙ empty-passes (s .state) e
 
-  pub empty-refused : 0 < s .state .taken → finished (s .state) ≡ false → verdictOn s [] ≡ Verdict.Refused Cause.Frame
-  empty-refused some e = by-state ∙ empty-fails (s .state) (by-finish (s .state) some ∙ e)
+  pub empty-refused : 0 < s .state .taken → finished (s .state) ≡ false
+      → (verdictOn s [] ≡ Verdict.Refused Cause.Frame) × (after s [] ≡ s)
+  empty-refused some e =
+      let refused = by-state ∙ empty-fails (s .state) (by-finish (s .state) some ∙ e) in
+      (refused, refused-stands s [] Cause.Frame refused)
 
 pub empty-before : (s : Session) → Begins s → (verdictOn s [] ≡ Verdict.Passed) × (after s [] ≡ s)
 empty-before s none =

@@ -195,7 +195,7 @@ after-design : (v : Verdict) (s : Session) (line : List ℕ) → 0 < s .state .t
 after-design Verdict.Passed s line some = moved-design s line some
 after-design (Verdict.Refused cause) s line some = refl
 
--- and on an empty line before the first one, too.
+-- and on an empty line before the first one the whole reading stands.
 pub passed-over : (s : Session) (line : List ℕ) → s .state .taken ≡ 0 → isEmpty line ≡ true → after s line ≡ s
 unfolding after verdictOn stateCheck
 passed-over s line none empty =
@@ -214,5 +214,4 @@ unread =
       zeros = λ s line none not-empty passed.
           rw (passed, not-empty, first-design (s .state) (bytesOf line) none) (frame-zeros (bytesOf line));
       kept = λ s line. after-design (verdictOn s line) s line;
-      passed-over = passed-over;
     }

@@ -69,7 +69,7 @@ linesOf (s ∷ more) = linesIn (setIn s) ++ linesOf more
 abbrev pub unfinishedLines : Session → List (List ℕ) → List (List ℕ)
 unfinishedLines s lines = cond (finished (feed s lines .state)) [] (taken s lines)
 
--- A8, whole
+-- A8, but for the report, which `DesignText.antt` of `frames` says
 pub record Several : Type 0 where
   -- "An empty line before a set's first line is passed over, the state unchanged."
   pub before : (s : Session) → Begins s → (verdictOn s [] ≡ Verdict.Passed) × (after s [] ≡ s)
@@ -78,7 +78,7 @@ pub record Several : Type 0 where
       → (verdictOn s [] ≡ Verdict.Passed) × (after s [] ≡ session (noneTaken (s .state)) (s .initial) (s .offsets))
   -- "Inside a set it is refused with 16"
   pub inside : (s : Session) → possible (s .state) ≡ true → 0 < s .state .taken → finished (s .state) ≡ false
-      → verdictOn s [] ≡ Verdict.Refused Cause.Frame
+      → (verdictOn s [] ≡ Verdict.Refused Cause.Frame) × (after s [] ≡ s)
   -- the lines of sets with one empty line between them, fed to one reading, are all accepted and come to each set in turn,
   pub in-turn : (sets : List TableSet) (s : Session) → Readable s sets → Begins s
       → (accepted s (separated sets) ≡ separated sets) × InTurn (finishes s (separated sets)) sets

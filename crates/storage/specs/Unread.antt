@@ -1,7 +1,7 @@
 -- Document 01, "A design": "Pairs beyond m are not read; a reader leaves zeros there on an 01 line and keeps them as they came on later
 -- lines, and sets are compared without them."
 use mathlib.Core.Path.{_≡_}
-use mathlib.Core.Bool.{true, false}
+use mathlib.Core.Bool.{false}
 use mathlib.Core.List.{List}
 use Prim.Native.Nat.{ℕ, _≤_, _<_}
 use lib.ListN.{getD}
@@ -108,7 +108,5 @@ pub record Unread : Type 0 where
   pub zeros : (s : Session) (line : List ℕ) → s .state .taken ≡ 0 → isEmpty line ≡ false → verdictOn s line ≡ Verdict.Passed
       → (i : ℕ) → after s line .state .design .m ≤ i
       → getD (after s line .state .design .pairs) i noPair ≡ noPair
-  -- "and keeps them as they came on later lines", also after the last, where an empty line leaves "the design in it standing as it came",
+  -- "and keeps them as they came on later lines", also on an empty one after the last
   pub kept : (s : Session) (line : List ℕ) → 0 < s .state .taken → after s line .state .design ≡ s .state .design
-  -- and on an empty line before the first, with which "the state" is "unchanged"
-  pub passed-over : (s : Session) (line : List ℕ) → s .state .taken ≡ 0 → isEmpty line ≡ true → after s line ≡ s

@@ -46,7 +46,7 @@ add-lines c =
     omega (arith, few-records _ _ _ _ (l .before .before .before .before .pre .legal) (l .loop .inv .0))
 
 returns : tie.Need-returns Inv-loop μ-loop
-returns c = (c .before .before .before .before .loop .inv .0, c .is-finished .ensures)
+returns c = (c .before .before .before .before .loop .inv .0, (c .is-finished .ensures, refl))
 
 pub read-records-spec : {M : Type 1} → statement M
 read-records-spec =

@@ -2,15 +2,19 @@
 use mathlib.Core.Path.{sym}
 use mathlib.Core.Bool.{true≢false}
 use borrow.Author.Needs.{needs}
-use Rattle.hex_console.proofs.StepLaws.{design-came}
+use Rattle.hex_console.proofs.StepLaws.{came-by, design-came}
 use Rattle.hex_console.proofs.take_design.Statement.{statement}
 use Rattle.hex_console.proofs.take_design.Tie as tie
 
 returns : tie.Need-returns
-returns c e = absurd (true≢false (sym e))
+returns c =
+    let v = c .before in
+    (λ e. absurd (true≢false (sym e)), came-by _ _ (v .before .before .before .design-line .ensures) _ (v .verdict .given .1))
 
 returns-2 : tie.Need-returns-2
-returns-2 c e = design-came _ _ (c .before .before .before .design-line .ensures) (c .enum-told .given .1)
+returns-2 c =
+    let read = c .before .before .before .design-line .ensures in
+    (λ e. design-came _ _ read (c .enum-told .given .1), came-by _ _ read _ (c .enum-told .given .1))
 
 pub take-design-spec : {M : Type 1} → statement M
 take-design-spec =

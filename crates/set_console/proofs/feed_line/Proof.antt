@@ -13,7 +13,7 @@ returns c =
     let r = v .before .before .before .before .before in
     let start = r .before .before .before .before .before .before .before in
     let e = r .read-line .ensures in (
-      line-refused _ _ _ _ _ _ _ (e .0) (e .1 .1 .0) (e .1 .1 .1) _ (v .verdict .given .1),
+      line-refused _ _ _ _ _ _ _ (e .0) (e .1 .1 .0) (e .1 .1 .1) _ _ (v .verdict .given .1),
       (refl, omega (arith, start .pre)),
     )
 
@@ -24,7 +24,7 @@ returns-2 c =
     let start = r .before .before .before .before .before .before .before in
     let e = r .read-line .ensures in
     rw (c .came-of .ensures, c .before .is-finished .ensures) (
-      line-taken _ _ _ _ _ _ _ (e .0) (e .1 .1 .0) (e .1 .1 .1) (t .enum-told .given .1),
+      line-taken _ _ _ _ _ _ _ (e .0) (e .1 .1 .0) (e .1 .1 .1) _ (t .enum-told .given .1),
       (one-line-more (finished (r .read-line .result .state)) _, omega (arith, start .pre)),
     )
 

@@ -6,10 +6,10 @@ use Rattle.set_console.proofs.take_line.Statement.{statement}
 use Rattle.set_console.proofs.take_line.Tie as tie
 
 returns : tie.Need-returns
-returns c = (nothing-came _, (refl, search needs))
+returns c = (nothing-came _ _, (refl, search needs))
 
 returns-2 : tie.Need-returns-2
-returns-2 c = (nothing-came _, (refl, search needs))
+returns-2 c = (nothing-came _ _, (refl, search needs))
 
 returns-3 : tie.Need-returns-3
 returns-3 c =

@@ -3,7 +3,7 @@ use Prim.Native.Nat.{_+_, _≤_}
 use native.Mathlib.Omega.{arith}
 use lib.ListN.{length}
 use borrow.Author.Needs.{needs}
-use Rattle.console.proofs.BlockLaws.{place-within, put-out, put-in}
+use Rattle.console.proofs.BlockLaws.{input-stands, place-within, put-out, put-in}
 use Rattle.console.proofs.Console.put.Statement.{statement}
 use Rattle.console.proofs.Console.put.Tie as tie
 
@@ -24,13 +24,19 @@ returns : tie.Need-returns
 returns c =
     let r = c .before .before .before in
     let a = r .before .before .before .before .args in
-    put-out (a .self) (a .output .now) (a .text .now) _ (r .with-room .ensures) (c .before .before .if1 .taken)
+    let e = r .with-room .ensures in (
+      put-out (a .self) (a .output .now) (a .text .now) _ e (c .before .before .if1 .taken),
+      input-stands (a .self) (a .output .now) (a .text .now) _ e,
+    )
 
 returns-2 : tie.Need-returns-2
 returns-2 c =
     let r = c .before .before .before in
     let a = r .before .before .before .before .args in
-    put-out (a .self) (a .output .now) (a .text .now) _ (r .with-room .ensures) (c .before .before .if1 .taken)
+    let e = r .with-room .ensures in (
+      put-out (a .self) (a .output .now) (a .text .now) _ e (c .before .before .if1 .taken),
+      input-stands (a .self) (a .output .now) (a .text .now) _ e,
+    )
 
 copy-requires : tie.Need-copy-requires
 copy-requires c κs = fits (c .before)
@@ -39,8 +45,11 @@ returns-3 : tie.Need-returns-3
 returns-3 c =
     let e = c .before .before .before .before in
     let a = e .before .before .before .before .before .args in
-    rw (c .before .before .copy .ensures)
-    (put-in (a .self) (a .output .now) (a .text .now) _ (e .before .with-room .ensures) (fits e))
+    let told = e .before .with-room .ensures in
+    rw (c .before .before .copy .ensures) (
+      put-in (a .self) (a .output .now) (a .text .now) _ told (fits e),
+      input-stands (a .self) (a .output .now) (a .text .now) _ told,
+    )
 
 pub put-spec : {M : Type 1} → statement M
 put-spec =

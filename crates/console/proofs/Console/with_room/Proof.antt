@@ -16,8 +16,8 @@ returns-2 : tie.Need-returns-2
 returns-2 c =
     let a = c .before .before .before .before .args in
     let n = length (a .output .now) in
-    ⊎-elim (λ w. no-room (a .self) n (a .count) _ (c .flush .ensures) (w .0 .taken) (w .2 .left))
-    (λ w. over-full (a .self) n (a .count) _ (c .flush .ensures) (w .left))
+    ⊎-elim (λ w. no-room (a .self) n (a .count) _ (c .flush .ensures .0) (w .0 .taken) (w .2 .left))
+    (λ w. over-full (a .self) n (a .count) _ (c .flush .ensures .0) (w .left))
     (c .before .if1 .came)
 
 pub with-room-spec : {M : Type 1} → statement M
