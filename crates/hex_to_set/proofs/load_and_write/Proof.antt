@@ -10,7 +10,7 @@ put-loaded-requires : tie.Need-put-loaded-requires
 put-loaded-requires c κs =
     let e = c .before .before .before in
     let r = e .before .before .before .before .before .before .before .before in
-    loaded-recordable _ _ _ _ (r .read-records .ensures .0) (sym (r .read-records .ensures .1) ∙ not-false _ (e .if1 .left))
+    loaded-recordable _ _ _ _ (r .read-records .ensures .0) (sym (r .read-records .ensures .1 .0) ∙ not-false _ (e .if1 .left))
 
 pub load-and-write-spec : {M : Type 1} → statement M
 load-and-write-spec =
