@@ -16,14 +16,14 @@ use Rattle.record_reading.specs.declared.HexRead.{HexRead}
 use Rattle.record_reading.specs.ReadRecord.{hexFinished, HexSession, hexSession, hexVerdictOn, holding, hexAfter, hexAnswer}
 use Rattle.record_storage.specs.Loading.{hexFeed}
 use Rattle.record_storage.proofs.Feeding.{refused-stands}
-use Rattle.set_console.specs.Reading.{cameOf, isLine}
-use Rattle.hex_console.specs.Loaded.{cameBy, DesignCame, HexStepped}
+use Rattle.set_console.specs.Reading.{cameOf, cameBy, isLine}
+use Rattle.hex_console.specs.Loaded.{DesignCame, HexStepped}
 
 -- What a design's line comes to
 pub came-by : (line : List ℕ) (read : DesignLine) → read ≡ designLine line → (v : Verdict) → read .verdict ≡ v
-    → cameBy v ≡ cameBy (designLineVerdict line)
+    → cameBy v false ≡ cameBy (designLineVerdict line) false
 unfolding designLine
-came-by line read read-is v e = ap cameBy (sym e ∙ ap (λ (r : DesignLine). r .verdict) read-is)
+came-by line read read-is v e = ap (λ (told : Verdict). cameBy told false) (sym e ∙ ap (λ (r : DesignLine). r .verdict) read-is)
 
 -- The design on a line that passes
 module _ (line : List ℕ) (read : DesignLine) (read-is : read ≡ designLine line) (passed : read .verdict ≡ Verdict.Passed) where

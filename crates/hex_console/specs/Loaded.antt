@@ -7,7 +7,6 @@ use Prim.Native.Nat.{ℕ, _+_}
 use lib.ListN.{length}
 use lib.IntN.{ℤ}
 use Rattle.refusal.specs.declared.Verdict.{Verdict}
-use Rattle.refusal.specs.Checks.{ifPassed}
 use Rattle.design.specs.declared.Design.{Design}
 use Rattle.design.specs.Legal.{Legal}
 use Rattle.frames.specs.Hex.{bytesOf}
@@ -15,12 +14,7 @@ use Rattle.frames.specs.DesignFrame.{frameDesign}
 use Rattle.frames.specs.DesignText.{designLineVerdict}
 use Rattle.records.specs.SetBytes.{byteCount}
 use Rattle.record_reading.specs.ReadRecord.{hexPossible, hexFinished, HexSession, hexSession}
-use Rattle.set_console.specs.declared.Came.{Came}
 use Rattle.record_storage.specs.Loading.{noRecord, hexFeed}
-
--- What a design's line comes to, by its verdict
-abbrev pub cameBy : Verdict → Came
-cameBy v = ifPassed v Came.Line Came.Refused
 
 -- A design that was read: it stands on some line that has to hold one, "15, 16, 1 to 9", and is legal.
 pub record DesignCame (d : Design) : Type 0 where

@@ -1,7 +1,7 @@
 // What the programs over Intel HEX share: reading a design and the records of its set from standard input, and writing the records of a
 // set to standard output. No contract can say which bytes come in or go out; what can be said of a set that is read is promised.
 ghost use mathlib.Core.Path.{_≡_};
-ghost use mathlib.Core.Bool.{true};
+ghost use mathlib.Core.Bool.{true, false};
 ghost use Prim.Native.Nat.{_+_, _≤_};
 ghost use lib.ListN.{length, take};
 ghost use Rattle.refusal.specs.declared.Verdict.{Verdict};
@@ -9,10 +9,10 @@ ghost use Rattle.tables.specs.Inputs.{Usable};
 ghost use Rattle.records.specs.Record.{longestRecord};
 ghost use Rattle.record_writing.specs.WriteRecord.{hexWriteVerdict};
 ghost use Rattle.record_reading.specs.ReadRecord.{hexFinished, hexSession};
-ghost use Rattle.set_console.specs.Reading.{isLine};
+ghost use Rattle.set_console.specs.Reading.{cameBy, isLine};
 ghost use Rattle.hex_console.specs.LineTexts.{lineText, withoutReturn, TextRead};
 ghost use Rattle.frames.specs.DesignText.{designLineVerdict};
-ghost use Rattle.hex_console.specs.Loaded.{cameBy, DesignCame, HexStepped, HexCame};
+ghost use Rattle.hex_console.specs.Loaded.{DesignCame, HexStepped, HexCame};
 use console::Console;
 use console::LineEnd;
 use console::LineStart;
@@ -89,7 +89,7 @@ pub struct DesignRead {
 // The line stands by itself, as the report's does: it is refused with 15, 16, 1 to 9, an empty one too.
 fn take_design(console: Console, line: &[u8]) -> DesignRead
     ensures { λ r. ⌜ (isLine (r .came) ≡ true → DesignCame (r .design)) ⌝ }
-    ensures { λ r. ⌜ r .came ≡ cameBy (designLineVerdict (now (line .entry))) ⌝ }
+    ensures { λ r. ⌜ r .came ≡ cameBy (designLineVerdict (now (line .entry))) false ⌝ }
 {
     let read = design_line(line);
     let verdict = read.verdict;

@@ -15,7 +15,7 @@ use Rattle.storage.specs.Feeding.{feed, accepted, finishedBy, finishes}
 use Rattle.storage.proofs.Feeds.{feed-append, accepted-append, finishes-append}
 use Rattle.storage.proofs.Uniqueness.{refused-stands}
 use Rattle.set_console.specs.declared.Came.{Came}
-use Rattle.set_console.specs.Reading.{cameOf, isLine, linesWith, finishedAs, Led}
+use Rattle.set_console.specs.Reading.{cameOf, cameBy, cameOn, isLine, linesWith, finishedAs, Led}
 
 -- No line came yet, or none comes any more: the reading stands.
 stands : (s : Session) (n : ℕ) (came : Came) → finishedAs came s ≡ [] → ((cause : Cause) → came ≡ Came.Refused cause → ⊥) → Led s s n n came
@@ -57,51 +57,58 @@ module _ (state : Reading) (initial initial' : List ℕ) (offsets offsets' : Lis
     state-told = ap (λ (r : Read). r .state) answer
 
     -- It was refused: the reading stands,
-    pub line-refused : (cause : Cause) (n : ℕ) → read .verdict ≡ Verdict.Refused cause
-        → Led s (session state initial' offsets') n n (Came.Refused cause)
-    unfolding feed accepted finishes
-    line-refused cause n e =
+    pub fed-refused : (cause : Cause) → read .verdict ≡ Verdict.Refused cause
+        → (session state initial' offsets' ≡ after s line) × (Came.Refused cause ≡ cameOn s line)
+    fed-refused cause e =
         let told = verdict-told e in
-        rw (initial-is, offsets-is, refused-stands s line cause told)
-        (record {
-          lines = [];
-          fed = refl;
-          all-taken = refl;
-          counted = omega arith;
-          sets = refl;
-          line = line;
-          refused = λ other same. told ∙ ap Verdict.Refused (cc);
-        })
+        let stands = refused-stands s line cause told in
+        (rw (initial-is, offsets-is, stands), rw told)
 
     -- or taken: the reading moves on, and may be finished.
-    one-finish : read .verdict ≡ Verdict.Passed
-        → finishes s (line ∷ []) ≡ finishedAs (cameOf (finished (after s line .state))) (after s line)
-    unfolding finishes finishedBy
-    one-finish e = rw (verdict-told e) (go (finished (after s line .state)))
-      where
-        go : (is : Bool) → cond is (after s line ∷ []) [] ++ [] ≡ finishedAs (cameOf is) (after s line)
-        go true = refl
-        go false = refl
-
-    pub line-taken : (n : ℕ) → read .verdict ≡ Verdict.Passed
-        → Led s (session (read .state) initial' offsets') n (n + 1) (cameOf (finished (read .state)))
-    unfolding feed accepted
-    line-taken n e =
-        rw (initial-is, offsets-is, state-told)
-        (record {
-          lines = line ∷ [];
-          fed = refl;
-          all-taken = rw (verdict-told e);
-          counted = refl;
-          sets = one-finish e;
-          line = line;
-          refused = λ cause f. absurd (taken-no-refusal (finished (after s line .state)) cause f);
-        })
+    pub fed-taken : read .verdict ≡ Verdict.Passed
+        → (session (read .state) initial' offsets' ≡ after s line) × (cameOf (finished (read .state)) ≡ cameOn s line)
+    fed-taken e = (rw (initial-is, offsets-is, state-told), rw (state-told, verdict-told e))
 
 -- A line that was taken is one more.
-pub one-line-more : (is : Bool) (lines : ℕ) → lines + 1 ≡ linesWith (cameOf is) lines
-one-line-more true lines = refl
-one-line-more false lines = refl
+pub one-line-more : (is : Bool) (n : ℕ) → linesWith (cameOf is) n ≡ n + 1
+one-line-more true n = refl
+one-line-more false n = refl
+
+-- What a line does to a reading, and what it comes to
+module _ (s : Session) (line : List ℕ) where
+  one-finish : (is : Bool) → cond is (after s line ∷ []) [] ++ [] ≡ finishedAs (cameOf is) (after s line)
+  one-finish true = refl
+  one-finish false = refl
+
+  led-by : (n : ℕ) (v : Verdict) (is : Bool) → verdictOn s line ≡ v → finished (after s line .state) ≡ is
+      → Led s (after s line) n (linesWith (cameBy v is) n) (cameBy v is)
+  unfolding feed accepted finishes finishedBy
+  led-by n Verdict.Passed is e f =
+      record {
+        lines = line ∷ [];
+        fed = refl;
+        all-taken = rw e;
+        counted = one-line-more is n;
+        sets = rw (e, f) (one-finish is);
+        line = line;
+        refused = λ cause same. absurd (taken-no-refusal is cause same);
+      }
+  led-by n (Verdict.Refused cause) is e f =
+      rw (refused-stands s line cause e)
+      (record {
+        lines = [];
+        fed = refl;
+        all-taken = refl;
+        counted = omega arith;
+        sets = refl;
+        line = line;
+        refused = λ other same. e ∙ ap Verdict.Refused (cc);
+      })
+
+  pub led-line : (next : Session) (n m : ℕ) (came : Came) → next ≡ after s line → came ≡ cameOn s line → m ≡ linesWith came n
+      → Led s next n m came
+  led-line next n m came moved told counted =
+      rw (moved, counted, told) (led-by n (verdictOn s line) (finished (after s line .state)) refl refl)
 
 -- One line more
 pub led-more : (s next end : Session) (n m k : ℕ) (came : Came) → Led s next n m Came.Line → Led next end m k came → Led s end n k came

@@ -1,3 +1,4 @@
 -- Laws of sets that programs read and write.
 pub mod FeedLaws
 pub mod LineLaws
+pub mod ShortLaws

@@ -6,10 +6,11 @@ use Prim.Native.Nat.{ℕ, _+_}
 use lib.ListN.{length}
 use Rattle.refusal.specs.declared.Cause.{Cause}
 use Rattle.refusal.specs.declared.Verdict.{Verdict}
+use Rattle.refusal.specs.Checks.{ifPassed}
 use Rattle.design.specs.declared.Design.{Design}
 use Rattle.design.specs.Legal.{Legal}
 use Rattle.tables.specs.Inputs.{Usable}
-use Rattle.reading.specs.ReadLine.{Session, verdictOn}
+use Rattle.reading.specs.ReadLine.{finished, Session, verdictOn, after}
 use Rattle.storage.specs.Feeding.{feed, accepted, finishes}
 use Rattle.set_console.specs.declared.Came.{Came}
 
@@ -20,6 +21,14 @@ HoldsEverySet initial offsets = (d : Design) → Legal d → Usable d initial of
 -- What a line that was taken comes to, by whether the set is finished with it
 abbrev pub cameOf : Bool → Came
 cameOf finished = cond finished Came.Set Came.Line
+
+-- What any line comes to, by the verdict on it
+abbrev pub cameBy : Verdict → Bool → Came
+cameBy v finished = ifPassed v (cameOf finished) Came.Refused
+
+-- What a line comes to that is fed to a reading
+abbrev pub cameOn : Session → List ℕ → Came
+cameOn s line = cameBy (verdictOn s line) (finished (after s line .state))
 
 -- Whether there may be more of the set
 abbrev pub isLine : Came → Bool

@@ -5,11 +5,12 @@ ghost use mathlib.Core.Bool.{true, false};
 ghost use Prim.Native.Nat.{_+_, _-_, _^_, _<_};
 ghost use lib.ListN.{length};
 ghost use Rattle.refusal.specs.declared.Verdict.{Verdict};
+ghost use Rattle.refusal.specs.declared.Cause.{Cause};
 ghost use Rattle.frames.specs.Line.{longestLine};
 ghost use Rattle.writing.specs.Write.{writeVerdict};
-ghost use Rattle.reading.specs.ReadLine.{session};
+ghost use Rattle.reading.specs.ReadLine.{session, after};
 ghost use Rattle.storage.specs.Sets.{Storable};
-ghost use Rattle.set_console.specs.Reading.{HoldsEverySet, cameOf, isLine, isSet, linesWith, Led};
+ghost use Rattle.set_console.specs.Reading.{HoldsEverySet, cameOf, cameOn, isLine, isSet, linesWith, Led};
 use checking::Checked;
 use console::Console;
 use console::KEPT;
@@ -106,14 +107,17 @@ pub fn is_set(came: Came) -> bool
     }
 }
 
-// Feeds a line of the input to the reading.
+// Feeds a line to the reading, and counts it if it is taken.
 fn feed_line(set: SetRead, initial: &mut [u32], offsets: &mut [i32], line: &[u8]) -> SetRead
     requires { ⌜ set .lines < 2 ^ 64 - 1 ⌝ }
-    ensures led { λ r.
-        ⌜ Led (session (set .state) (now (initial .entry)) (now (offsets .entry)))
-        (session (r .state) (now (initial .exit)) (now (offsets .exit))) (set .lines) (r .lines) (r .came) ⌝ }
+    ensures reading { λ r.
+        ⌜ session (r .state) (now (initial .exit)) (now (offsets .exit))
+        ≡ after (session (set .state) (now (initial .entry)) (now (offsets .entry))) (now (line .entry)) ⌝ }
+    ensures came { λ r.
+        ⌜ r .came ≡ cameOn (session (set .state) (now (initial .entry)) (now (offsets .entry))) (now (line .entry)) ⌝ }
     ensures counted { λ r. ⌜ r .lines ≡ linesWith (r .came) (set .lines) ⌝ }
     ensures few { λ r. ⌜ r .lines < 2 ^ 64 ⌝ }
+    ensures place { λ r. ⌜ r .console ≡ set .console ⌝ }
 {
     let state = set.state;
     let console = set.console;
@@ -173,7 +177,8 @@ fn take_line(
     feed_line(here, initial, offsets, &bytes[..count])
 }
 
-// inner: reads on, from the reading as it came, until a line finishes a set, is refused, or does not come. The tables hold every legal set.
+// inner: reads on, from the reading as it came, until a line finishes a set, is refused, or does not come. The tables hold every legal set, so
+// no line is refused for them.
 pub fn read_set(
     set: SetRead,
     input: &mut [u8],
@@ -188,6 +193,7 @@ pub fn read_set(
     ensures ended { λ r. ⌜ isLine (r .came) ≡ false ⌝ }
     ensures later { λ r. ⌜ (r .came ≡ Came.Set → set .lines < r .lines) ⌝ }
     ensures few { λ r. ⌜ r .lines < 2 ^ 64 ⌝ }
+    ensures held { λ r. ⌜ (r .came ≡ Came.Refused Cause.TablesShort → ⊥) ⌝ }
 {
     let mut next = set;
     let mut more = true;

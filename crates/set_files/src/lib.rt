@@ -3,7 +3,9 @@ ghost use mathlib.Core.Path.{_≡_};
 ghost use mathlib.Core.Bool.{true};
 ghost use Prim.Native.Nat.{_^_, _<_};
 ghost use lib.ListN.{length};
+ghost use Rattle.refusal.specs.declared.Cause.{Cause};
 ghost use Rattle.reading.specs.ReadLine.{session};
+ghost use Rattle.set_console.specs.declared.Came.{Came};
 ghost use Rattle.set_console.specs.Reading.{HoldsEverySet, Led};
 ghost use Rattle.set_files.specs.Whole.{isWhole};
 use checking::check;
@@ -116,6 +118,7 @@ fn answer_next(
         (session (r .set .state) (now (initial .exit)) (now (offsets .exit))) (set .lines) (r .set .lines) (r .set .came) ⌝ }
     ensures later { λ r. ⌜ (r .more ≡ true → set .lines < r .set .lines) ⌝ }
     ensures few { λ r. ⌜ r .set .lines < 2 ^ 64 ⌝ }
+    ensures held { λ r. ⌜ (r .set .came ≡ Came.Refused Cause.TablesShort → ⊥) ⌝ }
 {
     let read = read_set(set, input, output, initial, offsets);
     let state = read.state;

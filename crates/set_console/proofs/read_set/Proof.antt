@@ -1,10 +1,11 @@
 -- `set_console::read_set` meets its contract: each line is fed after those before it, and the loop ends since the number of lines does.
-use mathlib.Core.Path.{_≡_, refl}
+use mathlib.Core.Path.{_≡_, refl, sym}
 use mathlib.Core.Bool.{true}
 use lib.ListN.{length}
 use borrow.Author.Needs.{needs}
 use Rattle.reading.specs.ReadLine.{session}
 use Rattle.set_console.proofs.FeedLaws.{Underway, underway, underway-more, linesLeft, fewer-left, line-more}
+use Rattle.set_console.proofs.ShortLaws.{never-short}
 use Rattle.set_console.proofs.read_set.Statement.{statement}
 use Rattle.set_console.proofs.read_set.Tie as tie
 
@@ -37,8 +38,11 @@ loop-again c =
 
 returns : tie.Need-returns Inv-loop μ-loop
 returns c =
-    let u = rw (c .loop-test .left) at (c .before .loop .inv .0) in
-    (u .led, (u .ended refl, (u .later refl, u .few refl)))
+    let l = c .before in
+    let inv = l .loop .inv in
+    let u = rw (c .loop-test .left) at (inv .0) in
+    let holds = rw (sym (inv .2), sym (inv .3)) at (l .before .before .before .before .pre) in
+    (u .led, (u .ended refl, (u .later refl, (u .few refl, λ e. never-short _ _ holds (u .led .refused _ e)))))
 
 pub read-set-spec : {M : Type 1} → statement M
 read-set-spec =

@@ -23,7 +23,7 @@ loop-less : tie.Need-loop-less Inv-loop μ-loop
 loop-less c =
     let a = c .before .before .before .before .before .before .before .before in
     let l = a .before .before .before .before .before in
-    fewer-left (l .before .loop .set .lines) _ _ _ (l .loop-test .taken) (a .answer-next .ensures .1 .0) (a .answer-next .ensures .1 .1)
+    fewer-left (l .before .loop .set .lines) _ _ _ (l .loop-test .taken) (a .answer-next .ensures .1 .0) (a .answer-next .ensures .1 .1 .0)
 
 pub answer-all-spec : {M : Type 1} → statement M
 answer-all-spec =
