@@ -17,8 +17,6 @@ use Rattle.records.specs.SetBytes.{byteCount}
 use Rattle.records.specs.Record.{bytesIn}
 use Rattle.records.proofs.AddressLaws.{bytes-few}
 use Rattle.records.proofs.CountLaws.{before-none, before-next}
-use Rattle.record_writing.specs.WriteRecord.{hexWriteVerdict}
-use Rattle.record_writing.proofs.GivenLaws.{given}
 use Rattle.record_reading.specs.Storing.{initialHome, offsetHome, cutBytes}
 use Rattle.record_reading.specs.ReadRecord.{
   heldCount,
@@ -53,18 +51,6 @@ pub left-less : (most taken next : ℕ) (before more : Bool) → taken ≤ most 
     → left most more next < left most before taken
 left-less most taken next before true few e moves = rw e (omega (arith, moves refl))
 left-less most taken next before false few e moves = rw e (omega arith)
-
--- A record that the writer gives is one of the set's, of which there are few.
-pub record RecordWithin (d : Design) (n : ℕ) : Type 0 where
-  pub within : n < recordCount (byteCount d)
-  pub few : recordCount (byteCount d) ≤ 4097
-
-pub given-within : (d : Design) (initial : List ℕ) (offsets : List ℤ) (n buffer : ℕ)
-    → hexWriteVerdict d initial offsets n buffer ≡ Verdict.Passed → RecordWithin d n
-unfolding recordCount dataCount
-given-within d initial offsets n buffer e =
-    let told = given d initial offsets n buffer e in
-    record { within = told .within; few = omega (arith, told .addressed) }
 
 module _ (d : Design) where
   abbrev total : ℕ

@@ -1,15 +1,19 @@
 // What the programs over Intel HEX share: reading a design and the records of its set from standard input, and writing the records of a
 // set to standard output. No contract can say which bytes come in or go out; what can be said of a set that is read is promised.
 ghost use mathlib.Core.Path.{_≡_};
-ghost use mathlib.Core.Bool.{true, false};
+ghost use mathlib.Core.Bool.{true, false, not, _&&_};
 ghost use Prim.Native.Nat.{_+_, _≤_};
 ghost use lib.ListN.{length, take};
-ghost use Rattle.refusal.specs.declared.Verdict.{Verdict};
+ghost use Rattle.refusal.specs.Checks.{passes};
 ghost use Rattle.tables.specs.Inputs.{Usable};
 ghost use Rattle.records.specs.Record.{longestRecord};
+ghost use Rattle.records.specs.SetBytes.{setRecord, setRecords};
 ghost use Rattle.record_writing.specs.WriteRecord.{hexWriteVerdict};
 ghost use Rattle.record_reading.specs.ReadRecord.{hexFinished, hexSession};
+ghost use Rattle.record_storage.specs.RecordStorage.{Recordable};
+ghost use Rattle.console.specs.Writing.{pendingIn, Puts, printed};
 ghost use Rattle.set_console.specs.Reading.{cameBy, isLine};
+ghost use Rattle.set_console.specs.Writing.{putIf};
 ghost use Rattle.hex_console.specs.LineTexts.{lineText, withoutReturn, TextRead};
 ghost use Rattle.frames.specs.DesignText.{designLineVerdict};
 ghost use Rattle.hex_console.specs.Loaded.{DesignCame, HexStepped, HexCame};
@@ -262,9 +266,14 @@ fn put_record(
     offsets: &[i32],
     number: usize,
 ) -> Put
-    ensures { λ r.
-        ⌜ (r .more ≡ true
-        → hexWriteVerdict d (now (initial .entry)) (now (offsets .entry)) number (longestRecord + 1) ≡ Verdict.Passed) ⌝ }
+    ensures text { λ r.
+        ⌜ Puts (pendingIn console (now (output .entry)))
+        (putIf (hexWriteVerdict d (now (initial .entry)) (now (offsets .entry)) number (longestRecord + 1))
+        (setRecord d (now (initial .entry)) (now (offsets .entry)) number))
+        (pendingIn (r .console) (now (output .exit))) ⌝ }
+    ensures more { λ r.
+        ⌜ r .more
+        ≡ (passes (hexWriteVerdict d (now (initial .entry)) (now (offsets .entry)) number (longestRecord + 1)) && not (r .console .failed)) ⌝ }
 {
     let mut buffer = [0u8; PRINTED];
     match write_record(d, initial, offsets, number, &mut buffer) {
@@ -283,7 +292,12 @@ pub fn put_records(
     d: Design,
     initial: &[u32],
     offsets: &[i32],
-) -> Console {
+) -> Console
+    ensures { λ r.
+        ⌜ (r .failed ≡ false → Recordable (record { design = d; initial = now (initial .entry); offsets = now (offsets .entry) })
+        → Puts (pendingIn console (now (output .entry))) (printed (setRecords d (now (initial .entry)) (now (offsets .entry))))
+        (pendingIn r (now (output .exit)))) ⌝ }
+{
     let mut put = Put {
         console,
         more: true,

@@ -2,3 +2,4 @@
 pub mod FeedLaws
 pub mod LineLaws
 pub mod ShortLaws
+pub mod PutLaws

@@ -1,15 +1,19 @@
 // What the programs over whole sets share: reading a set from standard input, and writing the lines of a set, the answer of a check or
 // the counts to standard output. No contract can say which bytes come in or go out; what can be said of a set that is read is promised.
 ghost use mathlib.Core.Path.{_≡_};
-ghost use mathlib.Core.Bool.{true, false};
+ghost use mathlib.Core.Bool.{true, false, not, _&&_};
+ghost use mathlib.Core.List.{[], _∷_, _++_};
 ghost use Prim.Native.Nat.{_+_, _-_, _^_, _<_};
-ghost use lib.ListN.{length};
-ghost use Rattle.refusal.specs.declared.Verdict.{Verdict};
+ghost use lib.ListN.{length, take};
 ghost use Rattle.refusal.specs.declared.Cause.{Cause};
+ghost use Rattle.refusal.specs.Checks.{passes};
 ghost use Rattle.frames.specs.Line.{longestLine};
+ghost use Rattle.lines.specs.Lines.{lineAt, setLines};
 ghost use Rattle.writing.specs.Write.{writeVerdict};
 ghost use Rattle.reading.specs.ReadLine.{session, after};
 ghost use Rattle.storage.specs.Sets.{Storable};
+ghost use Rattle.console.specs.Writing.{pendingIn, Puts, printed};
+ghost use Rattle.set_console.specs.Writing.{putIf};
 ghost use Rattle.set_console.specs.Reading.{HoldsEverySet, cameOf, cameOn, isLine, isSet, linesWith, Led};
 use checking::Checked;
 use console::Console;
@@ -211,16 +215,16 @@ pub struct Put {
     pub more: bool,
 }
 
-// Puts a text that stands at the start of a buffer, and a newline.
-pub fn put_text(console: Console, output: &mut [u8], buffer: &mut [u8], length: usize) -> Put {
-    if buffer.len() <= length {
-        return Put {
-            console,
-            more: false,
-        };
-    }
-    buffer[length] = b'\n';
-    let next = console.put(output, &buffer[..length + 1]);
+// inner: puts a text that stands at the start of a buffer, and a newline, for which the buffer has room.
+pub fn put_text(console: Console, output: &mut [u8], buffer: &mut [u8], count: usize) -> Put
+    requires { ⌜ count < length (now buffer) ⌝ }
+    ensures text { λ r.
+        ⌜ Puts (pendingIn console (now (output .entry))) (take count (now (buffer .entry)) ++ 10 ∷ [])
+        (pendingIn (r .console) (now (output .exit))) ⌝ }
+    ensures more { λ r. ⌜ r .more ≡ not (r .console .failed) ⌝ }
+{
+    buffer[count] = b'\n';
+    let next = console.put(output, &buffer[..count + 1]);
     Put {
         console: next,
         more: !next.failed,
@@ -236,8 +240,14 @@ pub fn put_line(
     offsets: &[i32],
     number: usize,
 ) -> Put
-    ensures { λ r.
-        ⌜ (r .more ≡ true → writeVerdict d (now (initial .entry)) (now (offsets .entry)) number (longestLine + 1) ≡ Verdict.Passed) ⌝ }
+    ensures text { λ r.
+        ⌜ Puts (pendingIn console (now (output .entry)))
+        (putIf (writeVerdict d (now (initial .entry)) (now (offsets .entry)) number (longestLine + 1))
+        (lineAt d (now (initial .entry)) (now (offsets .entry)) number))
+        (pendingIn (r .console) (now (output .exit))) ⌝ }
+    ensures more { λ r.
+        ⌜ r .more
+        ≡ (passes (writeVerdict d (now (initial .entry)) (now (offsets .entry)) number (longestLine + 1)) && not (r .console .failed)) ⌝ }
 {
     let mut buffer = [0u8; KEPT];
     match write_line(d, initial, offsets, number, &mut buffer) {
@@ -259,6 +269,10 @@ pub fn put_set(
     offsets: &[i32],
 ) -> Console
     requires { ⌜ Storable (record { design = d; initial = now initial; offsets = now offsets }) ⌝ }
+    ensures { λ r.
+        ⌜ (r .failed ≡ false
+        → Puts (pendingIn console (now (output .entry))) (printed (setLines d (now (initial .entry)) (now (offsets .entry))))
+        (pendingIn r (now (output .exit)))) ⌝ }
 {
     let mut put = Put {
         console,

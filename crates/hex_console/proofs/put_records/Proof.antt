@@ -1,37 +1,61 @@
--- `hex_console::put_records` is safe and ends: a record that was put is one of the set's.
+-- `hex_console::put_records` meets its contract: each record is put behind those before it, up to the last, unless one is refused or fails to go
+-- out; and it ends, since a record that the writer gives is one of the set's.
 use mathlib.Core.Path.{_≡_, refl}
 use mathlib.Core.Bool.{true}
-use Prim.Native.Nat.{_≤_}
+use Prim.Native.Nat.{_+_, _≤_}
 use native.Mathlib.Omega.{arith}
 use lib.ListN.{length}
 use borrow.Author.Needs.{needs}
+use Rattle.records.specs.IntelHex.{recordCount, recordsOf}
+use Rattle.records.specs.Record.{longestRecord}
+use Rattle.records.specs.SetBytes.{byteCount, setRecord, setRecords}
+use Rattle.records.proofs.BytesLaws.{set-length}
+use Rattle.record_writing.specs.WriteRecord.{hexWriteVerdict}
+use Rattle.console.specs.Writing.{pendingIn}
 use Rattle.set_console.proofs.FeedLaws.{left, left-more}
-use Rattle.hex_console.proofs.LoadLaws.{given-within}
+use Rattle.set_console.proofs.PutLaws.{Putting, putting-none, putting-more, more-passed}
+use Rattle.hex_console.proofs.PuttingLaws.{given-within, each-given}
 use Rattle.hex_console.proofs.put_records.Statement.{statement}
 use Rattle.hex_console.proofs.put_records.Tie as tie
 
 abbrev Inv-loop : tie.InvT-loop
 Inv-loop output₀ d initial offsets put₀ number₀ output put number =
-    (put .more ≡ true → number ≤ 4097) × (length output ≡ length output₀)
+    Putting (setRecord d initial offsets) (λ n. hexWriteVerdict d initial offsets n (longestRecord + 1)) (recordCount (byteCount d))
+    (pendingIn (put₀ .console) output₀) (pendingIn (put .console) output) (put .console .failed) (put .more) number
+    × (length output ≡ length output₀) × (put .more ≡ true → number ≤ 4097)
 
 abbrev μ-loop : tie.MeasureT-loop
 μ-loop output₀ d initial offsets put₀ number₀ output put number = left 4097 (put .more) number
 
 loop-holds : tie.Need-loop-holds Inv-loop μ-loop
-loop-holds c = (λ e. omega arith, refl)
+loop-holds c = (putting-none _ _ _ _ _, refl, λ e. omega arith)
 
 add-number : tie.Need-add-number Inv-loop μ-loop
 add-number c =
     let l = c .before .before .before .before in
-    omega (arith, l .before .loop .inv .0 (l .loop-test .taken))
+    omega (arith, l .before .loop .inv .2 (l .loop-test .taken))
 
 loop-less : tie.Need-loop-less Inv-loop μ-loop
 loop-less c =
     let l = c .before .before .before .before in
-    left-more 4097 (l .before .loop .number) _ (c .before .before .put-record .result .more) (l .before .loop .inv .0) (l .loop-test .taken)
+    left-more 4097 (l .before .loop .number) _ (c .before .before .put-record .result .more) (l .before .loop .inv .2) (l .loop-test .taken)
 
 loop-again : tie.Need-loop-again Inv-loop μ-loop
-loop-again c = (λ e. omega (arith, given-within _ _ _ _ _ (c .before .before .put-record .ensures e)), search needs)
+loop-again c =
+    let p = c .before .before in
+    let l = p .before .before in
+    let e = p .put-record .ensures in
+    let before : Putting _ _ _ _ _ _ true _ = rw (l .loop-test .taken) at (l .before .loop .inv .0) in (
+      putting-more _ _ _ _ (λ n told. given-within _ _ _ n _ told .within) _ _ _ _ _ _ before (e .0) (e .1),
+      search needs,
+      λ more. let told = given-within _ _ _ _ _ (more-passed _ _ (p .put-record .result .console .failed) (e .1) more) in omega (arith, told .within, told .few),
+    )
+
+returns : tie.Need-returns Inv-loop μ-loop
+unfolding setRecords setRecord recordsOf
+returns c went holds =
+    let l = c .before in
+    rw (set-length _ _ _) (l .before .loop .inv .0 .all (l .loop-test .left) went (each-given _ holds))
 
 pub put-records-spec : {M : Type 1} → statement M
 put-records-spec =
@@ -45,4 +69,4 @@ put-records-spec =
     loop-less
     loop-again
     (λ c. search needs)
-    (λ c. search needs))
+    returns)
