@@ -1,5 +1,5 @@
 -- Records that the writer gives, and those that are put.
-use mathlib.Core.Path.{_≡_, ap, _∙_}
+use mathlib.Core.Path.{_≡_}
 use mathlib.Core.Bool.{Bool, false, not, _&&_}
 use mathlib.Core.List.{List, [], _∷_, _++_}
 use Prim.Native.Nat.{ℕ, _+_, _≤_, _<_}
@@ -11,18 +11,23 @@ use Rattle.refusal.specs.declared.Verdict.{Verdict}
 use Rattle.refusal.specs.Checks.{passes}
 use Rattle.design.specs.declared.Design.{Design}
 use Rattle.writing.specs.declared.Written.{Written}
-use Rattle.records.specs.IntelHex.{dataCount, recordCount, bytesBefore, lengthAt, recordsOf}
-use Rattle.records.specs.SetBytes.{byteCount, setBytes, setRecord, setRecords}
+use Rattle.records.specs.IntelHex.{dataCount, recordCount, bytesBefore, lengthAt}
+use Rattle.records.specs.SetBytes.{byteCount, mostBytes, setBytes, setRecord}
 use Rattle.records.specs.Record.{longestRecord}
-use Rattle.records.proofs.BytesLaws.{record-length, set-length}
+use Rattle.records.proofs.BytesLaws.{record-length}
 use Rattle.record_writing.specs.WriteRecord.{hexWriteVerdict, hexWriteAnswer, recordBufferAfter}
-use Rattle.record_writing.proofs.GivenLaws.{given, record-given}
+use Rattle.record_writing.proofs.GivenLaws.{record-given}
 use Rattle.storage.specs.Sets.{TableSet}
 use Rattle.record_storage.specs.RecordStorage.{Recordable}
 use Rattle.record_storage.proofs.Giving.{gives}
-use Rattle.console.specs.Writing.{Puts, printed}
+use Rattle.console.specs.Writing.{Puts}
 use Rattle.set_console.specs.Writing.{putIf}
 use Rattle.set_console.proofs.PutLaws.{written-length, put-given, put-none}
+
+-- A set whose bytes have addresses has few records.
+pub addressed-few : (total : ℕ) → total ≤ mostBytes → recordCount total ≤ 4097
+unfolding recordCount dataCount
+addressed-few total h = omega arith
 
 module _ (d : Design) (initial : List ℕ) (offsets : List ℤ) (n : ℕ) where
   -- No record of a set is too long.
@@ -34,18 +39,7 @@ module _ (d : Design) (initial : List ℕ) (offsets : List ℤ) (n : ℕ) where
     abbrev asked : Verdict
     asked = hexWriteVerdict d initial offsets n room
 
-    -- A record that the writer gives is one of the set's, of which there are few.
-    pub record Within : Type 0 where
-      pub within : n < recordCount (byteCount d)
-      pub few : recordCount (byteCount d) ≤ 4097
-
-    pub given-within : asked ≡ Verdict.Passed → Within
-    unfolding recordCount dataCount
-    given-within e =
-        let told = given d initial offsets n room e in
-        record { within = told .within; few = omega (arith, told .addressed) }
-
-    -- It leaves room for a newline,
+    -- A record that the writer gives leaves room for a newline,
     pub given-short : {digits : ℕ} → hexWriteAnswer d initial offsets n room ≡ Written.Length digits → digits ≤ longestRecord
     unfolding hexWriteAnswer
     given-short e = omega (arith, written-length asked (setRecord d initial offsets n) e, record-short)

@@ -285,7 +285,7 @@ fn put_record(
     }
 }
 
-// Puts the records of a set, one after another, until the writer gives no more.
+// inner: puts the records of a set, one after another, until the writer gives no more. The writer gives all of them.
 pub fn put_records(
     console: Console,
     output: &mut [u8],
@@ -293,8 +293,9 @@ pub fn put_records(
     initial: &[u32],
     offsets: &[i32],
 ) -> Console
+    requires { ⌜ Recordable (record { design = d; initial = now initial; offsets = now offsets }) ⌝ }
     ensures { λ r.
-        ⌜ (r .failed ≡ false → Recordable (record { design = d; initial = now (initial .entry); offsets = now (offsets .entry) })
+        ⌜ (r .failed ≡ false
         → Puts (pendingIn console (now (output .entry))) (printed (setRecords d (now (initial .entry)) (now (offsets .entry))))
         (pendingIn r (now (output .exit)))) ⌝ }
 {

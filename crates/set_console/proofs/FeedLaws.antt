@@ -11,11 +11,20 @@ use Rattle.refusal.specs.declared.Verdict.{Verdict}
 use Rattle.reading.specs.declared.Reading.{Reading}
 use Rattle.reading.specs.declared.Read.{Read}
 use Rattle.reading.specs.ReadLine.{finished, Session, session, verdictOn, after, readAnswer}
-use Rattle.storage.specs.Feeding.{feed, accepted, finishedBy, finishes}
+use Rattle.storage.specs.Sets.{Storable}
+use Rattle.storage.specs.Feeding.{Begins, Finished, feed, accepted, finishedBy, finishes}
+use Rattle.storage.specs.Storage.{setIn}
+use Rattle.storage.proofs.Stored.{storage}
 use Rattle.storage.proofs.Feeds.{feed-append, accepted-append, finishes-append}
 use Rattle.storage.proofs.Uniqueness.{refused-stands}
 use Rattle.set_console.specs.declared.Came.{Came}
-use Rattle.set_console.specs.Reading.{cameOf, cameBy, cameOn, isLine, linesWith, finishedAs, Led}
+use Rattle.set_console.specs.Reading.{cameOf, cameBy, cameOn, isLine, linesWith, finishedAs, Led, Reached}
+
+unset : (came : Came) (s : Session) → finishedAs came s ≡ [] → came ≡ Came.Set → ⊥
+unset Came.Set s none e = let z : _≡_ {A = ℕ} 0 1 = cc in omega arith
+unset Came.Line s none e = let z : _≡_ {A = ℕ} 0 1 = cc in omega arith
+unset Came.Nothing s none e = let z : _≡_ {A = ℕ} 0 1 = cc in omega arith
+unset (Came.Refused cause) s none e = let z : _≡_ {A = ℕ} 0 1 = cc in omega arith
 
 -- No line came yet, or none comes any more: the reading stands.
 stands : (s : Session) (n : ℕ) (came : Came) → finishedAs came s ≡ [] → ((cause : Cause) → came ≡ Came.Refused cause → ⊥) → Led s s n n came
@@ -27,6 +36,7 @@ stands s n came none other =
       all-taken = refl;
       counted = omega arith;
       sets = sym none;
+      complete = λ e. absurd (unset came s none e);
       line = [];
       refused = λ cause e. absurd (other cause e);
     }
@@ -69,6 +79,10 @@ module _ (state : Reading) (initial initial' : List ℕ) (offsets offsets' : Lis
         → (session (read .state) initial' offsets' ≡ after s line) × (cameOf (finished (read .state)) ≡ cameOn s line)
     fed-taken e = (rw (initial-is, offsets-is, state-told), rw (state-told, verdict-told e))
 
+only-finished : (is : Bool) → cameOf is ≡ Came.Set → is ≡ true
+only-finished true e = refl
+only-finished false e = let z : _≡_ {A = ℕ} 0 1 = cc in absurd (omega arith)
+
 -- A line that was taken is one more.
 pub one-line-more : (is : Bool) (n : ℕ) → linesWith (cameOf is) n ≡ n + 1
 one-line-more true n = refl
@@ -90,6 +104,7 @@ module _ (s : Session) (line : List ℕ) where
         all-taken = rw e;
         counted = one-line-more is n;
         sets = rw (e, f) (one-finish is);
+        complete = λ set. f ∙ only-finished is set;
         line = line;
         refused = λ cause same. absurd (taken-no-refusal is cause same);
       }
@@ -101,6 +116,7 @@ module _ (s : Session) (line : List ℕ) where
         all-taken = refl;
         counted = omega arith;
         sets = refl;
+        complete = λ set. let z : _≡_ {A = ℕ} 0 1 = cc in absurd (omega arith);
         line = line;
         refused = λ other same. e ∙ ap Verdict.Refused (cc);
       })
@@ -119,9 +135,30 @@ led-more s next end n m k came first rest =
       all-taken = accepted-append (rest .lines) (first .lines) s ∙ rw (first .fed, first .all-taken, rest .all-taken);
       counted = omega (arith, first .counted, rest .counted, length-append (first .lines) (rest .lines));
       sets = finishes-append (rest .lines) (first .lines) s ∙ rw (first .sets, first .fed) (rest .sets);
+      complete = rest .complete;
       line = rest .line;
       refused = rest .refused;
     }
+
+-- A reading that began with no line taken, and where lines lead that are fed to it
+pub reached-begin : (s : Session) → Begins s → Reached s
+unfolding feed
+reached-begin s begins = record { start = s; begins = begins; lines = []; fed = refl }
+
+pub reached-more : {s next : Session} {n m : ℕ} {came : Came} → Reached s → Led s next n m came → Reached next
+reached-more r led =
+    record {
+      start = r .start;
+      begins = r .begins;
+      lines = r .lines ++ led .lines;
+      fed = feed-append (led .lines) (r .lines) (r .start) ∙ rw (r .fed) (led .fed);
+    }
+
+-- A set that it is finished with can be stored.
+pub reached-set : {s : Session} → Reached s → Finished s → Storable (setIn s)
+reached-set r done =
+    let whole = storage .unique (r .start) (r .lines) (r .begins) (rw (r .fed) done) in
+    rw (r .fed) at (whole .storable)
 
 -- The state of things while a set is read: more of it may come, or what came last ended it.
 pub record Underway (before next : Session) (first : ℕ) (lines : ℕ) (came : Came) (more : Bool) : Type 0 where

@@ -55,11 +55,6 @@ module _ (v : Verdict) (text : List ℕ) where
       go Verdict.Passed same = let z : _≡_ {A = ℕ} 0 1 = cc in absurd (omega arith)
       go (Verdict.Refused other) same = (puts-none start, refl)
 
--- Where there is more to put, the text that was asked for was given.
-pub more-passed : (v : Verdict) (more failed : Bool) → more ≡ (passes v && not failed) → more ≡ true → v ≡ Verdict.Passed
-more-passed Verdict.Passed more failed told e = refl
-more-passed (Verdict.Refused cause) more failed told e = absurd (true≢false (sym e ∙ told))
-
 -- A text and a newline behind it, put from a buffer
 pub text-puts : (c : Console) (block buffer after : List ℕ) (count : ℕ) → count < length buffer
     → after ≡ pendingWith c block (take (count + 1) (set buffer count 10)) → Puts (pendingIn c block) (take count buffer ++ 10 ∷ []) after

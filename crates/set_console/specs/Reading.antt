@@ -11,7 +11,7 @@ use Rattle.design.specs.declared.Design.{Design}
 use Rattle.design.specs.Legal.{Legal}
 use Rattle.tables.specs.Inputs.{Usable}
 use Rattle.reading.specs.ReadLine.{finished, Session, verdictOn, after}
-use Rattle.storage.specs.Feeding.{feed, accepted, finishes}
+use Rattle.storage.specs.Feeding.{Begins, Finished, feed, accepted, finishes}
 use Rattle.set_console.specs.declared.Came.{Came}
 
 -- Tables of these lengths hold every legal set, so that 10 never turns one down.
@@ -68,6 +68,14 @@ pub record Led (before next : Session) (first last : ℕ) (came : Came) : Type 0
   pub counted : last ≡ first + length lines
   -- A set is said to be finished exactly where one is, and only with the last of these lines.
   pub sets : finishes before lines ≡ finishedAs came next
+  pub complete : came ≡ Came.Set → Finished next
   -- Some line that the reader refuses for a cause is there where one is said to be refused for it.
   pub line : List ℕ
   pub refused : (cause : Cause) → came ≡ Came.Refused cause → verdictOn next line ≡ Verdict.Refused cause
+
+-- A reading that some lines led to from one "begun with no line taken"
+pub record Reached (s : Session) : Type 0 where
+  pub start : Session
+  pub begins : Begins start
+  pub lines : List (List ℕ)
+  pub fed : feed start lines ≡ s

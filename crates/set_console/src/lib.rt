@@ -14,7 +14,7 @@ ghost use Rattle.reading.specs.ReadLine.{session, after};
 ghost use Rattle.storage.specs.Sets.{Storable};
 ghost use Rattle.console.specs.Writing.{pendingIn, Puts, printed};
 ghost use Rattle.set_console.specs.Writing.{putIf};
-ghost use Rattle.set_console.specs.Reading.{HoldsEverySet, cameOf, cameOn, isLine, isSet, linesWith, Led};
+ghost use Rattle.set_console.specs.Reading.{HoldsEverySet, cameOf, cameOn, isLine, isSet, linesWith, Led, Reached};
 use checking::Checked;
 use console::Console;
 use console::KEPT;
@@ -182,7 +182,7 @@ fn take_line(
 }
 
 // inner: reads on, from the reading as it came, until a line finishes a set, is refused, or does not come. The tables hold every legal set, so
-// no line is refused for them.
+// no line is refused for them; and a set that is read is one that can be stored.
 pub fn read_set(
     set: SetRead,
     input: &mut [u8],
@@ -191,6 +191,7 @@ pub fn read_set(
     offsets: &mut [i32],
 ) -> SetRead
     requires { ⌜ HoldsEverySet (length (now initial)) (length (now offsets)) ⌝ }
+    requires { ⌜ Reached (session (set .state) (now initial) (now offsets)) ⌝ }
     ensures led { λ r.
         ⌜ Led (session (set .state) (now (initial .entry)) (now (offsets .entry)))
         (session (r .state) (now (initial .exit)) (now (offsets .exit))) (set .lines) (r .lines) (r .came) ⌝ }
@@ -198,6 +199,10 @@ pub fn read_set(
     ensures later { λ r. ⌜ (r .came ≡ Came.Set → set .lines < r .lines) ⌝ }
     ensures few { λ r. ⌜ r .lines < 2 ^ 64 ⌝ }
     ensures held { λ r. ⌜ (r .came ≡ Came.Refused Cause.TablesShort → ⊥) ⌝ }
+    ensures reached { λ r. ⌜ Reached (session (r .state) (now (initial .exit)) (now (offsets .exit))) ⌝ }
+    ensures storable { λ r.
+        ⌜ (r .came ≡ Came.Set
+        → Storable (record { design = r .state .design; initial = now (initial .exit); offsets = now (offsets .exit) })) ⌝ }
 {
     let mut next = set;
     let mut more = true;

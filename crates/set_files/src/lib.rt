@@ -5,8 +5,9 @@ ghost use Prim.Native.Nat.{_^_, _<_};
 ghost use lib.ListN.{length};
 ghost use Rattle.refusal.specs.declared.Cause.{Cause};
 ghost use Rattle.reading.specs.ReadLine.{session};
+ghost use Rattle.storage.specs.Sets.{Storable};
 ghost use Rattle.set_console.specs.declared.Came.{Came};
-ghost use Rattle.set_console.specs.Reading.{HoldsEverySet, Led};
+ghost use Rattle.set_console.specs.Reading.{HoldsEverySet, Led, Reached};
 ghost use Rattle.set_files.specs.Whole.{isWhole};
 use checking::check;
 use console::BLOCK;
@@ -60,6 +61,7 @@ fn put_between(task: Task, any: bool, console: Console, output: &mut [u8]) -> Co
     }
 }
 
+// Writes what there is to say of a set, which is one that can be stored.
 fn put_answer(
     task: Task,
     console: Console,
@@ -67,7 +69,9 @@ fn put_answer(
     d: Design,
     initial: &[u32],
     offsets: &[i32],
-) -> Console {
+) -> Console
+    requires { ⌜ Storable (record { design = d; initial = now initial; offsets = now offsets }) ⌝ }
+{
     match task {
         Task::Check => put_checked(console, output, check(d, initial, offsets)),
         Task::Count => put_counted(console, output, count(d, initial, offsets)),
@@ -83,7 +87,9 @@ fn put_came(
     output: &mut [u8],
     initial: &[u32],
     offsets: &[i32],
-) -> Console {
+) -> Console
+    requires { ⌜ (set .came ≡ Came.Set → Storable (record { design = set .state .design; initial = now initial; offsets = now offsets })) ⌝ }
+{
     let before = set.console;
     let state = set.state;
     let came = set.came;
@@ -113,12 +119,14 @@ fn answer_next(
     offsets: &mut [i32],
 ) -> Answered
     requires { ⌜ HoldsEverySet (length (now initial)) (length (now offsets)) ⌝ }
+    requires { ⌜ Reached (session (set .state) (now initial) (now offsets)) ⌝ }
     ensures led { λ r.
         ⌜ Led (session (set .state) (now (initial .entry)) (now (offsets .entry)))
         (session (r .set .state) (now (initial .exit)) (now (offsets .exit))) (set .lines) (r .set .lines) (r .set .came) ⌝ }
     ensures later { λ r. ⌜ (r .more ≡ true → set .lines < r .set .lines) ⌝ }
     ensures few { λ r. ⌜ r .set .lines < 2 ^ 64 ⌝ }
     ensures held { λ r. ⌜ (r .set .came ≡ Came.Refused Cause.TablesShort → ⊥) ⌝ }
+    ensures reached { λ r. ⌜ Reached (session (r .set .state) (now (initial .exit)) (now (offsets .exit))) ⌝ }
 {
     let read = read_set(set, input, output, initial, offsets);
     let state = read.state;

@@ -4,7 +4,7 @@ use mathlib.Core.Bool.{true}
 use lib.ListN.{length}
 use borrow.Author.Needs.{needs}
 use Rattle.reading.specs.ReadLine.{session}
-use Rattle.set_console.proofs.FeedLaws.{Underway, underway, underway-more, linesLeft, fewer-left, line-more}
+use Rattle.set_console.proofs.FeedLaws.{reached-more, reached-set, Underway, underway, underway-more, linesLeft, fewer-left, line-more}
 use Rattle.set_console.proofs.ShortLaws.{never-short}
 use Rattle.set_console.proofs.read_set.Statement.{statement}
 use Rattle.set_console.proofs.read_set.Tie as tie
@@ -41,8 +41,14 @@ returns c =
     let l = c .before in
     let inv = l .loop .inv in
     let u = rw (c .loop-test .left) at (inv .0) in
-    let holds = rw (sym (inv .2), sym (inv .3)) at (l .before .before .before .before .pre) in
-    (u .led, (u .ended refl, (u .later refl, (u .few refl, λ e. never-short _ _ holds (u .led .refused _ e)))))
+    let holds = rw (sym (inv .2), sym (inv .3)) at (l .before .before .before .before .pre .0) in
+    let reached = reached-more (l .before .before .before .before .pre .1) (u .led) in (
+      u .led,
+      (
+        u .ended refl,
+        (u .later refl, (u .few refl, (λ e. never-short _ _ holds (u .led .refused _ e), (reached, λ e. reached-set reached (u .led .complete e))))),
+      ),
+    )
 
 pub read-set-spec : {M : Type 1} → statement M
 read-set-spec =
