@@ -2,3 +2,4 @@
 pub mod LineLaws
 pub mod BlockLaws
 pub mod PutLaws
+pub mod TakeLaws

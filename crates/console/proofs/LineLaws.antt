@@ -63,5 +63,6 @@ whole-line bytes start long read =
     record {
       counts = read .counts;
       no-newline = read .no-newline;
+      none = read .none;
       cut = λ e rest. cut-fails bytes rest (start .count) (read .counts .0) (omega (arith, read .full e));
     }

@@ -1,10 +1,10 @@
 -- What can be said of input, whatever it is.
 use mathlib.Core.Path.{_≡_}
 use mathlib.Core.Bool.{Bool, true, false, cond, _&&_}
-use mathlib.Core.List.{List, _++_}
+use mathlib.Core.List.{List, [], _∷_, _++_}
 use Prim.Native.Nat.{ℕ, _+_, _<_}
 use lib.Dec.{ltb}
-use lib.ListN.{length, getD, take}
+use lib.ListN.{length, getD, take, drop}
 use Rattle.frames.specs.Line.{lineFails}
 use Rattle.console.specs.declared.Console.{Console}
 use Rattle.console.specs.declared.Next.{Next}
@@ -35,6 +35,16 @@ pub record NextRead (c : Console) (before block : List ℕ) (next : Next) : Type
   pub begun : Console
   pub from-start : inBlock c before .ended ≡ true → (begun .at ≡ 0) × (begun .pending ≡ 0) × (next ≡ inBlock begun block)
 
+-- What is left in the block
+abbrev pub leftIn : Console → List ℕ → List ℕ
+leftIn c block = drop (c .at) (take (c .count) block)
+
+-- Bytes that were taken one after another, in so many calls: what was left in the block and then what came in later blocks are, byte for byte,
+-- these bytes and then what is left now.
+pub record Takes (before bytes after : List ℕ) : Type 0 where
+  pub came : List ℕ
+  pub whole : before ++ came ≡ bytes ++ after
+
 -- Document 01: "the line is all bytes before the first newline, or all there are if none comes". 10 is the newline.
 abbrev pub NoNewline : List ℕ → ℕ → Type 0
 NoNewline bytes n = (i : ℕ) → i < n → getD bytes i 0 ≡ 10 → ⊥
@@ -48,6 +58,13 @@ isAbsent LineEnd.Newline = false
 isAbsent LineEnd.Input = false
 isAbsent LineEnd.Cut = false
 isAbsent LineEnd.Absent = true
+
+-- The bytes of a line with what ended it: a newline, or nothing
+abbrev pub spelled : LineEnd → List ℕ → List ℕ
+spelled LineEnd.Newline line = line ++ 10 ∷ []
+spelled LineEnd.Input line = line
+spelled LineEnd.Cut line = line
+spelled LineEnd.Absent line = line
 
 -- The start of a line, read into bytes that the caller lends
 pub record StartRead (bytes : List ℕ) (start : LineStart) : Type 0 where
@@ -64,5 +81,7 @@ pub record LineRead (line : Line) : Type 0 where
   -- the bytes read are the first `count` of the array, and no newline is among them
   pub counts : Counts (line .count) (line .bytes)
   pub no-newline : NoNewline (line .bytes) (line .count)
+  -- it has none where it is said to be absent
+  pub none : line .end ≡ LineEnd.Absent → line .count ≡ 0
   -- a line that is said to be cut off is refused with 15, "over 32 digits", whatever follows what was read
   pub cut : line .end ≡ LineEnd.Cut → (rest : List ℕ) → lineFails (take (line .count) (line .bytes) ++ rest) ≡ true

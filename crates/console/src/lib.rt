@@ -5,8 +5,19 @@ mod output;
 
 ghost use mathlib.Core.Path.{_≡_};
 ghost use mathlib.Core.Bool.{false};
-ghost use lib.ListN.{length};
-ghost use Rattle.console.specs.Reading.{inBlock, withBlock, NextRead, lastEnd, isAbsent, StartRead, LineRead};
+ghost use lib.ListN.{length, take};
+ghost use Rattle.console.specs.Reading.{
+  inBlock,
+  withBlock,
+  NextRead,
+  leftIn,
+  Takes,
+  lastEnd,
+  isAbsent,
+  spelled,
+  StartRead,
+  LineRead,
+};
 ghost use Rattle.io.specs.Counts.{clamped};
 use frames::LONGEST_LINE;
 use libc::STDIN_FILENO;
@@ -130,7 +141,10 @@ impl Console {
     // inner: the start of a line, up to the newline, the end of the input, or so many bytes as the lent ones are; they stand at the start of
     // these. No more of the line is looked at, so endless input does no harm.
     pub fn read_start(self, input: &mut [u8], output: &[u8], bytes: &mut [u8]) -> LineStart
-        ensures { λ r. ⌜ StartRead (now (bytes .exit)) r ⌝ }
+        ensures start { λ r. ⌜ StartRead (now (bytes .exit)) r ⌝ }
+        ensures taken { λ r.
+            ⌜ Takes (leftIn self (now (input .entry))) (spelled (r .end) (take (r .count) (now (bytes .exit))))
+            (leftIn (r .console) (now (input .exit))) ⌝ }
     {
         let mut console = self;
         let mut count: usize = 0;
@@ -163,7 +177,10 @@ impl Console {
     }
 
     pub fn read_line(self, input: &mut [u8], output: &[u8]) -> Line
-        ensures { λ r. ⌜ LineRead r ⌝ }
+        ensures line { λ r. ⌜ LineRead r ⌝ }
+        ensures taken { λ r.
+            ⌜ Takes (leftIn self (now (input .entry))) (spelled (r .end) (take (r .count) (r .bytes)))
+            (leftIn (r .console) (now (input .exit))) ⌝ }
     {
         let mut bytes = [0u8; KEPT];
         let start = self.read_start(input, output, &mut bytes);

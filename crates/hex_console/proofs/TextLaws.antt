@@ -13,7 +13,7 @@ use Rattle.records.specs.Record.{longestRecord}
 use Rattle.records.proofs.RecordLaws as RecordLaws
 use Rattle.console.specs.declared.LineEnd.{LineEnd}
 use Rattle.console.specs.declared.LineStart.{LineStart}
-use Rattle.console.specs.Reading.{StartRead}
+use Rattle.console.specs.Reading.{Takes, spelled, StartRead}
 use Rattle.hex_console.specs.LineTexts.{withoutReturn, lineText, TextFails, TextRead}
 use Rattle.io.proofs.Counting.{counts}
 
@@ -56,12 +56,13 @@ long-text-fails : (text : List ℕ) → longestRecord < length text → TextFail
 long-text-fails text long = record { as-record = RecordLaws.long-fails text long; as-line = long-fails text (omega arith) }
 
 -- A line is read into so many bytes or more, and `count` of them stand on it.
-pub text-read : (bytes : List ℕ) (start : LineStart) (count : ℕ) → longestRecord + 2 ≤ length bytes → StartRead bytes start
-    → count ≤ start .count → take count bytes ≡ lineText (start .end) (take (start .count) bytes)
-    → TextRead bytes (record { console = start .console; count = count; end = start .end })
-text-read bytes start count room read few text =
+pub text-read : (bytes : List ℕ) (start : LineStart) (left after : List ℕ) (count : ℕ) → longestRecord + 2 ≤ length bytes
+    → StartRead bytes start → Takes left (spelled (start .end) (take (start .count) bytes)) after → count ≤ start .count → take count bytes ≡ lineText (start .end) (take (start .count) bytes)
+    → TextRead bytes (record { console = start .console; count = count; end = start .end }) left after
+text-read bytes start left after count room read takes few text =
     record {
       read = start .count;
+      taken = takes;
       read-counts = read .counts;
       no-newline = read .no-newline;
       counts = counts _ _ (omega (arith, read .counts .0));

@@ -9,7 +9,7 @@ use Rattle.frames.specs.Line.{lineFails}
 use Rattle.records.specs.Record.{recordFails}
 use Rattle.console.specs.declared.LineEnd.{LineEnd}
 use Rattle.console.specs.declared.LineStart.{LineStart}
-use Rattle.console.specs.Reading.{NoNewline}
+use Rattle.console.specs.Reading.{Takes, NoNewline, spelled}
 use Rattle.io.specs.Counts.{Counts}
 
 -- Bytes without one carriage return at their end, if there is one. 13 is the carriage return.
@@ -28,10 +28,11 @@ pub record TextFails (text : List ℕ) : Type 0 where
   pub as-record : recordFails text ≡ true
   pub as-line : lineFails text ≡ true
 
--- The text of a line that is read into lent bytes
-pub record TextRead (bytes : List ℕ) (line : LineStart) : Type 0 where
-  -- so many bytes of the line were read, and no newline is among them
+-- The text of a line that is read into lent bytes; `left` and `after` are what is left in the block of the input before and now.
+pub record TextRead (bytes : List ℕ) (line : LineStart) (left after : List ℕ) : Type 0 where
+  -- so many bytes of the line were taken from the input, and no newline is among them
   pub read : ℕ
+  pub taken : Takes left (spelled (line .end) (take read bytes)) after
   pub read-counts : Counts read bytes
   pub no-newline : NoNewline bytes read
   -- what stands on the line are the first `count`

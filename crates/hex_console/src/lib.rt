@@ -11,6 +11,7 @@ ghost use Rattle.records.specs.SetBytes.{setRecord, setRecords};
 ghost use Rattle.record_writing.specs.WriteRecord.{hexWriteVerdict};
 ghost use Rattle.record_reading.specs.ReadRecord.{hexFinished, hexSession};
 ghost use Rattle.record_storage.specs.RecordStorage.{Recordable};
+ghost use Rattle.console.specs.Reading.{leftIn};
 ghost use Rattle.console.specs.Writing.{pendingIn, Puts, printed};
 ghost use Rattle.set_console.specs.Reading.{cameBy, isLine};
 ghost use Rattle.set_console.specs.Writing.{putIf};
@@ -71,7 +72,8 @@ fn text_length(bytes: &[u8], count: usize, end: LineEnd) -> usize
 // Reads a line of the input; its text stands at the start of the lent bytes.
 fn read_text(console: Console, input: &mut [u8], output: &[u8], bytes: &mut [u8]) -> LineStart
     requires { ⌜ longestRecord + 2 ≤ length (now bytes) ⌝ }
-    ensures { λ r. ⌜ TextRead (now (bytes .exit)) r ⌝ }
+    ensures { λ r.
+        ⌜ TextRead (now (bytes .exit)) r (leftIn console (now (input .entry))) (leftIn (r .console) (now (input .exit))) ⌝ }
 {
     let start = console.read_start(input, output, bytes);
     let next = start.console;

@@ -1,10 +1,12 @@
 -- What lines that are read do to a reading, one after another.
 use mathlib.Core.Path.{_≡_, refl, sym, ap, _∙_}
 use mathlib.Core.Bool.{Bool, true, false, cond, true≢false}
-use mathlib.Core.List.{List, [], _∷_, _++_}
+use mathlib.Core.List.{List, [], _∷_, _++_, append-assoc, append-nil, map-append}
 use Prim.Native.Nat.{ℕ, _+_, _-_, _^_, _≤_, _<_}
+use native.Mathlib.Nat.{not-suc-le-zero}
 use native.Mathlib.Omega.{arith}
-use lib.ListN.{length-append}
+use lib.ListN.{length, take, length-append}
+use lib.Seq.{length-take-le, getD-take}
 use lib.IntN.{ℤ}
 use Rattle.refusal.specs.declared.Cause.{Cause}
 use Rattle.refusal.specs.declared.Verdict.{Verdict}
@@ -17,8 +19,25 @@ use Rattle.storage.specs.Storage.{setIn}
 use Rattle.storage.proofs.Stored.{storage}
 use Rattle.storage.proofs.Feeds.{feed-append, accepted-append, finishes-append}
 use Rattle.storage.proofs.Uniqueness.{refused-stands}
+use Rattle.console.specs.declared.LineEnd.{LineEnd}
+use Rattle.console.specs.declared.Line.{Line}
+use Rattle.console.specs.Reading.{Takes, NoNewline, isAbsent, spelled, LineRead}
+use Rattle.console.proofs.TakeLaws.{takes-none, takes-more}
 use Rattle.set_console.specs.declared.Came.{Came}
-use Rattle.set_console.specs.Reading.{cameOf, cameBy, cameOn, isLine, linesWith, finishedAs, Led, Reached}
+use Rattle.set_console.specs.Reading.{
+  cameOf,
+  cameBy,
+  cameOn,
+  isLine,
+  linesWith,
+  finishedAs,
+  InputLine,
+  textsOf,
+  inputBytes,
+  refusedBytes,
+  Led,
+  Reached,
+}
 
 unset : (came : Came) (s : Session) → finishedAs came s ≡ [] → came ≡ Came.Set → ⊥
 unset Came.Set s none e = let z : _≡_ {A = ℕ} 0 1 = cc in omega arith
@@ -27,9 +46,13 @@ unset Came.Nothing s none e = let z : _≡_ {A = ℕ} 0 1 = cc in omega arith
 unset (Came.Refused cause) s none e = let z : _≡_ {A = ℕ} 0 1 = cc in omega arith
 
 -- No line came yet, or none comes any more: the reading stands.
-stands : (s : Session) (n : ℕ) (came : Came) → finishedAs came s ≡ [] → ((cause : Cause) → came ≡ Came.Refused cause → ⊥) → Led s s n n came
-unfolding feed accepted finishes
-stands s n came none other =
+no-line : InputLine
+no-line = record { line = []; no-newline = λ i h. absurd (not-suc-le-zero h); end = LineEnd.Absent }
+
+stands : (s : Session) (left after : List ℕ) (n : ℕ) (came : Came) → finishedAs came s ≡ []
+    → ((cause : Cause) → came ≡ Came.Refused cause → ⊥) → refusedBytes came no-line ≡ [] → Takes left [] after → Led s s left after n n came
+unfolding feed accepted finishes inputBytes
+stands s left after n came none other nothing takes =
     record {
       lines = [];
       fed = refl;
@@ -37,15 +60,36 @@ stands s n came none other =
       counted = omega arith;
       sets = sym none;
       complete = λ e. absurd (unset came s none e);
-      line = [];
+      line = no-line;
       refused = λ cause e. absurd (other cause e);
+      taken = rw nothing takes;
     }
 
-pub none-yet : (s : Session) (n : ℕ) → Led s s n n Came.Line
-none-yet s n = stands s n Came.Line refl (λ cause e. let z : _≡_ {A = ℕ} 0 1 = cc in omega arith)
+pub none-yet : (s : Session) (left : List ℕ) (n : ℕ) → Led s s left left n n Came.Line
+none-yet s left n = stands s left left n Came.Line refl (λ cause e. let z : _≡_ {A = ℕ} 0 1 = cc in omega arith) refl (takes-none left)
 
-pub nothing-came : (s : Session) (n : ℕ) → Led s s n n Came.Nothing
-nothing-came s n = stands s n Came.Nothing refl (λ cause e. let z : _≡_ {A = ℕ} 0 1 = cc in omega arith)
+pub nothing-came : (s : Session) (left after : List ℕ) (n : ℕ) → Takes left [] after → Led s s left after n n Came.Nothing
+nothing-came s left after n takes =
+    stands s left after n Came.Nothing refl (λ cause e. let z : _≡_ {A = ℕ} 0 1 = cc in omega arith) refl takes
+
+-- No newline is among the bytes of a line that was read.
+pub no-newlines : (line : Line) → LineRead line → let bytes = take (line .count) (line .bytes) in NoNewline bytes (length bytes)
+no-newlines line read i h =
+    let n = line .count in
+    let long = length-take-le n (line .bytes) (read .counts .0) in
+    rw (getD-take n (line .bytes) i 0 (omega (arith, long))) (read .no-newline i (omega (arith, long)))
+
+-- A line that is absent has no bytes.
+pub absent-takes : (line : Line) (left after : List ℕ) → LineRead line → Takes left (spelled (line .end) (take (line .count) (line .bytes))) after
+    → isAbsent (line .end) ≡ true → Takes left [] after
+absent-takes line left after read takes absent = go (line .end) refl absent takes
+  where
+    go : (end : LineEnd) → line .end ≡ end → isAbsent end ≡ true → Takes left (spelled end (take (line .count) (line .bytes))) after
+        → Takes left [] after
+    go LineEnd.Newline is e t = absurd (true≢false (sym e))
+    go LineEnd.Input is e t = absurd (true≢false (sym e))
+    go LineEnd.Cut is e t = absurd (true≢false (sym e))
+    go LineEnd.Absent is e t = rw (read .none is) at t
 
 taken-no-refusal : (is : Bool) (cause : Cause) → cameOf is ≡ Came.Refused cause → ⊥
 taken-no-refusal true cause e = let z : _≡_ {A = ℕ} 0 1 = cc in omega arith
@@ -79,6 +123,10 @@ module _ (state : Reading) (initial initial' : List ℕ) (offsets offsets' : Lis
         → (session (read .state) initial' offsets' ≡ after s line) × (cameOf (finished (read .state)) ≡ cameOn s line)
     fed-taken e = (rw (initial-is, offsets-is, state-told), rw (state-told, verdict-told e))
 
+no-refusal-bytes : (is : Bool) (l : InputLine) → refusedBytes (cameOf is) l ≡ []
+no-refusal-bytes true l = refl
+no-refusal-bytes false l = refl
+
 only-finished : (is : Bool) → cameOf is ≡ Came.Set → is ≡ true
 only-finished true e = refl
 only-finished false e = let z : _≡_ {A = ℕ} 0 1 = cc in absurd (omega arith)
@@ -89,24 +137,29 @@ one-line-more true n = refl
 one-line-more false n = refl
 
 -- What a line does to a reading, and what it comes to
-module _ (s : Session) (line : List ℕ) where
+module _ (s : Session) (line : List ℕ) (plain : NoNewline line (length line)) (end : LineEnd) (left after-it : List ℕ)
+    (takes : Takes left (spelled end line) after-it) where
+  abbrev came-line : InputLine
+  came-line = record { line = line; no-newline = plain; end = end }
+
   one-finish : (is : Bool) → cond is (after s line ∷ []) [] ++ [] ≡ finishedAs (cameOf is) (after s line)
   one-finish true = refl
   one-finish false = refl
 
   led-by : (n : ℕ) (v : Verdict) (is : Bool) → verdictOn s line ≡ v → finished (after s line .state) ≡ is
-      → Led s (after s line) n (linesWith (cameBy v is) n) (cameBy v is)
-  unfolding feed accepted finishes finishedBy
+      → Led s (after s line) left after-it n (linesWith (cameBy v is) n) (cameBy v is)
+  unfolding feed accepted finishes finishedBy inputBytes
   led-by n Verdict.Passed is e f =
       record {
-        lines = line ∷ [];
+        lines = came-line ∷ [];
         fed = refl;
         all-taken = rw e;
         counted = one-line-more is n;
         sets = rw (e, f) (one-finish is);
         complete = λ set. f ∙ only-finished is set;
-        line = line;
+        line = no-line;
         refused = λ cause same. absurd (taken-no-refusal is cause same);
+        taken = rw (no-refusal-bytes is no-line, append-nil (spelled end line), append-nil (spelled end line)) takes;
       }
   led-by n (Verdict.Refused cause) is e f =
       rw (refused-stands s line cause e)
@@ -117,27 +170,42 @@ module _ (s : Session) (line : List ℕ) where
         counted = omega arith;
         sets = refl;
         complete = λ set. let z : _≡_ {A = ℕ} 0 1 = cc in absurd (omega arith);
-        line = line;
+        line = came-line;
         refused = λ other same. e ∙ ap Verdict.Refused (cc);
+        taken = takes;
       })
 
   pub led-line : (next : Session) (n m : ℕ) (came : Came) → next ≡ after s line → came ≡ cameOn s line → m ≡ linesWith came n
-      → Led s next n m came
+      → Led s next left after-it n m came
   led-line next n m came moved told counted =
       rw (moved, counted, told) (led-by n (verdictOn s line) (finished (after s line .state)) refl refl)
 
 -- One line more
-pub led-more : (s next end : Session) (n m k : ℕ) (came : Came) → Led s next n m Came.Line → Led next end m k came → Led s end n k came
-led-more s next end n m k came first rest =
+bytes-append : (a b : List InputLine) → inputBytes (a ++ b) ≡ inputBytes a ++ inputBytes b
+unfolding inputBytes
+bytes-append [] b = refl
+bytes-append (l ∷ a) b =
+    ap (_++_ (spelled (l .end) (l .line))) (bytes-append a b) ∙ sym (append-assoc (spelled (l .end) (l .line)) (inputBytes a) (inputBytes b))
+
+pub led-more : (s next end : Session) (left mid after : List ℕ) (n m k : ℕ) (came : Came) → Led s next left mid n m Came.Line
+    → Led next end mid after m k came → Led s end left after n k came
+led-more s next end left mid after n m k came first rest =
+    let firsts = textsOf (first .lines) in
+    let rests = textsOf (rest .lines) in
+    let both : textsOf (first .lines ++ rest .lines) ≡ firsts ++ rests = map-append _ (first .lines) (rest .lines) in
+    let bytes = inputBytes (rest .lines) ++ refusedBytes came (rest .line) in
     record {
       lines = first .lines ++ rest .lines;
-      fed = feed-append (rest .lines) (first .lines) s ∙ rw (first .fed) (rest .fed);
-      all-taken = accepted-append (rest .lines) (first .lines) s ∙ rw (first .fed, first .all-taken, rest .all-taken);
+      fed = rw both (feed-append rests firsts s ∙ rw (first .fed) (rest .fed));
+      all-taken = rw both (accepted-append rests firsts s ∙ rw (first .fed, first .all-taken, rest .all-taken));
       counted = omega (arith, first .counted, rest .counted, length-append (first .lines) (rest .lines));
-      sets = finishes-append (rest .lines) (first .lines) s ∙ rw (first .sets, first .fed) (rest .sets);
+      sets = rw both (finishes-append rests firsts s ∙ rw (first .sets, first .fed) (rest .sets));
       complete = rest .complete;
       line = rest .line;
       refused = rest .refused;
+      taken =
+          rw (bytes-append (first .lines) (rest .lines), append-assoc (inputBytes (first .lines)) (inputBytes (rest .lines)) (refusedBytes came (rest .line)))
+          (takes-more left mid after (inputBytes (first .lines)) bytes (rw (append-nil (inputBytes (first .lines))) at (first .taken)) (rest .taken));
     }
 
 -- A reading that began with no line taken, and where lines lead that are fed to it
@@ -145,13 +213,13 @@ pub reached-begin : (s : Session) → Begins s → Reached s
 unfolding feed
 reached-begin s begins = record { start = s; begins = begins; lines = []; fed = refl }
 
-pub reached-more : {s next : Session} {n m : ℕ} {came : Came} → Reached s → Led s next n m came → Reached next
+pub reached-more : {s next : Session} {left after : List ℕ} {n m : ℕ} {came : Came} → Reached s → Led s next left after n m came → Reached next
 reached-more r led =
     record {
       start = r .start;
       begins = r .begins;
-      lines = r .lines ++ led .lines;
-      fed = feed-append (led .lines) (r .lines) (r .start) ∙ rw (r .fed) (led .fed);
+      lines = r .lines ++ textsOf (led .lines);
+      fed = feed-append (textsOf (led .lines)) (r .lines) (r .start) ∙ rw (r .fed) (led .fed);
     }
 
 -- A set that it is finished with can be stored.
@@ -161,17 +229,17 @@ reached-set r done =
     rw (r .fed) at (whole .storable)
 
 -- The state of things while a set is read: more of it may come, or what came last ended it.
-pub record Underway (before next : Session) (first : ℕ) (lines : ℕ) (came : Came) (more : Bool) : Type 0 where
-  pub led : Led before next first lines (cond more Came.Line came)
+pub record Underway (before next : Session) (left after : List ℕ) (first : ℕ) (lines : ℕ) (came : Came) (more : Bool) : Type 0 where
+  pub led : Led before next left after first lines (cond more Came.Line came)
   pub ended : more ≡ false → isLine came ≡ false
   pub from : first ≤ lines
   pub later : more ≡ false → came ≡ Came.Set → first < lines
   pub few : more ≡ false → lines < 2 ^ 64
 
-pub underway : (s : Session) (lines : ℕ) (came : Came) → Underway s s lines lines came true
-underway s lines came =
+pub underway : (s : Session) (left : List ℕ) (lines : ℕ) (came : Came) → Underway s s left left lines lines came true
+underway s left lines came =
     record {
-      led = none-yet s lines;
+      led = none-yet s left lines;
       ended = λ e. absurd (true≢false e);
       from = omega arith;
       later = λ e. absurd (true≢false e);
@@ -191,13 +259,13 @@ counted-from Came.Set lines next e = (omega arith, λ f. omega arith)
 counted-from Came.Nothing lines next e = (omega arith, λ f. let z : _≡_ {A = ℕ} 0 1 = cc in absurd (omega arith))
 counted-from (Came.Refused cause) lines next e = (omega arith, λ f. let z : _≡_ {A = ℕ} 0 1 = cc in absurd (omega arith))
 
-pub underway-more : (s here next : Session) (first lines lines' : ℕ) (before came : Came) (more : Bool)
-    → Underway s here first lines before true → Led here next lines lines' came → lines' ≡ linesWith came lines → lines' < 2 ^ 64
-    → more ≡ isLine came → Underway s next first lines' came more
-underway-more s here next first lines lines' before came more u led counted few told =
+pub underway-more : (s here next : Session) (left mid after : List ℕ) (first lines lines' : ℕ) (before came : Came) (more : Bool)
+    → Underway s here left mid first lines before true → Led here next mid after lines lines' came → lines' ≡ linesWith came lines
+    → lines' < 2 ^ 64 → more ≡ isLine came → Underway s next left after first lines' came more
+underway-more s here next left mid after first lines lines' before came more u led counted few told =
     let from = counted-from came lines lines' counted in
     record {
-      led = rw (told, as-it-came came) (led-more s here next first lines lines' came (u .led) led);
+      led = rw (told, as-it-came came) (led-more s here next left mid after first lines lines' came (u .led) led);
       ended = λ e. sym told ∙ e;
       from = omega (arith, u .from, from .0);
       later = λ e set. omega (arith, u .from, from .1 set);

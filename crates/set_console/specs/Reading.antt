@@ -1,7 +1,7 @@
 -- What can be said of sets that are read from the input, whatever lines come.
 use mathlib.Core.Path.{_≡_}
 use mathlib.Core.Bool.{Bool, true, false, cond}
-use mathlib.Core.List.{List, [], _∷_}
+use mathlib.Core.List.{List, [], _∷_, _++_, map}
 use Prim.Native.Nat.{ℕ, _+_}
 use lib.ListN.{length}
 use Rattle.refusal.specs.declared.Cause.{Cause}
@@ -12,6 +12,8 @@ use Rattle.design.specs.Legal.{Legal}
 use Rattle.tables.specs.Inputs.{Usable}
 use Rattle.reading.specs.ReadLine.{finished, Session, verdictOn, after}
 use Rattle.storage.specs.Feeding.{Begins, Finished, feed, accepted, finishes}
+use Rattle.console.specs.declared.LineEnd.{LineEnd}
+use Rattle.console.specs.Reading.{Takes, NoNewline, spelled}
 use Rattle.set_console.specs.declared.Came.{Came}
 
 -- Tables of these lengths hold every legal set, so that 10 never turns one down.
@@ -58,20 +60,48 @@ finishedAs Came.Set next = next ∷ []
 finishedAs Came.Nothing next = []
 finishedAs (Came.Refused cause) next = []
 
--- What some lines did to a reading, all of which were taken: they were fed to it one by one, "each call given the state that the call before
--- gave back and the same tables", so that what `Storage` and `Several` say holds of a reading that began with no line taken.
-pub record Led (before next : Session) (first last : ℕ) (came : Came) : Type 0 where
-  pub lines : List (List ℕ)
-  pub fed : feed before lines ≡ next
-  pub all-taken : accepted before lines ≡ lines
+-- A line of the input, among whose bytes there is no newline, and what ended it
+pub record InputLine : Type 0 where
+  pub line : List ℕ
+  pub no-newline : NoNewline line (length line)
+  pub end : LineEnd
+
+abbrev pub textsOf : List InputLine → List (List ℕ)
+textsOf lines = map (λ (l : InputLine). l .line) lines
+
+-- Their bytes in the input, the newlines with them
+unfoldable pub inputBytes : List InputLine → List ℕ
+inputBytes [] = []
+inputBytes (l ∷ lines) = spelled (l .end) (l .line) ++ inputBytes lines
+
+-- The bytes of a line that is said to be refused
+abbrev pub refusedBytes : Came → InputLine → List ℕ
+refusedBytes Came.Line l = []
+refusedBytes Came.Set l = []
+refusedBytes Came.Nothing l = []
+refusedBytes (Came.Refused cause) l = spelled (l .end) (l .line)
+
+-- What some lines of the input did to a reading, all of which were taken: they were fed to it one by one, "each call given the state that the
+-- call before gave back and the same tables", so that what `Storage` and `Several` say holds of a reading that began with no line taken.
+pub record Led (before next : Session) (left after : List ℕ) (first last : ℕ) (came : Came) : Type 0 where
+  pub lines : List InputLine
+  pub fed : feed before (textsOf lines) ≡ next
+  pub all-taken : accepted before (textsOf lines) ≡ textsOf lines
   -- They are counted, empty ones too.
   pub counted : last ≡ first + length lines
   -- A set is said to be finished exactly where one is, and only with the last of these lines.
-  pub sets : finishes before lines ≡ finishedAs came next
+  pub sets : finishes before (textsOf lines) ≡ finishedAs came next
   pub complete : came ≡ Came.Set → Finished next
-  -- Some line that the reader refuses for a cause is there where one is said to be refused for it.
-  pub line : List ℕ
-  pub refused : (cause : Cause) → came ≡ Came.Refused cause → verdictOn next line ≡ Verdict.Refused cause
+  -- Where a line is said to be refused for a cause, the reader refuses the next line for it, or what was read of that.
+  pub line : InputLine
+  pub refused : (cause : Cause) → came ≡ Came.Refused cause → verdictOn next (line .line) ≡ Verdict.Refused cause
+  -- The bytes of the input that were taken are those of these lines, in order: `left` and `after` are what is left in the block before and now.
+  pub taken : Takes left (inputBytes lines ++ refusedBytes came line) after
+
+-- The same, whatever is left in the block when more was done than reading
+pub record LedFrom (before next : Session) (left : List ℕ) (first last : ℕ) (came : Came) : Type 0 where
+  pub after : List ℕ
+  pub led : Led before next left after first last came
 
 -- A reading that some lines led to from one "begun with no line taken"
 pub record Reached (s : Session) : Type 0 where

@@ -12,6 +12,7 @@ ghost use Rattle.lines.specs.Lines.{lineAt, setLines};
 ghost use Rattle.writing.specs.Write.{writeVerdict};
 ghost use Rattle.reading.specs.ReadLine.{session, after};
 ghost use Rattle.storage.specs.Sets.{Storable};
+ghost use Rattle.console.specs.Reading.{leftIn};
 ghost use Rattle.console.specs.Writing.{pendingIn, Puts, printed};
 ghost use Rattle.set_console.specs.Writing.{putIf};
 ghost use Rattle.set_console.specs.Reading.{HoldsEverySet, cameOf, cameOn, isLine, isSet, linesWith, Led, Reached};
@@ -154,13 +155,22 @@ fn take_line(
 ) -> SetRead
     ensures led { λ r.
         ⌜ Led (session (set .state) (now (initial .entry)) (now (offsets .entry)))
-        (session (r .state) (now (initial .exit)) (now (offsets .exit))) (set .lines) (r .lines) (r .came) ⌝ }
+        (session (r .state) (now (initial .exit)) (now (offsets .exit)))
+        (leftIn (set .console) (now (input .entry))) (leftIn (r .console) (now (input .exit))) (set .lines) (r .lines) (r .came) ⌝ }
     ensures counted { λ r. ⌜ r .lines ≡ linesWith (r .came) (set .lines) ⌝ }
     ensures few { λ r. ⌜ r .lines < 2 ^ 64 ⌝ }
 {
     let state = set.state;
     let lines = set.lines;
     let before = set.console;
+    if lines == u64::MAX {
+        return SetRead {
+            state,
+            console: before,
+            lines,
+            came: Came::Nothing,
+        };
+    }
     let line = before.read_line(input, output);
     let console = line.console;
     let end = line.end;
@@ -171,9 +181,6 @@ fn take_line(
         came: Came::Nothing,
     };
     if is_absent(end) {
-        return here;
-    }
-    if lines == u64::MAX {
         return here;
     }
     let bytes = line.bytes;
@@ -194,7 +201,8 @@ pub fn read_set(
     requires { ⌜ Reached (session (set .state) (now initial) (now offsets)) ⌝ }
     ensures led { λ r.
         ⌜ Led (session (set .state) (now (initial .entry)) (now (offsets .entry)))
-        (session (r .state) (now (initial .exit)) (now (offsets .exit))) (set .lines) (r .lines) (r .came) ⌝ }
+        (session (r .state) (now (initial .exit)) (now (offsets .exit)))
+        (leftIn (set .console) (now (input .entry))) (leftIn (r .console) (now (input .exit))) (set .lines) (r .lines) (r .came) ⌝ }
     ensures ended { λ r. ⌜ isLine (r .came) ≡ false ⌝ }
     ensures later { λ r. ⌜ (r .came ≡ Came.Set → set .lines < r .lines) ⌝ }
     ensures few { λ r. ⌜ r .lines < 2 ^ 64 ⌝ }

@@ -11,7 +11,7 @@ returns : tie.Need-returns
 returns c =
     let r = c .before .before .before .before in
     let long : longestLine < length (r .read-start .last .1 .1 .1 .0) = search needs in
-    whole-line _ _ long (r .read-start .ensures)
+    (whole-line _ _ long (r .read-start .ensures .0), r .read-start .ensures .1)
 
 pub read-line-spec : {M : Type 1} → statement M
 read-line-spec =
