@@ -1,7 +1,7 @@
 -- A byte that is left in a block of the input, and what is pending in a block of the output.
 use mathlib.Core.Path.{_≡_, refl, sym, ap, _∙_}
 use mathlib.Core.Bool.{Bool, true, false, cond, true≢false}
-use mathlib.Core.List.{List, _++_}
+use mathlib.Core.List.{List, [], _++_}
 use Prim.Native.Nat.{ℕ, _+_, _-_, _≤_, _<_}
 use native.Mathlib.Decide.{decLe}
 use native.Mathlib.Omega.{arith}
@@ -10,10 +10,11 @@ use lib.ListN.{length, getD, take, drop, length-append}
 use lib.Seq.{take-at, length-take-le}
 use borrow.Author.Tests.{lt-ltb, le-ltb, le-leb, lt-leb, leb-true, leb-false}
 use Rattle.general.specs.Lists.{over}
+use Rattle.general.proofs.WritingLaws.{over-length}
 use Rattle.console.specs.declared.Console.{Console}
 use Rattle.console.specs.declared.Next.{Next}
 use Rattle.console.specs.Reading.{inBlock, NextRead}
-use Rattle.console.specs.Writing.{flushed, withRoom, pendingWith}
+use Rattle.console.specs.Writing.{flushed, withRoom, pendingIn, pendingWith}
 
 module _ (c : Console) (block : List ℕ) where
   pub byte-left : c .at < c .count → ltb (c .at) (length block) ≡ true
@@ -93,14 +94,19 @@ module _ (c : Console) (block text : List ℕ) (next : Console) (next-is : next 
         | no h ↦ omega (arith, room-made (omega arith))
       ]
 
-  pub put-out : length block - next .pending < length text → take (next .pending) block ≡ pendingWith c block text
+  pub put-out : length block - next .pending < length text → pendingIn next block ≡ pendingWith c block text
   unfolding pendingWith
   put-out long =
       elim (decLe (c .pending + length text) (length block)) [
         | yes h ↦ absurd (omega (arith, room-kept h))
         | no h ↦
             let none = room-made (omega arith) in
-            rw (none, lt-leb (c .pending + length text) (length block) (omega arith), lt-leb (length text) (length block) (omega arith))
+            rw (
+              none,
+              le-leb 0 (length block) (omega arith),
+              lt-leb (c .pending + length text) (length block) (omega arith),
+              lt-leb (length text) (length block) (omega arith),
+            )
       ]
 
   module _ (fits : next .pending + length text ≤ length block) where
@@ -110,13 +116,23 @@ module _ (c : Console) (block text : List ℕ) (next : Console) (next-is : next 
         take-at (take (next .pending) block ++ text) (drop (next .pending + length text) block) (next .pending + length text)
         (length-append (take (next .pending) block) text ∙ rw (length-take-le (next .pending) block (omega arith)))
 
-    pub put-in : take (next .pending + length text) (over block (next .pending) text) ≡ pendingWith c block text
+    within : leb (next .pending + length text) (length (over block (next .pending) text)) ≡ true
+    within =
+        le-leb (next .pending + length text) (length (over block (next .pending) text))
+        (omega (arith, fits, over-length block (next .pending) text fits))
+
+    pub put-in : let after = over block (next .pending) text in
+        let n = next .pending + length text in
+        cond (leb n (length after)) (take n after) [] ≡ pendingWith c block text
     unfolding pendingWith
     put-in =
-        elim (decLe (c .pending + length text) (length block)) [
-          | yes h ↦ front ∙ rw (room-kept h, le-leb (c .pending + length text) (length block) h)
+        rw within
+        (elim (decLe (c .pending + length text) (length block)) [
+          | yes h ↦
+              front
+              ∙ rw (room-kept h, le-leb (c .pending + length text) (length block) h, le-leb (c .pending) (length block) (omega arith))
           | no h ↦
               let none = room-made (omega arith) in
               front
               ∙ rw (none, lt-leb (c .pending + length text) (length block) (omega arith), le-leb (length text) (length block) (omega arith))
-        ]
+        ])

@@ -2,6 +2,7 @@
 use mathlib.Core.Path.{_≡_, refl, sym, ap, _∙_}
 use mathlib.Core.Bool.{Bool, true, false, cond, _&&_, true≢false}
 use mathlib.Core.List.{List, [], _∷_, _++_, append-assoc, append-nil}
+use mathlib.Core.Logic.{_⊎_, inl, inr}
 use Prim.Native.Nat.{ℕ, suc, _+_, _≤_, _<_, min}
 use native.Mathlib.Decide.{decLt}
 use native.Mathlib.Numerals.{add-one}
@@ -14,23 +15,36 @@ use Rattle.general.proofs.Tests.{both}
 use Rattle.console.specs.declared.Console.{Console}
 use Rattle.console.specs.declared.Next.{Next}
 use Rattle.console.specs.declared.LineEnd.{LineEnd}
-use Rattle.console.specs.Reading.{inBlock, NextRead, leftIn, Takes, lastEnd, spelled}
+use Rattle.console.specs.Reading.{inBlock, NextRead, leftIn, CameIn, Takes, lastEnd, spelled}
 
-pub takes-none : (here : List ℕ) → Takes here [] here
-takes-none here = record { came = []; whole = append-nil here }
+pub takes-none : (c : Console) (block : List ℕ) → Takes c block [] c block
+takes-none c block = record { came = []; whole = append-nil (leftIn c block); blocks = inl (refl, refl, refl) }
 
 -- Some bytes behind others
-pub takes-more : (a b c t u : List ℕ) → Takes a t b → Takes b u c → Takes a (t ++ u) c
-takes-more a b c t u first rest =
-    record {
-      came = first .came ++ rest .came;
-      whole =
-          sym (append-assoc a (first .came) (rest .came))
-          ∙ ap (λ (l : List ℕ). l ++ rest .came) (first .whole)
-          ∙ append-assoc t b (rest .came)
-          ∙ ap (_++_ t) (rest .whole)
-          ∙ sym (append-assoc t u c);
-    }
+module _ (c : Console) (block : List ℕ) (mid : Console) (between : List ℕ) (end : Console) (last : List ℕ) where
+  came-more : (first rest : List ℕ) → CameIn c block first mid between → CameIn mid between rest end last → CameIn c block (first ++ rest) end last
+  came-more first rest (inl (e, b, n)) (inl (e', b', n')) = inl (rw (e, e'), b' ∙ b, n' ∙ n)
+  came-more first rest (inr more) (inl (e', b', n')) =
+      inr (record { earlier = more .earlier; whole = rw (e', b', n', append-nil first) (more .whole) })
+  came-more first rest came (inr more) =
+      inr
+      (record {
+        earlier = first ++ more .earlier;
+        whole = ap (_++_ first) (more .whole) ∙ sym (append-assoc first (more .earlier) (take (end .count) last));
+      })
+
+  pub takes-more : (t u : List ℕ) → Takes c block t mid between → Takes mid between u end last → Takes c block (t ++ u) end last
+  takes-more t u first rest =
+      record {
+        came = first .came ++ rest .came;
+        whole =
+            sym (append-assoc (leftIn c block) (first .came) (rest .came))
+            ∙ ap (λ (l : List ℕ). l ++ rest .came) (first .whole)
+            ∙ append-assoc t (leftIn mid between) (rest .came)
+            ∙ ap (_++_ t) (rest .whole)
+            ∙ sym (append-assoc t u (leftIn end last));
+        blocks = came-more (first .came) (rest .came) (first .blocks) (rest .blocks);
+      }
 
 -- A byte that is left in a block, and a block in which none is
 module _ (c : Console) (block : List ℕ) where
@@ -72,45 +86,71 @@ module _ (c : Console) (block : List ℕ) where
       go true is f = absurd (true≢false (sym (rw is at f)))
       go false is f = (drop-of-length-le rest {i = c .at} (rw (length-take (c .count) block) (all-used is)), rw is)
 
+-- How many bytes came in the block does not change while they are taken,
+count-stands : (c : Console) (block : List ℕ) → inBlock c block .console .count ≡ c .count
+unfolding inBlock
+count-stands c block = go (ltb (c .at) (c .count) && ltb (c .at) (length block)) refl
+  where
+    go : (some : Bool) → (ltb (c .at) (c .count) && ltb (c .at) (length block)) ≡ some → inBlock c block .console .count ≡ c .count
+    go true is = rw is
+    go false is = rw is
+
+-- and of a new block all are left.
+all-left : (c : Console) (block : List ℕ) → c .at ≡ 0 → leftIn c block ≡ take (c .count) block
+all-left c block e = rw e
+
 -- The next byte of the input is taken, or the input has ended.
 module _ (c : Console) (before block : List ℕ) (next : Next) (read : NextRead c before block next) where
-  pub takes-byte : next .ended ≡ false → Takes (leftIn c before) (next .byte ∷ []) (leftIn (next .console) block)
+  pub takes-byte : next .ended ≡ false → Takes c before (next .byte ∷ []) (next .console) block
   takes-byte some = go (inBlock c before .ended) refl
     where
-      go : (ended : Bool) → inBlock c before .ended ≡ ended → Takes (leftIn c before) (next .byte ∷ []) (leftIn (next .console) block)
+      go : (ended : Bool) → inBlock c before .ended ≡ ended → Takes c before (next .byte ∷ []) (next .console) block
       go false is =
           let same = read .left is in
-          record { came = []; whole = append-nil (leftIn c before) ∙ byte-left c before is ∙ rw (same .0, same .1) }
+          record {
+            came = [];
+            whole = append-nil (leftIn c before) ∙ byte-left c before is ∙ rw (same .0, same .1);
+            blocks = inl (refl, same .1, rw (same .0) (count-stands c before));
+          }
       go true is =
           let told = read .from-start is in
           let begun = read .begun in
           let left : inBlock begun block .ended ≡ false = ap (λ (n : Next). n .ended) (sym (told .2)) ∙ some in
-          record { came = leftIn begun block; whole = rw (none-left c before is .0) (byte-left begun block left ∙ rw (told .2)) }
+          record {
+            came = leftIn begun block;
+            whole = rw (none-left c before is .0) (byte-left begun block left ∙ rw (told .2));
+            blocks = inr (record { earlier = []; whole = all-left begun block (told .0) ∙ rw (told .2, count-stands begun block) });
+          }
 
-  pub takes-end : next .ended ≡ true → Takes (leftIn c before) [] (leftIn (next .console) block)
+  pub takes-end : next .ended ≡ true → Takes c before [] (next .console) block
   takes-end none = go (inBlock c before .ended) refl
     where
-      go : (ended : Bool) → inBlock c before .ended ≡ ended → Takes (leftIn c before) [] (leftIn (next .console) block)
+      go : (ended : Bool) → inBlock c before .ended ≡ ended → Takes c before [] (next .console) block
       go false is = absurd (true≢false (sym none ∙ ap (λ (n : Next). n .ended) (read .left is .0) ∙ is))
       go true is =
           let told = read .from-start is in
           let begun = read .begun in
           let used = none-left begun block (ap (λ (n : Next). n .ended) (sym (told .2)) ∙ none) in
-          record { came = []; whole = rw (none-left c before is .0, told .2, used .1, used .0) }
+          record {
+            came = [];
+            whole = rw (none-left c before is .0, told .2, used .1, used .0);
+            blocks = inr (record { earlier = []; whole = rw (told .2, used .1) (sym (used .0) ∙ all-left begun block (told .0)) });
+          }
 
 -- A line so far: one byte more of it, its newline, or the end of the input behind it
-module _ (start here end : List ℕ) where
-  pub line-more : (bytes : List ℕ) (n byte : ℕ) → n < length bytes → Takes start (take n bytes) here → Takes here (byte ∷ []) end
-      → Takes start (take (n + 1) (set bytes n byte)) end
+module _ (c : Console) (block : List ℕ) (mid : Console) (between : List ℕ) (end : Console) (last : List ℕ) where
+  pub line-more : (bytes : List ℕ) (n byte : ℕ) → n < length bytes → Takes c block (take n bytes) mid between
+      → Takes mid between (byte ∷ []) end last → Takes c block (take (n + 1) (set bytes n byte)) end last
   line-more bytes n byte h first next =
-      rw (add-one n, take-suc-set bytes n byte h) (takes-more start here end (take n bytes) (byte ∷ []) first next)
+      rw (add-one n, take-suc-set bytes n byte h) (takes-more c block mid between end last (take n bytes) (byte ∷ []) first next)
 
-  pub line-newline : (line : List ℕ) (byte : ℕ) → Takes start line here → Takes here (byte ∷ []) end → byte ≡ 10
-      → Takes start (line ++ 10 ∷ []) end
-  line-newline line byte first next e = takes-more start here end line (10 ∷ []) first (rw e at next)
+  pub line-newline : (line : List ℕ) (byte : ℕ) → Takes c block line mid between → Takes mid between (byte ∷ []) end last → byte ≡ 10
+      → Takes c block (line ++ 10 ∷ []) end last
+  line-newline line byte first next e = takes-more c block mid between end last line (10 ∷ []) first (rw e at next)
 
-  pub line-end : (line : List ℕ) (n : ℕ) → Takes start line here → Takes here [] end → Takes start (spelled (lastEnd n) line) end
-  line-end line n first next = rw (as-it-is (ltb 0 n)) (rw (append-nil line) at (takes-more start here end line [] first next))
+  pub line-end : (line : List ℕ) (n : ℕ) → Takes c block line mid between → Takes mid between [] end last
+      → Takes c block (spelled (lastEnd n) line) end last
+  line-end line n first next = rw (as-it-is (ltb 0 n)) (rw (append-nil line) at (takes-more c block mid between end last line [] first next))
     where
       as-it-is : (some : Bool) → spelled (cond some LineEnd.Input LineEnd.Absent) line ≡ line
       as-it-is true = refl

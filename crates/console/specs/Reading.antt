@@ -1,6 +1,7 @@
 -- What can be said of input, whatever it is.
 use mathlib.Core.Path.{_≡_}
 use mathlib.Core.Bool.{Bool, true, false, cond, _&&_}
+use mathlib.Core.Logic.{_⊎_}
 use mathlib.Core.List.{List, [], _∷_, _++_}
 use Prim.Native.Nat.{ℕ, _+_, _<_}
 use lib.Dec.{ltb}
@@ -39,11 +40,21 @@ pub record NextRead (c : Console) (before block : List ℕ) (next : Next) : Type
 abbrev pub leftIn : Console → List ℕ → List ℕ
 leftIn c block = drop (c .at) (take (c .count) block)
 
--- Bytes that were taken one after another, in so many calls: what was left in the block and then what came in later blocks are, byte for byte,
+pub record EndsWith (bytes last : List ℕ) : Type 0 where
+  pub earlier : List ℕ
+  pub whole : bytes ≡ earlier ++ last
+
+-- What came in later blocks: none came, and the one that was there stands; or what came ends with the one that is there now.
+abbrev pub CameIn : Console → List ℕ → List ℕ → Console → List ℕ → Type 0
+CameIn c before came next block =
+    ((came ≡ []) × (block ≡ before) × (next .count ≡ c .count)) ⊎ EndsWith came (take (next .count) block)
+
+-- Bytes that were taken one after another, in so many calls: what was left in the block and then what came in later ones are, byte for byte,
 -- these bytes and then what is left now.
-pub record Takes (before bytes after : List ℕ) : Type 0 where
+pub record Takes (c : Console) (before bytes : List ℕ) (next : Console) (block : List ℕ) : Type 0 where
   pub came : List ℕ
-  pub whole : before ++ came ≡ bytes ++ after
+  pub whole : leftIn c before ++ came ≡ bytes ++ leftIn next block
+  pub blocks : CameIn c before came next block
 
 -- Document 01: "the line is all bytes before the first newline, or all there are if none comes". 10 is the newline.
 abbrev pub NoNewline : List ℕ → ℕ → Type 0

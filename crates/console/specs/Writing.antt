@@ -2,7 +2,7 @@
 use mathlib.Core.Bool.{Bool, cond}
 use mathlib.Core.Path.{_≡_}
 use mathlib.Core.List.{List, [], _∷_, _++_}
-use Prim.Native.Nat.{ℕ, _+_}
+use Prim.Native.Nat.{ℕ, _+_, _≤_}
 use lib.Dec.{leb}
 use lib.ListN.{length, take}
 use Rattle.console.specs.declared.Console.{Console}
@@ -15,9 +15,9 @@ flushed c failed = record { at = c .at; count = c .count; pending = 0; failed = 
 abbrev pub withRoom : Console → ℕ → ℕ → Bool → Console
 withRoom c block count failed = cond (leb (c .pending + count) block) c (flushed c failed)
 
--- What is pending in the block
+-- What is pending in the block: nothing, where the number is past its end
 abbrev pub pendingIn : Console → List ℕ → List ℕ
-pendingIn c block = take (c .pending) block
+pendingIn c block = cond (leb (c .pending) (length block)) (take (c .pending) block) []
 
 -- What is pending once a text is put: the text behind what was pending; the text alone, where the block has no room for both; nothing, where
 -- the block does not hold the text, which then goes out by itself.
@@ -26,11 +26,12 @@ pendingWith c block text =
     cond (leb (c .pending + length text) (length block)) (pendingIn c block ++ text)
     (cond (leb (length text) (length block)) text [])
 
--- Texts that were put one after another, in so many calls: what was pending and then the texts are, byte for byte, what has left the block
--- since and then what is pending.
-pub record Puts (before text after : List ℕ) : Type 0 where
+-- Texts that were put one after another, in so many calls, into a block of so many bytes: what was pending and then the texts are, byte for
+-- byte, what has left the block since and then what is pending. Nothing leaves a block that has room for all of it.
+pub record Puts (room : ℕ) (before text after : List ℕ) : Type 0 where
   pub gone : List ℕ
   pub whole : before ++ text ≡ gone ++ after
+  pub kept : length before + length text ≤ room → gone ≡ []
 
 -- Lines as they are put, each with its newline
 unfoldable pub printed : List (List ℕ) → List ℕ

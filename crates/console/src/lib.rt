@@ -10,7 +10,6 @@ ghost use Rattle.console.specs.Reading.{
   inBlock,
   withBlock,
   NextRead,
-  leftIn,
   Takes,
   lastEnd,
   isAbsent,
@@ -143,8 +142,7 @@ impl Console {
     pub fn read_start(self, input: &mut [u8], output: &[u8], bytes: &mut [u8]) -> LineStart
         ensures start { λ r. ⌜ StartRead (now (bytes .exit)) r ⌝ }
         ensures taken { λ r.
-            ⌜ Takes (leftIn self (now (input .entry))) (spelled (r .end) (take (r .count) (now (bytes .exit))))
-            (leftIn (r .console) (now (input .exit))) ⌝ }
+            ⌜ Takes self (now (input .entry)) (spelled (r .end) (take (r .count) (now (bytes .exit)))) (r .console) (now (input .exit)) ⌝ }
     {
         let mut console = self;
         let mut count: usize = 0;
@@ -179,8 +177,7 @@ impl Console {
     pub fn read_line(self, input: &mut [u8], output: &[u8]) -> Line
         ensures line { λ r. ⌜ LineRead r ⌝ }
         ensures taken { λ r.
-            ⌜ Takes (leftIn self (now (input .entry))) (spelled (r .end) (take (r .count) (r .bytes)))
-            (leftIn (r .console) (now (input .exit))) ⌝ }
+            ⌜ Takes self (now (input .entry)) (spelled (r .end) (take (r .count) (r .bytes))) (r .console) (now (input .exit)) ⌝ }
     {
         let mut bytes = [0u8; KEPT];
         let start = self.read_start(input, output, &mut bytes);

@@ -2,9 +2,9 @@
 ghost use mathlib.Core.Path.{_≡_};
 ghost use mathlib.Core.Bool.{true};
 ghost use Prim.Native.Nat.{_+_, _≤_};
-ghost use lib.ListN.{length, take};
+ghost use lib.ListN.{length};
 ghost use Rattle.general.specs.Lists.{over};
-ghost use Rattle.console.specs.Writing.{flushed, withRoom, pendingWith};
+ghost use Rattle.console.specs.Writing.{flushed, withRoom, pendingIn, pendingWith};
 ghost use Rattle.io.specs.Counts.{Counts};
 use crate::Console;
 use libc::STDOUT_FILENO;
@@ -52,7 +52,7 @@ impl Console {
     // by itself.
     pub fn put(self, output: &mut [u8], text: &[u8]) -> Console
         ensures pending { λ r.
-            ⌜ take (r .pending) (now (output .exit)) ≡ pendingWith self (now (output .entry)) (now (text .entry)) ⌝ }
+            ⌜ pendingIn r (now (output .exit)) ≡ pendingWith self (now (output .entry)) (now (text .entry)) ⌝ }
         ensures input { λ r. ⌜ (r .at ≡ self .at) × (r .count ≡ self .count) ⌝ }
     {
         let mut console = self.with_room(output, text.len());

@@ -46,17 +46,17 @@ module _ (d : Design) (initial : List ℕ) (offsets : List ℤ) (n : ℕ) where
 
     -- which is put behind it. `room` is how many bytes the buffer has.
     pub record-put : {digits : ℕ} → hexWriteAnswer d initial offsets n room ≡ Written.Length digits
-        → (buffer left start end : List ℕ) (more failed : Bool) → length buffer ≡ room → left ≡ recordBufferAfter d initial offsets n buffer
-        → Puts start (take digits left ++ 10 ∷ []) end → more ≡ not failed
-        → Puts start (putIf asked (setRecord d initial offsets n)) end × (more ≡ (passes asked && not failed))
+        → (block : ℕ) (buffer left start end : List ℕ) (more failed : Bool) → length buffer ≡ room → left ≡ recordBufferAfter d initial offsets n buffer
+        → Puts block start (take digits left ++ 10 ∷ []) end → more ≡ not failed
+        → Puts block start (putIf asked (setRecord d initial offsets n)) end × (more ≡ (passes asked && not failed))
     unfolding hexWriteAnswer recordBufferAfter
-    record-put e buffer left start end more failed long is puts told =
-        put-given asked (setRecord d initial offsets n) e buffer left start end more failed (rw long at is) puts told
+    record-put e block buffer left start end more failed long is puts told =
+        put-given asked (setRecord d initial offsets n) e block buffer left start end more failed (rw long at is) puts told
 
-    pub record-refused : {cause : Cause} → hexWriteAnswer d initial offsets n room ≡ Written.Refused cause → (start : List ℕ) (failed : Bool)
-        → Puts start (putIf asked (setRecord d initial offsets n)) start × (false ≡ (passes asked && not failed))
+    pub record-refused : {cause : Cause} → hexWriteAnswer d initial offsets n room ≡ Written.Refused cause → (block : ℕ) (start : List ℕ) (failed : Bool)
+        → Puts block start (putIf asked (setRecord d initial offsets n)) start × (false ≡ (passes asked && not failed))
     unfolding hexWriteAnswer
-    record-refused e start failed = put-none asked (setRecord d initial offsets n) e start failed
+    record-refused e block start failed = put-none asked (setRecord d initial offsets n) e block start failed
 
 -- The writer gives each record of a set that records can hold.
 pub each-given : (t : TableSet) → Recordable t → (n : ℕ) → n < recordCount (byteCount (t .design))

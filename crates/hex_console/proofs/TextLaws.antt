@@ -11,6 +11,7 @@ use borrow.Author.Tests.{eq-eqb, ne-eqb}
 use Rattle.frames.proofs.LineLaws.{long-fails}
 use Rattle.records.specs.Record.{longestRecord}
 use Rattle.records.proofs.RecordLaws as RecordLaws
+use Rattle.console.specs.declared.Console.{Console}
 use Rattle.console.specs.declared.LineEnd.{LineEnd}
 use Rattle.console.specs.declared.LineStart.{LineStart}
 use Rattle.console.specs.Reading.{Takes, spelled, StartRead}
@@ -56,10 +57,10 @@ long-text-fails : (text : List ℕ) → longestRecord < length text → TextFail
 long-text-fails text long = record { as-record = RecordLaws.long-fails text long; as-line = long-fails text (omega arith) }
 
 -- A line is read into so many bytes or more, and `count` of them stand on it.
-pub text-read : (bytes : List ℕ) (start : LineStart) (left after : List ℕ) (count : ℕ) → longestRecord + 2 ≤ length bytes
-    → StartRead bytes start → Takes left (spelled (start .end) (take (start .count) bytes)) after → count ≤ start .count → take count bytes ≡ lineText (start .end) (take (start .count) bytes)
-    → TextRead bytes (record { console = start .console; count = count; end = start .end }) left after
-text-read bytes start left after count room read takes few text =
+pub text-read : (bytes : List ℕ) (start : LineStart) (from : Console) (input block : List ℕ) (count : ℕ) → longestRecord + 2 ≤ length bytes
+    → StartRead bytes start → Takes from input (spelled (start .end) (take (start .count) bytes)) (start .console) block → count ≤ start .count → take count bytes ≡ lineText (start .end) (take (start .count) bytes)
+    → TextRead bytes (record { console = start .console; count = count; end = start .end }) from input block
+text-read bytes start from input block count room read takes few text =
     record {
       read = start .count;
       taken = takes;

@@ -7,6 +7,7 @@ use lib.Dec.{eqb}
 use lib.ListN.{length, getD, take}
 use Rattle.frames.specs.Line.{lineFails}
 use Rattle.records.specs.Record.{recordFails}
+use Rattle.console.specs.declared.Console.{Console}
 use Rattle.console.specs.declared.LineEnd.{LineEnd}
 use Rattle.console.specs.declared.LineStart.{LineStart}
 use Rattle.console.specs.Reading.{Takes, NoNewline, spelled}
@@ -28,11 +29,11 @@ pub record TextFails (text : List ℕ) : Type 0 where
   pub as-record : recordFails text ≡ true
   pub as-line : lineFails text ≡ true
 
--- The text of a line that is read into lent bytes; `left` and `after` are what is left in the block of the input before and now.
-pub record TextRead (bytes : List ℕ) (line : LineStart) (left after : List ℕ) : Type 0 where
+-- The text of a line that is read into lent bytes, from a place in the input on
+pub record TextRead (bytes : List ℕ) (line : LineStart) (from : Console) (input block : List ℕ) : Type 0 where
   -- so many bytes of the line were taken from the input, and no newline is among them
   pub read : ℕ
-  pub taken : Takes left (spelled (line .end) (take read bytes)) after
+  pub taken : Takes from input (spelled (line .end) (take read bytes)) (line .console) block
   pub read-counts : Counts read bytes
   pub no-newline : NoNewline bytes read
   -- what stands on the line are the first `count`

@@ -11,7 +11,6 @@ ghost use Rattle.records.specs.SetBytes.{setRecord, setRecords};
 ghost use Rattle.record_writing.specs.WriteRecord.{hexWriteVerdict};
 ghost use Rattle.record_reading.specs.ReadRecord.{hexFinished, hexSession};
 ghost use Rattle.record_storage.specs.RecordStorage.{Recordable};
-ghost use Rattle.console.specs.Reading.{leftIn};
 ghost use Rattle.console.specs.Writing.{pendingIn, Puts, printed};
 ghost use Rattle.set_console.specs.Reading.{cameBy, isLine};
 ghost use Rattle.set_console.specs.Writing.{putIf};
@@ -73,7 +72,7 @@ fn text_length(bytes: &[u8], count: usize, end: LineEnd) -> usize
 fn read_text(console: Console, input: &mut [u8], output: &[u8], bytes: &mut [u8]) -> LineStart
     requires { ⌜ longestRecord + 2 ≤ length (now bytes) ⌝ }
     ensures { λ r.
-        ⌜ TextRead (now (bytes .exit)) r (leftIn console (now (input .entry))) (leftIn (r .console) (now (input .exit))) ⌝ }
+        ⌜ TextRead (now (bytes .exit)) r console (now (input .entry)) (now (input .exit)) ⌝ }
 {
     let start = console.read_start(input, output, bytes);
     let next = start.console;
@@ -269,7 +268,7 @@ fn put_record(
     number: usize,
 ) -> Put
     ensures text { λ r.
-        ⌜ Puts (pendingIn console (now (output .entry)))
+        ⌜ Puts (length (now (output .entry))) (pendingIn console (now (output .entry)))
         (putIf (hexWriteVerdict d (now (initial .entry)) (now (offsets .entry)) number (longestRecord + 1))
         (setRecord d (now (initial .entry)) (now (offsets .entry)) number))
         (pendingIn (r .console) (now (output .exit))) ⌝ }
@@ -298,7 +297,7 @@ pub fn put_records(
     requires { ⌜ Recordable (record { design = d; initial = now initial; offsets = now offsets }) ⌝ }
     ensures { λ r.
         ⌜ (r .failed ≡ false
-        → Puts (pendingIn console (now (output .entry))) (printed (setRecords d (now (initial .entry)) (now (offsets .entry))))
+        → Puts (length (now (output .entry))) (pendingIn console (now (output .entry))) (printed (setRecords d (now (initial .entry)) (now (offsets .entry))))
         (pendingIn r (now (output .exit)))) ⌝ }
 {
     let mut put = Put {

@@ -19,6 +19,7 @@ use Rattle.storage.specs.Storage.{setIn}
 use Rattle.storage.proofs.Stored.{storage}
 use Rattle.storage.proofs.Feeds.{feed-append, accepted-append, finishes-append}
 use Rattle.storage.proofs.Uniqueness.{refused-stands}
+use Rattle.console.specs.declared.Console.{Console}
 use Rattle.console.specs.declared.LineEnd.{LineEnd}
 use Rattle.console.specs.declared.Line.{Line}
 use Rattle.console.specs.Reading.{Takes, NoNewline, isAbsent, spelled, LineRead}
@@ -49,10 +50,11 @@ unset (Came.Refused cause) s none e = let z : _≡_ {A = ℕ} 0 1 = cc in omega 
 no-line : InputLine
 no-line = record { line = []; no-newline = λ i h. absurd (not-suc-le-zero h); end = LineEnd.Absent }
 
-stands : (s : Session) (left after : List ℕ) (n : ℕ) (came : Came) → finishedAs came s ≡ []
-    → ((cause : Cause) → came ≡ Came.Refused cause → ⊥) → refusedBytes came no-line ≡ [] → Takes left [] after → Led s s left after n n came
+stands : (s : Session) (from : Console) (input : List ℕ) (to : Console) (block : List ℕ) (n : ℕ) (came : Came) → finishedAs came s ≡ []
+    → ((cause : Cause) → came ≡ Came.Refused cause → ⊥) → refusedBytes came no-line ≡ [] → Takes from input [] to block
+    → Led s s from input to block n n came
 unfolding feed accepted finishes inputBytes
-stands s left after n came none other nothing takes =
+stands s from input to block n came none other nothing takes =
     record {
       lines = [];
       fed = refl;
@@ -65,12 +67,14 @@ stands s left after n came none other nothing takes =
       taken = rw nothing takes;
     }
 
-pub none-yet : (s : Session) (left : List ℕ) (n : ℕ) → Led s s left left n n Came.Line
-none-yet s left n = stands s left left n Came.Line refl (λ cause e. let z : _≡_ {A = ℕ} 0 1 = cc in omega arith) refl (takes-none left)
+pub none-yet : (s : Session) (from : Console) (input : List ℕ) (n : ℕ) → Led s s from input from input n n Came.Line
+none-yet s from input n =
+    stands s from input from input n Came.Line refl (λ cause e. let z : _≡_ {A = ℕ} 0 1 = cc in omega arith) refl (takes-none from input)
 
-pub nothing-came : (s : Session) (left after : List ℕ) (n : ℕ) → Takes left [] after → Led s s left after n n Came.Nothing
-nothing-came s left after n takes =
-    stands s left after n Came.Nothing refl (λ cause e. let z : _≡_ {A = ℕ} 0 1 = cc in omega arith) refl takes
+pub nothing-came : (s : Session) (from : Console) (input : List ℕ) (to : Console) (block : List ℕ) (n : ℕ) → Takes from input [] to block
+    → Led s s from input to block n n Came.Nothing
+nothing-came s from input to block n takes =
+    stands s from input to block n Came.Nothing refl (λ cause e. let z : _≡_ {A = ℕ} 0 1 = cc in omega arith) refl takes
 
 -- No newline is among the bytes of a line that was read.
 pub no-newlines : (line : Line) → LineRead line → let bytes = take (line .count) (line .bytes) in NoNewline bytes (length bytes)
@@ -80,12 +84,13 @@ no-newlines line read i h =
     rw (getD-take n (line .bytes) i 0 (omega (arith, long))) (read .no-newline i (omega (arith, long)))
 
 -- A line that is absent has no bytes.
-pub absent-takes : (line : Line) (left after : List ℕ) → LineRead line → Takes left (spelled (line .end) (take (line .count) (line .bytes))) after
-    → isAbsent (line .end) ≡ true → Takes left [] after
-absent-takes line left after read takes absent = go (line .end) refl absent takes
+pub absent-takes : (line : Line) (from : Console) (input block : List ℕ) → LineRead line
+    → Takes from input (spelled (line .end) (take (line .count) (line .bytes))) (line .console) block → isAbsent (line .end) ≡ true
+    → Takes from input [] (line .console) block
+absent-takes line from input block read takes absent = go (line .end) refl absent takes
   where
-    go : (end : LineEnd) → line .end ≡ end → isAbsent end ≡ true → Takes left (spelled end (take (line .count) (line .bytes))) after
-        → Takes left [] after
+    go : (end : LineEnd) → line .end ≡ end → isAbsent end ≡ true
+        → Takes from input (spelled end (take (line .count) (line .bytes))) (line .console) block → Takes from input [] (line .console) block
     go LineEnd.Newline is e t = absurd (true≢false (sym e))
     go LineEnd.Input is e t = absurd (true≢false (sym e))
     go LineEnd.Cut is e t = absurd (true≢false (sym e))
@@ -137,8 +142,8 @@ one-line-more true n = refl
 one-line-more false n = refl
 
 -- What a line does to a reading, and what it comes to
-module _ (s : Session) (line : List ℕ) (plain : NoNewline line (length line)) (end : LineEnd) (left after-it : List ℕ)
-    (takes : Takes left (spelled end line) after-it) where
+module _ (s : Session) (line : List ℕ) (plain : NoNewline line (length line)) (end : LineEnd) (from : Console) (input : List ℕ) (to : Console)
+    (block : List ℕ) (takes : Takes from input (spelled end line) to block) where
   abbrev came-line : InputLine
   came-line = record { line = line; no-newline = plain; end = end }
 
@@ -147,7 +152,7 @@ module _ (s : Session) (line : List ℕ) (plain : NoNewline line (length line)) 
   one-finish false = refl
 
   led-by : (n : ℕ) (v : Verdict) (is : Bool) → verdictOn s line ≡ v → finished (after s line .state) ≡ is
-      → Led s (after s line) left after-it n (linesWith (cameBy v is) n) (cameBy v is)
+      → Led s (after s line) from input to block n (linesWith (cameBy v is) n) (cameBy v is)
   unfolding feed accepted finishes finishedBy inputBytes
   led-by n Verdict.Passed is e f =
       record {
@@ -176,7 +181,7 @@ module _ (s : Session) (line : List ℕ) (plain : NoNewline line (length line)) 
       })
 
   pub led-line : (next : Session) (n m : ℕ) (came : Came) → next ≡ after s line → came ≡ cameOn s line → m ≡ linesWith came n
-      → Led s next left after-it n m came
+      → Led s next from input to block n m came
   led-line next n m came moved told counted =
       rw (moved, counted, told) (led-by n (verdictOn s line) (finished (after s line .state)) refl refl)
 
@@ -187,9 +192,10 @@ bytes-append [] b = refl
 bytes-append (l ∷ a) b =
     ap (_++_ (spelled (l .end) (l .line))) (bytes-append a b) ∙ sym (append-assoc (spelled (l .end) (l .line)) (inputBytes a) (inputBytes b))
 
-pub led-more : (s next end : Session) (left mid after : List ℕ) (n m k : ℕ) (came : Came) → Led s next left mid n m Came.Line
-    → Led next end mid after m k came → Led s end left after n k came
-led-more s next end left mid after n m k came first rest =
+pub led-more : (s next end : Session) (from : Console) (input : List ℕ) (mid : Console) (between : List ℕ) (to : Console) (block : List ℕ)
+    (n m k : ℕ) (came : Came) → Led s next from input mid between n m Came.Line → Led next end mid between to block m k came
+    → Led s end from input to block n k came
+led-more s next end from input mid between to block n m k came first rest =
     let firsts = textsOf (first .lines) in
     let rests = textsOf (rest .lines) in
     let both : textsOf (first .lines ++ rest .lines) ≡ firsts ++ rests = map-append _ (first .lines) (rest .lines) in
@@ -205,7 +211,7 @@ led-more s next end left mid after n m k came first rest =
       refused = rest .refused;
       taken =
           rw (bytes-append (first .lines) (rest .lines), append-assoc (inputBytes (first .lines)) (inputBytes (rest .lines)) (refusedBytes came (rest .line)))
-          (takes-more left mid after (inputBytes (first .lines)) bytes (rw (append-nil (inputBytes (first .lines))) at (first .taken)) (rest .taken));
+          (takes-more from input mid between to block (inputBytes (first .lines)) bytes (rw (append-nil (inputBytes (first .lines))) at (first .taken)) (rest .taken));
     }
 
 -- A reading that began with no line taken, and where lines lead that are fed to it
@@ -213,7 +219,8 @@ pub reached-begin : (s : Session) → Begins s → Reached s
 unfolding feed
 reached-begin s begins = record { start = s; begins = begins; lines = []; fed = refl }
 
-pub reached-more : {s next : Session} {left after : List ℕ} {n m : ℕ} {came : Came} → Reached s → Led s next left after n m came → Reached next
+pub reached-more : {s next : Session} {from to : Console} {input block : List ℕ} {n m : ℕ} {came : Came} → Reached s
+    → Led s next from input to block n m came → Reached next
 reached-more r led =
     record {
       start = r .start;
@@ -229,17 +236,19 @@ reached-set r done =
     rw (r .fed) at (whole .storable)
 
 -- The state of things while a set is read: more of it may come, or what came last ended it.
-pub record Underway (before next : Session) (left after : List ℕ) (first : ℕ) (lines : ℕ) (came : Came) (more : Bool) : Type 0 where
-  pub led : Led before next left after first lines (cond more Came.Line came)
+pub record Underway (before next : Session) (start : Console) (input : List ℕ) (here : Console) (block : List ℕ) (first : ℕ) (lines : ℕ)
+    (came : Came) (more : Bool) : Type 0 where
+  pub led : Led before next start input here block first lines (cond more Came.Line came)
   pub ended : more ≡ false → isLine came ≡ false
   pub from : first ≤ lines
   pub later : more ≡ false → came ≡ Came.Set → first < lines
   pub few : more ≡ false → lines < 2 ^ 64
 
-pub underway : (s : Session) (left : List ℕ) (lines : ℕ) (came : Came) → Underway s s left left lines lines came true
-underway s left lines came =
+pub underway : (s : Session) (start : Console) (input : List ℕ) (lines : ℕ) (came : Came)
+    → Underway s s start input start input lines lines came true
+underway s start input lines came =
     record {
-      led = none-yet s left lines;
+      led = none-yet s start input lines;
       ended = λ e. absurd (true≢false e);
       from = omega arith;
       later = λ e. absurd (true≢false e);
@@ -259,13 +268,14 @@ counted-from Came.Set lines next e = (omega arith, λ f. omega arith)
 counted-from Came.Nothing lines next e = (omega arith, λ f. let z : _≡_ {A = ℕ} 0 1 = cc in absurd (omega arith))
 counted-from (Came.Refused cause) lines next e = (omega arith, λ f. let z : _≡_ {A = ℕ} 0 1 = cc in absurd (omega arith))
 
-pub underway-more : (s here next : Session) (left mid after : List ℕ) (first lines lines' : ℕ) (before came : Came) (more : Bool)
-    → Underway s here left mid first lines before true → Led here next mid after lines lines' came → lines' ≡ linesWith came lines
-    → lines' < 2 ^ 64 → more ≡ isLine came → Underway s next left after first lines' came more
-underway-more s here next left mid after first lines lines' before came more u led counted few told =
+pub underway-more : (s here next : Session) (start : Console) (input : List ℕ) (mid : Console) (between : List ℕ) (to : Console)
+    (block : List ℕ) (first lines lines' : ℕ) (before came : Came) (more : Bool) → Underway s here start input mid between first lines before true
+    → Led here next mid between to block lines lines' came → lines' ≡ linesWith came lines → lines' < 2 ^ 64 → more ≡ isLine came
+    → Underway s next start input to block first lines' came more
+underway-more s here next start input mid between to block first lines lines' before came more u led counted few told =
     let from = counted-from came lines lines' counted in
     record {
-      led = rw (told, as-it-came came) (led-more s here next left mid after first lines lines' came (u .led) led);
+      led = rw (told, as-it-came came) (led-more s here next start input mid between to block first lines lines' came (u .led) led);
       ended = λ e. sym told ∙ e;
       from = omega (arith, u .from, from .0);
       later = λ e set. omega (arith, u .from, from .1 set);

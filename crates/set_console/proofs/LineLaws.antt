@@ -53,17 +53,17 @@ module _ (d : Design) (initial : List ℕ) (offsets : List ℤ) (n room : ℕ) w
   asked = writeVerdict d initial offsets n room
 
   pub line-put : {digits : ℕ} → writeAnswer d initial offsets n room ≡ Written.Length digits
-      → (buffer left start end : List ℕ) (more failed : Bool) → length buffer ≡ room → left ≡ bufferAfter d initial offsets n buffer
-      → Puts start (take digits left ++ 10 ∷ []) end → more ≡ not failed
-      → Puts start (putIf asked (lineAt d initial offsets n)) end × (more ≡ (passes asked && not failed))
+      → (block : ℕ) (buffer left start end : List ℕ) (more failed : Bool) → length buffer ≡ room → left ≡ bufferAfter d initial offsets n buffer
+      → Puts block start (take digits left ++ 10 ∷ []) end → more ≡ not failed
+      → Puts block start (putIf asked (lineAt d initial offsets n)) end × (more ≡ (passes asked && not failed))
   unfolding writeAnswer bufferAfter
-  line-put e buffer left start end more failed long is puts told =
-      put-given asked (lineAt d initial offsets n) e buffer left start end more failed (rw long at is) puts told
+  line-put e block buffer left start end more failed long is puts told =
+      put-given asked (lineAt d initial offsets n) e block buffer left start end more failed (rw long at is) puts told
 
-  pub line-refused : {cause : Cause} → writeAnswer d initial offsets n room ≡ Written.Refused cause → (start : List ℕ) (failed : Bool)
-      → Puts start (putIf asked (lineAt d initial offsets n)) start × (false ≡ (passes asked && not failed))
+  pub line-refused : {cause : Cause} → writeAnswer d initial offsets n room ≡ Written.Refused cause → (block : ℕ) (start : List ℕ) (failed : Bool)
+      → Puts block start (putIf asked (lineAt d initial offsets n)) start × (false ≡ (passes asked && not failed))
   unfolding writeAnswer
-  line-refused e start failed = put-none asked (lineAt d initial offsets n) e start failed
+  line-refused e block start failed = put-none asked (lineAt d initial offsets n) e block start failed
 
 -- The writer gives each line of a set that can be written.
 pub each-given : (t : TableSet) → Storable t → (n : ℕ) → n < lineCount (t .design)

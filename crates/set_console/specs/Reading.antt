@@ -12,6 +12,7 @@ use Rattle.design.specs.Legal.{Legal}
 use Rattle.tables.specs.Inputs.{Usable}
 use Rattle.reading.specs.ReadLine.{finished, Session, verdictOn, after}
 use Rattle.storage.specs.Feeding.{Begins, Finished, feed, accepted, finishes}
+use Rattle.console.specs.declared.Console.{Console}
 use Rattle.console.specs.declared.LineEnd.{LineEnd}
 use Rattle.console.specs.Reading.{Takes, NoNewline, spelled}
 use Rattle.set_console.specs.declared.Came.{Came}
@@ -83,7 +84,8 @@ refusedBytes (Came.Refused cause) l = spelled (l .end) (l .line)
 
 -- What some lines of the input did to a reading, all of which were taken: they were fed to it one by one, "each call given the state that the
 -- call before gave back and the same tables", so that what `Storage` and `Several` say holds of a reading that began with no line taken.
-pub record Led (before next : Session) (left after : List ℕ) (first last : ℕ) (came : Came) : Type 0 where
+pub record Led (before next : Session) (from : Console) (input : List ℕ) (to : Console) (block : List ℕ) (first last : ℕ) (came : Came)
+    : Type 0 where
   pub lines : List InputLine
   pub fed : feed before (textsOf lines) ≡ next
   pub all-taken : accepted before (textsOf lines) ≡ textsOf lines
@@ -95,13 +97,13 @@ pub record Led (before next : Session) (left after : List ℕ) (first last : ℕ
   -- Where a line is said to be refused for a cause, the reader refuses the next line for it, or what was read of that.
   pub line : InputLine
   pub refused : (cause : Cause) → came ≡ Came.Refused cause → verdictOn next (line .line) ≡ Verdict.Refused cause
-  -- The bytes of the input that were taken are those of these lines, in order: `left` and `after` are what is left in the block before and now.
-  pub taken : Takes left (inputBytes lines ++ refusedBytes came line) after
+  -- The bytes that were taken from the input's blocks are those of these lines, in order, and of the one that is refused.
+  pub taken : Takes from input (inputBytes lines ++ refusedBytes came line) to block
 
--- The same, whatever is left in the block when more was done than reading
-pub record LedFrom (before next : Session) (left : List ℕ) (first last : ℕ) (came : Came) : Type 0 where
-  pub after : List ℕ
-  pub led : Led before next left after first last came
+-- The same, where more was done than reading: the place in the input was then some place.
+pub record LedFrom (before next : Session) (from : Console) (input block : List ℕ) (first last : ℕ) (came : Came) : Type 0 where
+  pub to : Console
+  pub led : Led before next from input to block first last came
 
 -- A reading that some lines led to from one "begun with no line taken"
 pub record Reached (s : Session) : Type 0 where

@@ -12,7 +12,6 @@ ghost use Rattle.lines.specs.Lines.{lineAt, setLines};
 ghost use Rattle.writing.specs.Write.{writeVerdict};
 ghost use Rattle.reading.specs.ReadLine.{session, after};
 ghost use Rattle.storage.specs.Sets.{Storable};
-ghost use Rattle.console.specs.Reading.{leftIn};
 ghost use Rattle.console.specs.Writing.{pendingIn, Puts, printed};
 ghost use Rattle.set_console.specs.Writing.{putIf};
 ghost use Rattle.set_console.specs.Reading.{HoldsEverySet, cameOf, cameOn, isLine, isSet, linesWith, Led, Reached};
@@ -156,7 +155,7 @@ fn take_line(
     ensures led { λ r.
         ⌜ Led (session (set .state) (now (initial .entry)) (now (offsets .entry)))
         (session (r .state) (now (initial .exit)) (now (offsets .exit)))
-        (leftIn (set .console) (now (input .entry))) (leftIn (r .console) (now (input .exit))) (set .lines) (r .lines) (r .came) ⌝ }
+        (set .console) (now (input .entry)) (r .console) (now (input .exit)) (set .lines) (r .lines) (r .came) ⌝ }
     ensures counted { λ r. ⌜ r .lines ≡ linesWith (r .came) (set .lines) ⌝ }
     ensures few { λ r. ⌜ r .lines < 2 ^ 64 ⌝ }
 {
@@ -202,7 +201,7 @@ pub fn read_set(
     ensures led { λ r.
         ⌜ Led (session (set .state) (now (initial .entry)) (now (offsets .entry)))
         (session (r .state) (now (initial .exit)) (now (offsets .exit)))
-        (leftIn (set .console) (now (input .entry))) (leftIn (r .console) (now (input .exit))) (set .lines) (r .lines) (r .came) ⌝ }
+        (set .console) (now (input .entry)) (r .console) (now (input .exit)) (set .lines) (r .lines) (r .came) ⌝ }
     ensures ended { λ r. ⌜ isLine (r .came) ≡ false ⌝ }
     ensures later { λ r. ⌜ (r .came ≡ Came.Set → set .lines < r .lines) ⌝ }
     ensures few { λ r. ⌜ r .lines < 2 ^ 64 ⌝ }
@@ -232,7 +231,7 @@ pub struct Put {
 pub fn put_text(console: Console, output: &mut [u8], buffer: &mut [u8], count: usize) -> Put
     requires { ⌜ count < length (now buffer) ⌝ }
     ensures text { λ r.
-        ⌜ Puts (pendingIn console (now (output .entry))) (take count (now (buffer .entry)) ++ 10 ∷ [])
+        ⌜ Puts (length (now (output .entry))) (pendingIn console (now (output .entry))) (take count (now (buffer .entry)) ++ 10 ∷ [])
         (pendingIn (r .console) (now (output .exit))) ⌝ }
     ensures more { λ r. ⌜ r .more ≡ not (r .console .failed) ⌝ }
 {
@@ -254,7 +253,7 @@ pub fn put_line(
     number: usize,
 ) -> Put
     ensures text { λ r.
-        ⌜ Puts (pendingIn console (now (output .entry)))
+        ⌜ Puts (length (now (output .entry))) (pendingIn console (now (output .entry)))
         (putIf (writeVerdict d (now (initial .entry)) (now (offsets .entry)) number (longestLine + 1))
         (lineAt d (now (initial .entry)) (now (offsets .entry)) number))
         (pendingIn (r .console) (now (output .exit))) ⌝ }
@@ -284,7 +283,7 @@ pub fn put_set(
     requires { ⌜ Storable (record { design = d; initial = now initial; offsets = now offsets }) ⌝ }
     ensures { λ r.
         ⌜ (r .failed ≡ false
-        → Puts (pendingIn console (now (output .entry))) (printed (setLines d (now (initial .entry)) (now (offsets .entry))))
+        → Puts (length (now (output .entry))) (pendingIn console (now (output .entry))) (printed (setLines d (now (initial .entry)) (now (offsets .entry))))
         (pendingIn r (now (output .exit)))) ⌝ }
 {
     let mut put = Put {

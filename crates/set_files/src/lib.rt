@@ -6,7 +6,6 @@ ghost use lib.ListN.{length};
 ghost use Rattle.refusal.specs.declared.Cause.{Cause};
 ghost use Rattle.reading.specs.ReadLine.{session};
 ghost use Rattle.storage.specs.Sets.{Storable};
-ghost use Rattle.console.specs.Reading.{leftIn};
 ghost use Rattle.set_console.specs.declared.Came.{Came};
 ghost use Rattle.set_console.specs.Reading.{HoldsEverySet, LedFrom, Reached};
 ghost use Rattle.set_files.specs.Whole.{isWhole};
@@ -124,7 +123,7 @@ fn answer_next(
     ensures led { λ r.
         ⌜ LedFrom (session (set .state) (now (initial .entry)) (now (offsets .entry)))
         (session (r .set .state) (now (initial .exit)) (now (offsets .exit)))
-        (leftIn (set .console) (now (input .entry))) (set .lines) (r .set .lines) (r .set .came) ⌝ }
+        (set .console) (now (input .entry)) (now (input .exit)) (set .lines) (r .set .lines) (r .set .came) ⌝ }
     ensures later { λ r. ⌜ (r .more ≡ true → set .lines < r .set .lines) ⌝ }
     ensures few { λ r. ⌜ r .set .lines < 2 ^ 64 ⌝ }
     ensures held { λ r. ⌜ (r .set .came ≡ Came.Refused Cause.TablesShort → ⊥) ⌝ }

@@ -12,13 +12,13 @@ returns c =
     let l = p .before .before .before .before in
     let e = l .before .before .before .write-record .ensures in
     let put = p .put-text .ensures in
-    record-put _ _ _ _ _ (sym (e .0) ∙ l .length .given .1) _ _ _ _ _ (p .put-text .result .console .failed) refl (e .1 .1) (put .0) (put .1)
+    record-put _ _ _ _ _ (sym (e .0) ∙ l .length .given .1) _ _ _ _ _ _ (p .put-text .result .console .failed) refl (e .1 .1) (put .0) (put .1)
 
 returns-2 : tie.Need-returns-2
 returns-2 c =
     let w = c .before .before .before in
     let start = w .before .before .before .before in
-    record-refused _ _ _ _ _ (sym (w .write-record .ensures .0) ∙ c .enum-told .given .1) _ (start .args .console .failed)
+    record-refused _ _ _ _ _ (sym (w .write-record .ensures .0) ∙ c .enum-told .given .1) _ _ (start .args .console .failed)
 
 put-text-requires : tie.Need-put-text-requires
 put-text-requires c κs =

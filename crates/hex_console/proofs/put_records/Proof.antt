@@ -13,6 +13,7 @@ use Rattle.records.proofs.BytesLaws.{set-length}
 use Rattle.record_writing.specs.WriteRecord.{hexWriteVerdict}
 use Rattle.record_writing.proofs.GivenLaws.{given}
 use Rattle.console.specs.Writing.{pendingIn}
+use Rattle.console.proofs.PutLaws.{puts-in}
 use Rattle.set_console.proofs.FeedLaws.{left, left-more}
 use Rattle.set_console.proofs.PutLaws.{Putting, putting-none, putting-more}
 use Rattle.hex_console.proofs.PuttingLaws.{addressed-few, each-given}
@@ -22,14 +23,14 @@ use Rattle.hex_console.proofs.put_records.Tie as tie
 abbrev Inv-loop : tie.InvT-loop
 Inv-loop output₀ d initial offsets put₀ number₀ output put number =
     Putting (setRecord d initial offsets) (λ n. hexWriteVerdict d initial offsets n (longestRecord + 1)) (recordCount (byteCount d))
-    (pendingIn (put₀ .console) output₀) (pendingIn (put .console) output) (put .console .failed) (put .more) number
+    (length output₀) (pendingIn (put₀ .console) output₀) (pendingIn (put .console) output) (put .console .failed) (put .more) number
     × (length output ≡ length output₀)
 
 abbrev μ-loop : tie.MeasureT-loop
 μ-loop output₀ d initial offsets put₀ number₀ output put number = left (recordCount (byteCount d)) (put .more) number
 
 loop-holds : tie.Need-loop-holds Inv-loop μ-loop
-loop-holds c = (putting-none _ _ _ _ _, refl)
+loop-holds c = (putting-none _ _ _ _ _ _, refl)
 
 add-number : tie.Need-add-number Inv-loop μ-loop
 add-number c =
@@ -48,8 +49,8 @@ loop-again c =
     let p = c .before .before in
     let l = p .before .before in
     let e = p .put-record .ensures in
-    let before : Putting _ _ _ _ _ _ true _ = rw (l .loop-test .taken) at (l .before .loop .inv .0) in
-    (putting-more _ _ _ _ (λ n told. given _ _ _ n _ told .within) _ _ _ _ _ _ before (e .0) (e .1), search needs)
+    let before : Putting _ _ _ _ _ _ _ true _ = rw (l .loop-test .taken) at (l .before .loop .inv .0) in
+    (putting-more _ _ _ _ _ (λ n told. given _ _ _ n _ told .within) _ _ _ _ _ _ before (puts-in (l .before .loop .inv .1) (e .0)) (e .1), search needs)
 
 returns : tie.Need-returns Inv-loop μ-loop
 unfolding setRecords setRecord recordsOf

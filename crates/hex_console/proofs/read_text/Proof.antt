@@ -11,7 +11,7 @@ returns : tie.Need-returns
 returns c =
     let read = c .before .before .before .before .before .before .before .read-start in
     let room : longestRecord + 2 ≤ length (read .last .1 .1 .1 .0) = search needs in
-    text-read _ _ _ _ _ room (read .ensures .0) (read .ensures .1) (c .text-length .ensures .0) (c .text-length .ensures .1)
+    text-read _ _ _ _ _ _ room (read .ensures .0) (read .ensures .1) (c .text-length .ensures .0) (c .text-length .ensures .1)
 
 pub read-text-spec : {M : Type 1} → statement M
 read-text-spec =

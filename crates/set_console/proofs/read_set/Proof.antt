@@ -4,7 +4,6 @@ use mathlib.Core.Bool.{true}
 use lib.ListN.{length}
 use borrow.Author.Needs.{needs}
 use Rattle.reading.specs.ReadLine.{session}
-use Rattle.console.specs.Reading.{leftIn}
 use Rattle.set_console.proofs.FeedLaws.{reached-more, reached-set, Underway, underway, underway-more, linesLeft, fewer-left, line-more}
 use Rattle.set_console.proofs.ShortLaws.{never-short}
 use Rattle.set_console.proofs.read_set.Statement.{statement}
@@ -12,15 +11,15 @@ use Rattle.set_console.proofs.read_set.Tie as tie
 
 abbrev Inv-loop : tie.InvT-loop
 Inv-loop input₀ output initial₀ offsets₀ next₀ more₀ input initial offsets next more =
-    Underway (session (next₀ .state) initial₀ offsets₀) (session (next .state) initial offsets) (leftIn (next₀ .console) input₀)
-    (leftIn (next .console) input) (next₀ .lines) (next .lines) (next .came) more
+    Underway (session (next₀ .state) initial₀ offsets₀) (session (next .state) initial offsets) (next₀ .console) input₀ (next .console) input
+    (next₀ .lines) (next .lines) (next .came) more
     × (length input ≡ length input₀) × (length initial ≡ length initial₀) × (length offsets ≡ length offsets₀)
 
 abbrev μ-loop : tie.MeasureT-loop
 μ-loop input₀ output initial₀ offsets₀ next₀ more₀ input initial offsets next more = linesLeft more (next .lines)
 
 loop-holds : tie.Need-loop-holds Inv-loop μ-loop
-loop-holds c = (underway _ _ _ _, refl, refl, refl)
+loop-holds c = (underway _ _ _ _ _, refl, refl, refl)
 
 loop-less : tie.Need-loop-less Inv-loop μ-loop
 loop-less c =
@@ -35,8 +34,8 @@ loop-again c =
     let t = c .before .before .before .before .before .before in
     let l = t .before .before .before .before in
     let e = t .take-line .ensures in
-    let before : Underway _ _ _ _ _ _ _ true = rw (l .loop-test .taken) at (l .before .loop .inv .0) in
-    (underway-more _ _ _ _ _ _ _ _ _ _ _ _ before (e .0) (e .1 .0) (e .1 .1) (c .is-line .ensures), search needs, search needs, search needs)
+    let before : Underway _ _ _ _ _ _ _ _ _ true = rw (l .loop-test .taken) at (l .before .loop .inv .0) in
+    (underway-more _ _ _ _ _ _ _ _ _ _ _ _ _ _ _ before (e .0) (e .1 .0) (e .1 .1) (c .is-line .ensures), search needs, search needs, search needs)
 
 returns : tie.Need-returns Inv-loop μ-loop
 returns c =

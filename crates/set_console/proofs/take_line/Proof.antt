@@ -9,7 +9,7 @@ use Rattle.set_console.proofs.take_line.Statement.{statement}
 use Rattle.set_console.proofs.take_line.Tie as tie
 
 returns : tie.Need-returns
-returns c = (nothing-came _ _ _ _ (takes-none _), (refl, search needs))
+returns c = (nothing-came _ _ _ _ _ _ (takes-none _ _), (refl, search needs))
 
 returns-2 : tie.Need-returns-2
 returns-2 c =
@@ -17,7 +17,7 @@ returns-2 c =
     let r = a .before .before .before .before in
     let read = r .read-line .ensures in
     let start = r .before .before .before .before .before .before .before .before in (
-      nothing-came _ _ _ _ (absent-takes _ _ _ (read .0) (read .1) (tested (a .is-absent .ensures) (c .if2 .taken))),
+      nothing-came _ _ _ _ _ _ (absent-takes _ _ _ _ (read .0) (read .1) (tested (a .is-absent .ensures) (c .if2 .taken))),
       (refl, omega (arith, start .good)),
     )
 
@@ -29,7 +29,7 @@ returns-3 c =
     let counted = e .1 .1 in
     let read = r .read-line .ensures in
     rw (counted .1 .1) (
-      led-line _ _ (no-newlines _ (read .0)) (r .read-line .result .end) _ _ (read .1) _ _ _ _ (e .0) (e .1 .0) (counted .0),
+      led-line _ _ (no-newlines _ (read .0)) (r .read-line .result .end) _ _ _ _ (read .1) _ _ _ _ (e .0) (e .1 .0) (counted .0),
       (counted .0, counted .1 .0),
     )
 

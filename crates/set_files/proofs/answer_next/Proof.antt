@@ -12,14 +12,14 @@ returns c =
     let t = c .before in
     let e = t .before .before .before .before .before .before .before .before .before .before .before .before .before .before .read-set .ensures in
     let rest = e .1 .1 .1 in
-    (record { after = _; led = e .0 }, (λ more. e .1 .1 .0 (set-came _ (tested (t .before .is-set .ensures) (t .if1 .taken))), (rest .0, (rest .1 .0, rest .1 .1 .0))))
+    (record { to = _; led = e .0 }, (λ more. e .1 .1 .0 (set-came _ (tested (t .before .is-set .ensures) (t .if1 .taken))), (rest .0, (rest .1 .0, rest .1 .1 .0))))
 
 returns-2 : tie.Need-returns-2
 returns-2 c =
     let s = c .before in
     let e = s .before .before .before .before .before .before .before .before .before .before .before .before .before .read-set .ensures in
     let rest = e .1 .1 .1 in
-    (record { after = _; led = e .0 }, (λ more. absurd (true≢false (sym more ∙ c .if1 .left)), (rest .0, (rest .1 .0, rest .1 .1 .0))))
+    (record { to = _; led = e .0 }, (λ more. absurd (true≢false (sym more ∙ c .if1 .left)), (rest .0, (rest .1 .0, rest .1 .1 .0))))
 
 pub answer-next-spec : {M : Type 1} → statement M
 answer-next-spec =
