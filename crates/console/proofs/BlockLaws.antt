@@ -19,7 +19,7 @@ use Rattle.console.specs.Writing.{flushed, withRoom, pendingIn, pendingW
 module _ (c : Console) (block : List ℕ) where
   pub byte-left : c .at < c .count → ltb (c .at) (length block) ≡ true
       → _≡_ {A = Next} (record {
-        console = record { at = c .at + 1; count = c .count; pending = c .pending; failed = c .failed };
+        console = record { at = c .at + 1; count = c .count; ended = c .ended; pending = c .pending; failed = c .failed };
         byte = getD block (c .at) 0;
         ended = false;
       }) (inBlock c block)
@@ -35,23 +35,37 @@ module _ (c : Console) (block : List ℕ) where
   unfolding inBlock
   beyond h k = rw (lt-ltb _ _ h, k)
 
--- The byte that is left, or the first of the next block
+-- The byte that is left, the end of the input, or the first of the next block
 module _ (c : Console) (before : List ℕ) (next : Next) (next-is : next ≡ inBlock c before) where
+  told-ended : {ended : Bool} → next .ended ≡ ended → inBlock c before .ended ≡ ended
+  told-ended e = ap (λ (n : Next). n .ended) (sym next-is) ∙ e
+
   pub from-block : next .ended ≡ false → NextRead c before before next
   from-block e =
       record {
         left = λ some. (next-is, refl);
+        over = λ ended. (next-is, refl);
         begun = c;
-        from-start = λ none. absurd (true≢false (sym none ∙ ap (λ (n : Next). n .ended) (sym next-is) ∙ e));
+        from-start = λ none more. absurd (true≢false (sym none ∙ told-ended e));
       }
 
-  pub from-next : next .ended ≡ true → (begun : Console) (block : List ℕ) (first : Next) → (begun .at ≡ 0) × (begun .pending ≡ 0)
-      → first ≡ inBlock begun block → NextRead c before block first
-  from-next e begun block first at-start first-is =
+  pub at-end : c .ended ≡ true → NextRead c before before next
+  at-end e =
       record {
-        left = λ some. absurd (true≢false (sym e ∙ ap (λ (n : Next). n .ended) next-is ∙ some));
+        left = λ some. (next-is, refl);
+        over = λ ended. (next-is, refl);
+        begun = c;
+        from-start = λ none more. absurd (true≢false (sym e ∙ more));
+      }
+
+  pub from-next : next .ended ≡ true → c .ended ≡ false → (begun : Console) (block : List ℕ) (first : Next)
+      → (begun .at ≡ 0) × (begun .pending ≡ 0) → first ≡ inBlock begun block → NextRead c before block first
+  from-next e more begun block first at-start first-is =
+      record {
+        left = λ some. absurd (true≢false (sym (told-ended e) ∙ some));
+        over = λ ended. absurd (true≢false (sym ended ∙ more));
         begun = begun;
-        from-start = λ none. (at-start .0, at-start .1, first-is);
+        from-start = λ none still. (at-start .0, at-start .1, first-is);
       }
 
 -- Room in a block of the output

@@ -102,18 +102,20 @@ all-left c block e = rw e
 -- The next byte of the input is taken, or the input has ended.
 module _ (c : Console) (before block : List ℕ) (next : Next) (read : NextRead c before block next) where
   pub takes-byte : next .ended ≡ false → Takes c before (next .byte ∷ []) (next .console) block
-  takes-byte some = go (inBlock c before .ended) refl
+  takes-byte some = go (inBlock c before .ended) refl (c .ended) refl
     where
-      go : (ended : Bool) → inBlock c before .ended ≡ ended → Takes c before (next .byte ∷ []) (next .console) block
-      go false is =
+      go : (none : Bool) → inBlock c before .ended ≡ none → (ended : Bool) → c .ended ≡ ended
+          → Takes c before (next .byte ∷ []) (next .console) block
+      go false is ended e =
           let same = read .left is in
           record {
             came = [];
             whole = append-nil (leftIn c before) ∙ byte-left c before is ∙ rw (same .0, same .1);
             blocks = inl (refl, same .1, rw (same .0) (count-stands c before));
           }
-      go true is =
-          let told = read .from-start is in
+      go true is true e = absurd (true≢false (sym is ∙ ap (λ (n : Next). n .ended) (sym (read .over e .0)) ∙ some))
+      go true is false e =
+          let told = read .from-start is e in
           let begun = read .begun in
           let left : inBlock begun block .ended ≡ false = ap (λ (n : Next). n .ended) (sym (told .2)) ∙ some in
           record {
@@ -123,12 +125,16 @@ module _ (c : Console) (before block : List ℕ) (next : Next) (read : NextRead 
           }
 
   pub takes-end : next .ended ≡ true → Takes c before [] (next .console) block
-  takes-end none = go (inBlock c before .ended) refl
+  takes-end none = go (inBlock c before .ended) refl (c .ended) refl
     where
-      go : (ended : Bool) → inBlock c before .ended ≡ ended → Takes c before [] (next .console) block
-      go false is = absurd (true≢false (sym none ∙ ap (λ (n : Next). n .ended) (read .left is .0) ∙ is))
-      go true is =
-          let told = read .from-start is in
+      go : (used : Bool) → inBlock c before .ended ≡ used → (ended : Bool) → c .ended ≡ ended → Takes c before [] (next .console) block
+      go false is ended e = absurd (true≢false (sym none ∙ ap (λ (n : Next). n .ended) (read .left is .0) ∙ is))
+      go true is true e =
+          let same = read .over e in
+          let used = none-left c before is in
+          rw (same .0, same .1, used .1) (takes-none c before)
+      go true is false e =
+          let told = read .from-start is e in
           let begun = read .begun in
           let used = none-left begun block (ap (λ (n : Next). n .ended) (sym (told .2)) ∙ none) in
           record {

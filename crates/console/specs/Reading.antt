@@ -4,7 +4,7 @@ use mathlib.Core.Bool.{Bool, true, false, cond, _&&_}
 use mathlib.Core.Logic.{_⊎_}
 use mathlib.Core.List.{List, [], _∷_, _++_}
 use Prim.Native.Nat.{ℕ, _+_, _<_}
-use lib.Dec.{ltb}
+use lib.Dec.{ltb, eqb}
 use lib.ListN.{length, getD, take, drop}
 use Rattle.frames.specs.Line.{lineFails}
 use Rattle.console.specs.declared.Console.{Console}
@@ -19,22 +19,24 @@ unfoldable pub inBlock : Console → List ℕ → Next
 inBlock c block =
     cond (ltb (c .at) (c .count) && ltb (c .at) (length block))
     (record {
-      console = record { at = c .at + 1; count = c .count; pending = c .pending; failed = c .failed };
+      console = record { at = c .at + 1; count = c .count; ended = c .ended; pending = c .pending; failed = c .failed };
       byte = getD block (c .at) 0;
       ended = false;
     })
     (record { console = c; byte = 0; ended = true })
 
--- A block of which so many bytes came
+-- A block of which so many bytes came: where none did, the input has ended.
 abbrev pub withBlock : Console → ℕ → Console
-withBlock c count = record { at = 0; count = count; pending = c .pending; failed = c .failed }
+withBlock c count = record { at = 0; count = count; ended = eqb count 0; pending = c .pending; failed = c .failed }
 
 -- The next byte of the input: the one that is left in the block, which stands then; where none is, the first of the next block, if there
--- is one, before which what was pending went out.
+-- is one, before which what was pending went out. No block is asked for once the input has ended.
 pub record NextRead (c : Console) (before block : List ℕ) (next : Next) : Type 0 where
   pub left : inBlock c before .ended ≡ false → (next ≡ inBlock c before) × (block ≡ before)
+  pub over : c .ended ≡ true → (next ≡ inBlock c before) × (block ≡ before)
   pub begun : Console
-  pub from-start : inBlock c before .ended ≡ true → (begun .at ≡ 0) × (begun .pending ≡ 0) × (next ≡ inBlock begun block)
+  pub from-start : inBlock c before .ended ≡ true → c .ended ≡ false
+      → (begun .at ≡ 0) × (begun .pending ≡ 0) × (next ≡ inBlock begun block)
 
 -- What is left in the block
 abbrev pub leftIn : Console → List ℕ → List ℕ

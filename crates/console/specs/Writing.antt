@@ -9,7 +9,7 @@ use Rattle.console.specs.declared.Console.{Console}
 
 -- Nothing is pending, and the input is where it was. Whether all that was pending could be written, `failed` tells, and no definition.
 abbrev pub flushed : Console → Bool → Console
-flushed c failed = record { at = c .at; count = c .count; pending = 0; failed = failed }
+flushed c failed = record { at = c .at; count = c .count; ended = c .ended; pending = 0; failed = failed }
 
 -- Room for so many bytes behind what is pending: the block has it, or what is pending goes out.
 abbrev pub withRoom : Console → ℕ → ℕ → Bool → Console

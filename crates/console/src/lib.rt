@@ -21,11 +21,12 @@ ghost use Rattle.io.specs.Counts.{clamped};
 use frames::LONGEST_LINE;
 use libc::STDIN_FILENO;
 
-// Where a program is in its input and output. Of the input's block, the bytes from `at` up to `count` are still to be read; of the output's,
-// the first `pending` are still to be written. `failed` says whether something could not be written.
+// Where a program is in its input and output. Of the input's block, the bytes from `at` up to `count` are still to be read, and `ended` says
+// whether no other comes; of the output's, the first `pending` are still to be written, and `failed` says whether something could not be.
 pub struct Console {
     pub at: usize,
     pub count: usize,
+    pub ended: bool,
     pub pending: usize,
     pub failed: bool,
 }
@@ -74,11 +75,12 @@ pub struct Line {
 impl Console {
     // Nothing has come in, and nothing is to go out.
     pub fn new() -> Console
-        ensures { λ r. ⌜ r ≡ record { at = 0; count = 0; pending = 0; failed = false } ⌝ }
+        ensures { λ r. ⌜ r ≡ record { at = 0; count = 0; ended = false; pending = 0; failed = false } ⌝ }
     {
         Console {
             at: 0,
             count: 0,
+            ended: false,
             pending: 0,
             failed: false,
         }
@@ -105,13 +107,15 @@ impl Console {
         }
     }
 
-    // A block of which so many bytes came is to be read from its start; -1 says that none could be read.
+    // A block of which so many bytes came is to be read from its start; -1 says that none could be read. Where none came, the input has ended.
     fn filled(self, got: isize, input: &[u8]) -> Console
         ensures { λ r. ⌜ r ≡ withBlock self (clamped got (length (now (input .entry)))) ⌝ }
     {
+        let count = io::count(got, input);
         let mut console = self;
         console.at = 0;
-        console.count = io::count(got, input);
+        console.count = count;
+        console.ended = count == 0;
         console
     }
 
@@ -125,12 +129,15 @@ impl Console {
         console.filled(got, input)
     }
 
-    // The next byte of the input.
+    // The next byte of the input, whose end is not asked for again.
     pub fn next_byte(self, input: &mut [u8], output: &[u8]) -> Next
         ensures { λ r. ⌜ NextRead self (now (input .entry)) (now (input .exit)) r ⌝ }
     {
         let next = self.in_block(input);
         if !next.ended {
+            return next;
+        }
+        if self.ended {
             return next;
         }
         let console = self.next_block(input, output);

@@ -21,6 +21,12 @@ returns-2 c =
       (refl, omega (arith, start .good)),
     )
 
+feed-line-requires : tie.Need-feed-line-requires
+feed-line-requires c κs =
+    let r = c .before .before .before .before .before .before .before .before .before in
+    let start = r .before .before .before .before .before .before .before .before in
+    omega (arith, r .before .before .if1 .left, start .good)
+
 returns-3 : tie.Need-returns-3
 returns-3 c =
     let f = c .before .before .before in
@@ -44,7 +50,7 @@ take-line-spec =
     returns-2
     (λ c. search needs)
     (λ c. search needs)
-    (λ c κs. search needs)
+    feed-line-requires
     (λ c. search needs)
     (λ c. search needs)
     (λ c. search needs)
