@@ -13,7 +13,7 @@ use Rattle.general.specs.Lists.{over}
 use Rattle.general.proofs.WritingLaws.{over-length}
 use Rattle.console.specs.declared.Console.{Console}
 use Rattle.console.specs.declared.Next.{Next}
-use Rattle.console.specs.Reading.{inBlock, NextRead}
+use Rattle.console.specs.Reading.{inBlock, withBlock, Fresh, NextRead}
 use Rattle.console.specs.Writing.{flushed, withRoom, pendingIn, pendingWith}
 
 module _ (c : Console) (block : List ℕ) where
@@ -59,14 +59,25 @@ module _ (c : Console) (before : List ℕ) (next : Next) (next-is : next ≡ inB
       }
 
   pub from-next : next .ended ≡ true → c .ended ≡ false → (begun : Console) (block : List ℕ) (first : Next)
-      → (begun .at ≡ 0) × (begun .pending ≡ 0) → first ≡ inBlock begun block → NextRead c before block first
-  from-next e more begun block first at-start first-is =
+      → Fresh begun block → first ≡ inBlock begun block → NextRead c before block first
+  from-next e more begun block first fresh first-is =
       record {
         left = λ some. absurd (true≢false (sym (told-ended e) ∙ some));
         over = λ ended. absurd (true≢false (sym ended ∙ more));
         begun = begun;
-        from-start = λ none still. (at-start .0, at-start .1, first-is);
+        from-start = λ none still. (fresh, first-is);
       }
+
+-- A block that came after what was pending went out
+pub fresh : (c next : Console) (count : ℕ) (block : List ℕ) → c .pending ≡ 0 → next ≡ withBlock c count → next .count ≤ length block
+    → Fresh next block
+fresh c next count block none next-is within =
+    record {
+      at-start = ap (λ (n : Console). n .at) next-is;
+      within = within;
+      by-count = rw next-is;
+      none-pending = ap (λ (n : Console). n .pending) next-is ∙ none;
+    }
 
 -- Room in a block of the output
 module _ (c : Console) (block count : ℕ) where

@@ -9,8 +9,8 @@ use native.Mathlib.Numerals.{add-one}
 use native.Mathlib.Omega.{arith}
 use lib.Dec.{ltb}
 use lib.ListN.{length, getD, take, drop, set, length-take, drop-of-length-le}
-use lib.Seq.{take-suc-set, drop-cons, getD-take}
-use borrow.Author.Tests.{lt-ltb, le-ltb, ltb-true}
+use lib.Seq.{take-suc-set, drop-cons, getD-take, length-take-le}
+use borrow.Author.Tests.{lt-ltb, ltb-true, eq-eqb}
 use Rattle.general.proofs.Tests.{both}
 use Rattle.console.specs.declared.Console.{Console}
 use Rattle.console.specs.declared.Next.{Next}
@@ -18,7 +18,7 @@ use Rattle.console.specs.declared.LineEnd.{LineEnd}
 use Rattle.console.specs.Reading.{inBlock, NextRead, leftIn, CameIn, Takes, lastEnd, spelled}
 
 pub takes-none : (c : Console) (block : List ℕ) → Takes c block [] c block
-takes-none c block = record { came = []; whole = append-nil (leftIn c block); blocks = inl (refl, refl, refl) }
+takes-none c block = record { came = []; whole = append-nil (leftIn c block); blocks = inl (refl, refl, refl); over = λ e. e }
 
 -- Some bytes behind others
 module _ (c : Console) (block : List ℕ) (mid : Console) (between : List ℕ) (end : Console) (last : List ℕ) where
@@ -44,6 +44,7 @@ module _ (c : Console) (block : List ℕ) (mid : Console) (between : List ℕ) (
             ∙ ap (_++_ t) (rest .whole)
             ∙ sym (append-assoc t u (leftIn end last));
         blocks = came-more (first .came) (rest .came) (first .blocks) (rest .blocks);
+        over = λ e. rest .over (first .over e);
       }
 
 -- A byte that is left in a block, and a block in which none is
@@ -86,14 +87,16 @@ module _ (c : Console) (block : List ℕ) where
       go true is f = absurd (true≢false (sym (rw is at f)))
       go false is f = (drop-of-length-le rest {i = c .at} (rw (length-take (c .count) block) (all-used is)), rw is)
 
--- How many bytes came in the block does not change while they are taken,
-count-stands : (c : Console) (block : List ℕ) → inBlock c block .console .count ≡ c .count
+-- How many bytes came in the block does not change while they are taken, nor whether others come,
+count-stands : (c : Console) (block : List ℕ)
+    → (inBlock c block .console .count ≡ c .count) × (inBlock c block .console .ended ≡ c .ended)
 unfolding inBlock
 count-stands c block = go (ltb (c .at) (c .count) && ltb (c .at) (length block)) refl
   where
-    go : (some : Bool) → (ltb (c .at) (c .count) && ltb (c .at) (length block)) ≡ some → inBlock c block .console .count ≡ c .count
-    go true is = rw is
-    go false is = rw is
+    go : (some : Bool) → (ltb (c .at) (c .count) && ltb (c .at) (length block)) ≡ some
+        → (inBlock c block .console .count ≡ c .count) × (inBlock c block .console .ended ≡ c .ended)
+    go true is = rw is (refl, refl)
+    go false is = rw is (refl, refl)
 
 -- and of a new block all are left.
 all-left : (c : Console) (block : List ℕ) → c .at ≡ 0 → leftIn c block ≡ take (c .count) block
@@ -111,17 +114,19 @@ module _ (c : Console) (before block : List ℕ) (next : Next) (read : NextRead 
           record {
             came = [];
             whole = append-nil (leftIn c before) ∙ byte-left c before is ∙ rw (same .0, same .1);
-            blocks = inl (refl, same .1, rw (same .0) (count-stands c before));
+            blocks = inl (refl, same .1, rw (same .0) (count-stands c before .0));
+            over = λ e. rw (same .0) (count-stands c before .1 ∙ e);
           }
       go true is true e = absurd (true≢false (sym is ∙ ap (λ (n : Next). n .ended) (sym (read .over e .0)) ∙ some))
       go true is false e =
           let told = read .from-start is e in
           let begun = read .begun in
-          let left : inBlock begun block .ended ≡ false = ap (λ (n : Next). n .ended) (sym (told .2)) ∙ some in
+          let left : inBlock begun block .ended ≡ false = ap (λ (n : Next). n .ended) (sym (told .1)) ∙ some in
           record {
             came = leftIn begun block;
-            whole = rw (none-left c before is .0) (byte-left begun block left ∙ rw (told .2));
-            blocks = inr (record { earlier = []; whole = all-left begun block (told .0) ∙ rw (told .2, count-stands begun block) });
+            whole = rw (none-left c before is .0) (byte-left begun block left ∙ rw (told .1));
+            blocks = inr (record { earlier = []; whole = all-left begun block (told .0 .at-start) ∙ rw (told .1, count-stands begun block .0) });
+            over = λ yes-ended. absurd (true≢false (sym yes-ended ∙ e));
           }
 
   pub takes-end : next .ended ≡ true → Takes c before [] (next .console) block
@@ -136,12 +141,29 @@ module _ (c : Console) (before block : List ℕ) (next : Next) (read : NextRead 
       go true is false e =
           let told = read .from-start is e in
           let begun = read .begun in
-          let used = none-left begun block (ap (λ (n : Next). n .ended) (sym (told .2)) ∙ none) in
+          let used = none-left begun block (ap (λ (n : Next). n .ended) (sym (told .1)) ∙ none) in
           record {
             came = [];
-            whole = rw (none-left c before is .0, told .2, used .1, used .0);
-            blocks = inr (record { earlier = []; whole = rw (told .2, used .1) (sym (used .0) ∙ all-left begun block (told .0)) });
+            whole = rw (none-left c before is .0, told .1, used .1, used .0);
+            blocks = inr (record { earlier = []; whole = rw (told .1, used .1) (sym (used .0) ∙ all-left begun block (told .0 .at-start)) });
+            over = λ yes-ended. absurd (true≢false (sym yes-ended ∙ e));
           }
+
+  -- and then that is remembered.
+  pub end-kept : next .ended ≡ true → next .console .ended ≡ true
+  end-kept none = go (inBlock c before .ended) refl (c .ended) refl
+    where
+      go : (used : Bool) → inBlock c before .ended ≡ used → (ended : Bool) → c .ended ≡ ended → next .console .ended ≡ true
+      go false is ended e = absurd (true≢false (sym none ∙ ap (λ (n : Next). n .ended) (read .left is .0) ∙ is))
+      go true is true e = rw (read .over e .0, none-left c before is .1) e
+      go true is false e =
+          let told = read .from-start is e in
+          let begun = read .begun in
+          let fresh = told .0 in
+          let used = none-left begun block (ap (λ (n : Next). n .ended) (sym (told .1)) ∙ none) in
+          let empty : length (take (begun .count) block) ≡ 0 = ap length (sym (all-left begun block (fresh .at-start)) ∙ used .0) in
+          let zero-count : begun .count ≡ 0 = omega (arith, empty, length-take-le (begun .count) block (fresh .within)) in
+          rw (told .1, used .1) (fresh .by-count ∙ eq-eqb (begun .count) 0 zero-count)
 
 -- A line so far: one byte more of it, its newline, or the end of the input behind it
 module _ (c : Console) (block : List ℕ) (mid : Console) (between : List ℕ) (end : Console) (last : List ℕ) where

@@ -5,10 +5,12 @@ mod output;
 
 ghost use mathlib.Core.Path.{_≡_};
 ghost use mathlib.Core.Bool.{false};
+ghost use Prim.Native.Nat.{_≤_};
 ghost use lib.ListN.{length, take};
 ghost use Rattle.console.specs.Reading.{
   inBlock,
   withBlock,
+  Fresh,
   NextRead,
   Takes,
   lastEnd,
@@ -110,6 +112,7 @@ impl Console {
     // A block of which so many bytes came is to be read from its start; -1 says that none could be read. Where none came, the input has ended.
     fn filled(self, got: isize, input: &[u8]) -> Console
         ensures { λ r. ⌜ r ≡ withBlock self (clamped got (length (now (input .entry)))) ⌝ }
+        ensures { λ r. ⌜ r .count ≤ length (now (input .entry)) ⌝ }
     {
         let count = io::count(got, input);
         let mut console = self;
@@ -122,7 +125,7 @@ impl Console {
     // Reads the next block, as much as one call gives, so that nothing that is there is held up. The block may have to be waited for, so what
     // is pending goes out before. An input that cannot be read counts as ended.
     fn next_block(self, input: &mut [u8], output: &[u8]) -> Console
-        ensures { λ r. ⌜ (r .at ≡ 0) × (r .pending ≡ 0) ⌝ }
+        ensures { λ r. ⌜ Fresh r (now (input .exit)) ⌝ }
     {
         let console = self.flush(output);
         let got = libc::read(STDIN_FILENO, input);

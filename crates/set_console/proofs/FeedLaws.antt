@@ -8,6 +8,7 @@ use native.Mathlib.Omega.{arith}
 use lib.ListN.{length, take, length-append}
 use lib.Seq.{length-take-le, getD-take}
 use lib.IntN.{ℤ}
+use Rattle.general.proofs.JoinedLaws.{all-weaker, all-append}
 use Rattle.refusal.specs.declared.Cause.{Cause}
 use Rattle.refusal.specs.declared.Verdict.{Verdict}
 use Rattle.reading.specs.declared.Reading.{Reading}
@@ -22,7 +23,7 @@ use Rattle.storage.proofs.Uniqueness.{refused-stands}
 use Rattle.console.specs.declared.Console.{Console}
 use Rattle.console.specs.declared.LineEnd.{LineEnd}
 use Rattle.console.specs.declared.Line.{Line}
-use Rattle.console.specs.Reading.{Takes, NoNewline, isAbsent, spelled, LineRead}
+use Rattle.console.specs.Reading.{Takes, NoNewline, isAbsent, byInput, spelled, LineRead}
 use Rattle.console.proofs.TakeLaws.{takes-none, takes-more}
 use Rattle.set_console.specs.declared.Came.{Came}
 use Rattle.set_console.specs.Reading.{
@@ -65,6 +66,7 @@ stands s from input to block n came none other nothing takes =
       line = no-line;
       refused = λ cause e. absurd (other cause e);
       taken = rw nothing takes;
+      ends = tt;
     }
 
 pub none-yet : (s : Session) (from : Console) (input : List ℕ) (n : ℕ) → Led s s from input from input n n Came.Line
@@ -143,7 +145,7 @@ one-line-more false n = refl
 
 -- What a line does to a reading, and what it comes to
 module _ (s : Session) (line : List ℕ) (plain : NoNewline line (length line)) (end : LineEnd) (from : Console) (input : List ℕ) (to : Console)
-    (block : List ℕ) (takes : Takes from input (spelled end line) to block) where
+    (block : List ℕ) (takes : Takes from input (spelled end line) to block) (over : byInput end ≡ true → to .ended ≡ true) where
   abbrev came-line : InputLine
   came-line = record { line = line; no-newline = plain; end = end }
 
@@ -165,6 +167,7 @@ module _ (s : Session) (line : List ℕ) (plain : NoNewline line (length line)) 
         line = no-line;
         refused = λ cause same. absurd (taken-no-refusal is cause same);
         taken = rw (no-refusal-bytes is no-line, append-nil (spelled end line), append-nil (spelled end line)) takes;
+        ends = (over, tt);
       }
   led-by n (Verdict.Refused cause) is e f =
       rw (refused-stands s line cause e)
@@ -178,6 +181,7 @@ module _ (s : Session) (line : List ℕ) (plain : NoNewline line (length line)) 
         line = came-line;
         refused = λ other same. e ∙ ap Verdict.Refused (cc);
         taken = takes;
+        ends = tt;
       })
 
   pub led-line : (next : Session) (n m : ℕ) (came : Came) → next ≡ after s line → came ≡ cameOn s line → m ≡ linesWith came n
@@ -212,6 +216,8 @@ led-more s next end from input mid between to block n m k came first rest =
       taken =
           rw (bytes-append (first .lines) (rest .lines), append-assoc (inputBytes (first .lines)) (inputBytes (rest .lines)) (refusedBytes came (rest .line)))
           (takes-more from input mid between to block (inputBytes (first .lines)) bytes (rw (append-nil (inputBytes (first .lines))) at (first .taken)) (rest .taken));
+      ends =
+          all-append _ (first .lines) (rest .lines) (all-weaker (λ l ended e. rest .taken .over (ended e)) (first .lines) (first .ends)) (rest .ends);
     }
 
 -- A reading that began with no line taken, and where lines lead that are fed to it

@@ -4,6 +4,7 @@ use mathlib.Core.Bool.{Bool, true, false, cond}
 use mathlib.Core.List.{List, [], _∷_, _++_, map}
 use Prim.Native.Nat.{ℕ, _+_}
 use lib.ListN.{length}
+use Rattle.general.specs.Lists.{All}
 use Rattle.refusal.specs.declared.Cause.{Cause}
 use Rattle.refusal.specs.declared.Verdict.{Verdict}
 use Rattle.refusal.specs.Checks.{ifPassed}
@@ -14,7 +15,7 @@ use Rattle.reading.specs.ReadLine.{finished, Session, verdictOn, after}
 use Rattle.storage.specs.Feeding.{Begins, Finished, feed, accepted, finishes}
 use Rattle.console.specs.declared.Console.{Console}
 use Rattle.console.specs.declared.LineEnd.{LineEnd}
-use Rattle.console.specs.Reading.{Takes, NoNewline, spelled}
+use Rattle.console.specs.Reading.{Takes, NoNewline, byInput, spelled}
 use Rattle.set_console.specs.declared.Came.{Came}
 
 -- Tables of these lengths hold every legal set, so that 10 never turns one down.
@@ -99,6 +100,8 @@ pub record Led (before next : Session) (from : Console) (input : List ℕ) (to :
   pub refused : (cause : Cause) → came ≡ Came.Refused cause → verdictOn next (line .line) ≡ Verdict.Refused cause
   -- The bytes that were taken from the input's blocks are those of these lines, in order, and of the one that is refused.
   pub taken : Takes from input (inputBytes lines ++ refusedBytes came line) to block
+  -- The end of the input ended a line only where the input has ended.
+  pub ends : All (λ (l : InputLine). byInput (l .end) ≡ true → to .ended ≡ true) lines
 
 -- The same, where more was done than reading: the place in the input was then some place.
 pub record LedFrom (before next : Session) (from : Console) (input block : List ℕ) (first last : ℕ) (came : Came) : Type 0 where

@@ -35,7 +35,7 @@ returns-3 c =
     let counted = e .1 .1 in
     let read = r .read-line .ensures in
     rw (counted .1 .1) (
-      led-line _ _ (no-newlines _ (read .0)) (r .read-line .result .end) _ _ _ _ (read .1) _ _ _ _ (e .0) (e .1 .0) (counted .0),
+      led-line _ _ (no-newlines _ (read .0)) (r .read-line .result .end) _ _ _ _ (read .1) (read .0 .over) _ _ _ _ (e .0) (e .1 .0) (counted .0),
       (counted .0, counted .1 .0),
     )
 

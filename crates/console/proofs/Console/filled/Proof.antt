@@ -9,7 +9,7 @@ use Rattle.console.proofs.Console.filled.Tie as tie
 returns : tie.Need-returns
 returns c =
     let s = c .before .before in
-    rw (c .count .ensures .1, toZ-ofZ w64 (s .args .got) (s .fits .got)) refl
+    (rw (c .count .ensures .1, toZ-ofZ w64 (s .args .got) (s .fits .got)) refl, c .count .ensures .0 .0)
 
 pub filled-spec : {M : Type 1} → statement M
 filled-spec = tie.close (tie.spec (λ c κs. search needs) returns)

@@ -8,7 +8,7 @@ use borrow.Author.Needs.{needs}
 use lib.ListN.{length, take}
 use Rattle.console.specs.Reading.{NoNewline, Takes}
 use Rattle.console.proofs.LineLaws.{one-more, by-input, by-newline, cut-off}
-use Rattle.console.proofs.TakeLaws.{takes-none, takes-byte, takes-end, line-more, line-newline, line-end}
+use Rattle.console.proofs.TakeLaws.{takes-none, takes-byte, takes-end, end-kept, line-more, line-newline, line-end}
 use Rattle.console.proofs.Console.read_start.Statement.{statement}
 use Rattle.console.proofs.Console.read_start.Tie as tie
 
@@ -28,7 +28,8 @@ returns c =
     let l = c .before .before .before .before .before .before .before .before .loop in
     let n = c .before .before .before .before .before .next-byte in
     rw (c .last-end .ensures) (
-      by-input _ (l .bytes) (l .count) (omega (arith, l .inv .0, l .inv .1)) (l .inv .4),
+      by-input _ (l .bytes) (l .count) (omega (arith, l .inv .0, l .inv .1)) (l .inv .4)
+          (end-kept _ _ _ _ (n .ensures) (c .before .if1 .taken)),
       line-end _ _ _ _ _ _ _ (l .count) (l .inv .3) (takes-end _ _ _ _ (n .ensures) (c .before .if1 .taken)),
     )
 
