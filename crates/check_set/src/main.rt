@@ -1,4 +1,5 @@
 // Reads sets from standard input, line by line, and says of each whether it is faithful.
+#![tactic(auto)]
 use set_files::{Task, answer_sets};
 
 fn main() {

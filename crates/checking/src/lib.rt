@@ -1,4 +1,5 @@
 // The check of any tables, whoever filled them: faithful, or the lowest word that is not.
+#![tactic(auto)]
 ghost use Rattle.std.specs.Prelude.{◌≡◌, List, ℕ, ◌^◌, ◌≤◌, length, get_or};
 ghost use Rattle.design.specs.Cut as Cut;
 ghost use Rattle.design.specs.Cut.{initial_word};
@@ -18,7 +19,7 @@ use values::faithful::is_faithful;
 use values::rows::{Row, row_of};
 
 // What `check` answers: faithful, or the lowest word that is not.
-#[derive(Drop)]
+#[derive(Clone, Copy)]
 pub enum Checked {
     Faithful,
     Unfaithful(u32),

@@ -1,6 +1,7 @@
 // What the programs share: reading lines from standard input and writing texts to standard output, each through a block that the program
 // lends. No contract can say which bytes come in or go out; what can be said of a line, whatever the input is, `read_start` and `read_line`
 // promise.
+#![tactic(auto)]
 mod output;
 
 ghost use Rattle.std.specs.Prelude.{◌≡◌, false, ◌≤◌, length, take};

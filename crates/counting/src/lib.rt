@@ -1,4 +1,5 @@
 // How many of a set's words are nearest, only just faithful, or neither, over any tables, whoever filled them (document 02, A1).
+#![tactic(auto)]
 ghost use Rattle.std.specs.Prelude.{◌≡◌, ◌+◌, ◌*◌, ◌-◌, ◌^◌, ◌<◌, length, get_or};
 ghost use Rattle.design.specs.Cut as Cut;
 ghost use Rattle.design.specs.Stored.{initial_count};
@@ -20,7 +21,7 @@ use values::faithful::{is_faithful, is_nearest, is_too_low};
 use values::rows::{Row, row_of};
 
 // Where an input word lands: the first of these that fits. Faithful stands for faithful and not nearest.
-#[derive(Drop)]
+#[derive(Clone, Copy)]
 pub enum Class {
     Outside,
     Nearest,
@@ -30,7 +31,7 @@ pub enum Class {
 }
 
 // How many input words are in each class.
-#[derive(Drop)]
+#[derive(Clone, Copy)]
 pub struct Counts {
     pub outside: u32,
     pub nearest: u32,
@@ -40,7 +41,7 @@ pub struct Counts {
 }
 
 // What `count` answers.
-#[derive(Drop)]
+#[derive(Clone, Copy)]
 pub enum Counted {
     Counts(Counts),
     Refused(Cause),

@@ -28,7 +28,7 @@ pub fn pair_at(d: Design, i: u32) -> Pair
 }
 
 // What is asked of each table: 7 is tried on all tables before 8 is tried on any.
-#[derive(Drop)]
+#[derive(Clone, Copy)]
 pub enum TableRule {
     SegmentBits,
     OffsetBits,

@@ -1,4 +1,5 @@
 // A design: how the input word is cut up, how many entries that takes, its error budget and whether that is below the limit.
+#![tactic(auto)]
 
 ghost use Rattle.std.specs.Prelude.{◌≡◌};
 ghost use Rattle.design.specs.Answers.{budget_answer, told_by, budget_told};
@@ -12,7 +13,7 @@ use measure::budget_of;
 use refusal::{Cause, Verdict};
 
 // One offset table: the top a bits of x choose the segment, b bits further down the place in it.
-#[derive(Drop)]
+#[derive(Clone, Copy)]
 pub struct Pair {
     pub a: u32,
     pub b: u32,
@@ -22,7 +23,7 @@ pub struct Pair {
 pub const NO_PAIR: Pair = Pair { a: 0, b: 0 };
 
 // Document 01's design. Pairs at m and beyond are not read.
-#[derive(Drop)]
+#[derive(Clone, Copy)]
 pub struct Design {
     pub kind: u32,
     pub w: u32,
@@ -34,7 +35,7 @@ pub struct Design {
 }
 
 // What `budget` answers, and `sizing::size`.
-#[derive(Drop)]
+#[derive(Clone, Copy)]
 pub enum Measured {
     Is(u64),
     Refused(Cause),

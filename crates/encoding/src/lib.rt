@@ -1,4 +1,5 @@
 // Frames and lines as they are written: numbers as bytes, the sum byte, hexadecimal digits, and the frame that holds a design.
+#![tactic(auto)]
 ghost use Rattle.std.specs.Prelude.{◌≡◌, [], ◌∷◌, ◌++◌, ◌+◌, ◌≤◌, ◌<◌, length};
 ghost use Rattle.general.specs.Lists.{over};
 ghost use Rattle.design.specs.Legal.{Legal};
@@ -14,7 +15,7 @@ use design::legal::pair_at;
 use frames::CAPACITY;
 
 // A frame while it is put together: its first `count` bytes are there.
-#[derive(Drop)]
+#[derive(Clone, Copy)]
 pub struct Frame {
     pub bytes: [u8; CAPACITY],
     pub count: usize,

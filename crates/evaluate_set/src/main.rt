@@ -1,4 +1,5 @@
 // Reads a set from standard input, then an input word in decimal on each further line, and writes each word's output word.
+#![tactic(auto)]
 ghost use Rattle.std.specs.Prelude.{length};
 ghost use Rattle.set_console.specs.Reading.{HoldsEverySet};
 
@@ -10,7 +11,7 @@ use set_console::{is_set, put_end, read_set, start};
 use word_text::{ReadWord, WordText};
 
 // What stands on the next line, if there is one. A last line without a newline counts.
-#[derive(Drop)]
+#[derive(Clone, Copy)]
 struct WordLine {
     console: Console,
     word: ReadWord,
@@ -76,7 +77,7 @@ fn answer(
 }
 
 // What came of a line, and whether to go on.
-#[derive(Drop)]
+#[derive(Clone, Copy)]
 struct Answered {
     console: Console,
     more: bool,

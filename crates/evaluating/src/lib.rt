@@ -1,4 +1,5 @@
 // Evaluation of one word or of a batch, from any tables that are long enough for the design.
+#![tactic(auto)]
 ghost use Rattle.std.specs.Prelude.{◌≡◌, ◌++◌, map, ℕ, ◌<◌, ◌≤◌, length, drop};
 ghost use Rattle.refusal.specs.Checks.{verdict};
 ghost use Rattle.tables.specs.Inputs.{Usable};
@@ -22,14 +23,14 @@ use tables::sums::{sum_of, sum_outside, word_of};
 use values::OutputUnits;
 
 // What `evaluate` answers.
-#[derive(Drop)]
+#[derive(Clone, Copy)]
 pub enum Evaluated {
     Word(OutputUnits),
     Refused(Cause),
 }
 
 // What `evaluate_batch` answers: how many words, or the cause and the place of the lowest bad one (0 if no word is the cause).
-#[derive(Drop)]
+#[derive(Clone, Copy)]
 pub enum Batched {
     Count(usize),
     Refused(Cause, usize),

@@ -1,6 +1,7 @@
 // The calls for C and Rust to link, on numbers and slices. Each returns the number of the refusal, 0 where there is none, and puts
 // the answer behind a pointer; where it is refused, what is behind the pointer stands, but for a batch's place. Here are those on designs
 // and tables.
+#![tactic(auto)]
 ghost use Rattle.std.specs.Prelude.{◌≡◌, length};
 ghost use Rattle.refusal.specs.Numbers.{verdict_number};
 ghost use Rattle.refusal.specs.Told.{number_told};

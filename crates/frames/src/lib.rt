@@ -1,4 +1,5 @@
 // Lines of hexadecimal as frames of bytes, and the frame that holds a design.
+#![tactic(auto)]
 ghost use Rattle.std.specs.Prelude.{◌≡◌, true, [], ◌<◌, length};
 ghost use Rattle.refusal.specs.Checks.{verdict};
 ghost use Rattle.frames.specs.Hex.{digit_value};
@@ -18,7 +19,7 @@ pub const LONGEST_LINE: usize = 32;
 pub const CAPACITY: usize = 21;
 
 // What digits hold: their bytes with zeros behind them, and how many there are.
-#[derive(Drop)]
+#[derive(Clone, Copy)]
 pub struct Decoded {
     pub verdict: Verdict,
     pub bytes: [u8; CAPACITY],
@@ -164,7 +165,7 @@ pub fn first_verdict(bytes: [u8; CAPACITY], count: usize) -> Verdict
 }
 
 // What a line that has to hold a design comes to: the verdict, and the design, which is legal where the line passes.
-#[derive(Drop)]
+#[derive(Clone, Copy)]
 pub struct DesignLine {
     pub verdict: Verdict,
     pub design: Design,

@@ -1,4 +1,6 @@
 // What every crate above may need of numbers: powers of two, binary digits, the smaller or larger of two, and mirrored offsets.
+#![tactic(auto)]
+
 ghost use Rattle.std.specs.Prelude.{◌≡◌, ◌^◌, ◌<◌, min, max, negsuc, ◌-ℤ◌};
 ghost use Rattle.general.specs.Digits.{Digits};
 

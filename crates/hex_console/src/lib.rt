@@ -1,5 +1,6 @@
 // What the programs over Intel HEX share: reading a design and the records of its set from standard input, and writing the records of a
 // set to standard output. No contract can say which bytes come in or go out; what can be said of a set that is read is promised.
+#![tactic(auto)]
 ghost use Rattle.std.specs.Prelude.{◌≡◌, true, false, not, ◌&&◌, ◌+◌, ◌≤◌, length, take};
 ghost use Rattle.refusal.specs.Checks.{passes};
 ghost use Rattle.tables.specs.Inputs.{Usable};
@@ -74,7 +75,7 @@ fn read_text(console: Console, input: &mut [u8], output: &[u8], bytes: &mut [u8]
 }
 
 // What came of reading the design's line: the design, if the line was taken.
-#[derive(Drop)]
+#[derive(Clone, Copy)]
 pub struct DesignRead {
     pub design: Design,
     pub console: Console,
@@ -125,7 +126,7 @@ pub fn read_design(console: Console, input: &mut [u8], output: &[u8]) -> DesignR
 }
 
 // What came of taking a record: the state and the place in the input to go on with.
-#[derive(Drop)]
+#[derive(Clone, Copy)]
 struct HexStep {
     state: HexReading,
     console: Console,
@@ -194,7 +195,7 @@ fn take_record(
 
 // What came of reading a set's records: the last state, whether the set was read to its end record, and how many lines were taken, the
 // design's with them.
-#[derive(Drop)]
+#[derive(Clone, Copy)]
 pub struct RecordsRead {
     pub state: HexReading,
     pub console: Console,

@@ -1,4 +1,5 @@
 // Reads a design's line and the Intel HEX records of its set from standard input, and writes the set's lines, or the refusal.
+#![tactic(auto)]
 ghost use Rattle.std.specs.Prelude.{length};
 ghost use Rattle.tables.specs.Inputs.{Usable};
 ghost use Rattle.record_storage.specs.RecordStorage.{Recordable};

@@ -1,4 +1,5 @@
 // The lines of a set: which line holds what, the bytes before its entry, and which initial entries no line carries.
+#![tactic(auto)]
 ghost use Rattle.std.specs.Prelude.{◌≡◌, ◌≤◌, ◌<◌, length};
 ghost use Rattle.design.specs.Stored.{initial_count};
 ghost use Rattle.design.specs.Legal.{Legal};
@@ -15,7 +16,7 @@ use general::pow2;
 
 // What a line of a set holds: the design, an initial entry, an offset of a table, which lies at a place among all offsets, or the
 // number of lines before the last.
-#[derive(Drop)]
+#[derive(Clone, Copy)]
 pub enum Slot {
     Design,
     Initial(u32),

@@ -1,4 +1,5 @@
 // Reads one design's line from standard input and writes the lines of its filled set, or the refusal.
+#![tactic(auto)]
 ghost use Rattle.std.specs.Prelude.{length};
 ghost use Rattle.set_console.specs.Reading.{HoldsEverySet};
 

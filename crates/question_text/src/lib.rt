@@ -1,12 +1,13 @@
 // The text of a question: a line of three decimal numbers with exactly one space between them. It is read a character at a time, so that
 // a line of any length needs no buffer.
+#![tactic(auto)]
 ghost use Rattle.std.specs.Prelude.{◌≡◌, [], ◌+◌, min};
 ghost use Rattle.question_text.specs.Question.{fields, three_numbers, grown, kept_of, with_character, question_of};
 
 use word_text::{ReadWord, WordText};
 
 // What is asked for: the smallest table design of this kind, with input words of w bits and output words of q bits.
-#[derive(Drop)]
+#[derive(Clone, Copy)]
 pub struct Question {
     pub kind: u32,
     pub w: u32,
@@ -14,7 +15,7 @@ pub struct Question {
 }
 
 // What a line is: the three numbers of a question, or something else.
-#[derive(Drop)]
+#[derive(Clone, Copy)]
 pub enum ReadQuestion {
     Numbers(Question),
     NotThreeNumbers,
@@ -24,7 +25,7 @@ pub enum ReadQuestion {
 const TOO_MANY: u32 = 3;
 
 // What is known of a line so far: its numbers, and how many spaces came, which tell the number that the next digit belongs to.
-#[derive(Drop)]
+#[derive(Clone, Copy)]
 pub struct QuestionText {
     pub kind: WordText,
     pub w: WordText,

@@ -1,4 +1,5 @@
 // The reader: one line a call, into lent tables.
+#![tactic(auto)]
 ghost use Rattle.std.specs.Prelude.{◌≡◌, ◌+◌, ◌*◌, ◌^◌, ◌≤◌, ◌<◌, length, take};
 ghost use Rattle.refusal.specs.Numbers.{verdict_number};
 ghost use Rattle.frames.specs.Line.{capacity};
@@ -33,14 +34,14 @@ use refusal::{Cause, Verdict};
 use tables::tables_short;
 
 // Document 01's reading state. With no line taken the design is not read.
-#[derive(Drop)]
+#[derive(Clone, Copy)]
 pub struct Reading {
     pub design: Design,
     pub taken: usize,
 }
 
 // What `read_line` answers, and the state to go on with.
-#[derive(Drop)]
+#[derive(Clone, Copy)]
 pub struct Read {
     pub verdict: Verdict,
     pub state: Reading,

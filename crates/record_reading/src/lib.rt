@@ -1,4 +1,5 @@
 // The reader of Intel HEX: one record a call, into lent tables, for a design that the caller gives.
+#![tactic(auto)]
 ghost use Rattle.std.specs.Prelude.{◌≡◌, [], ◌∷◌, ◌++◌, ◌+◌, ◌-◌, ◌*◌, ◌^◌, ◌≤◌, ◌<◌, length, take, drop};
 ghost use Rattle.encoding.specs.Bytes.{entry_bytes};
 ghost use Rattle.frames.specs.Line.{capacity};
@@ -31,7 +32,7 @@ use refusal::{Cause, Verdict};
 use tables::set_verdict;
 
 // Document 02's reading state: how many records are taken, and the start of an entry that the last of them cut. Unused bytes are 0.
-#[derive(Drop)]
+#[derive(Clone, Copy)]
 pub struct HexReading {
     pub taken: usize,
     pub first: u8,
@@ -39,7 +40,7 @@ pub struct HexReading {
 }
 
 // What `read_record` answers, and the state to go on with.
-#[derive(Drop)]
+#[derive(Clone, Copy)]
 pub struct HexRead {
     pub verdict: Verdict,
     pub state: HexReading,

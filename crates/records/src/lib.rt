@@ -1,4 +1,5 @@
 // The Intel HEX records of a set: how many there are, what each of them begins with, and what a record that is read holds.
+#![tactic(auto)]
 ghost use Rattle.std.specs.Prelude.{◌≡◌, ◌≤◌};
 ghost use Rattle.design.specs.Legal.{Legal};
 ghost use Rattle.design.specs.Stored.{initial_count};
@@ -25,7 +26,7 @@ pub const MOST_BYTES: usize = 65536;
 pub const HEAD_BYTES: usize = 4;
 
 // How many entries a set has, and how many of them are initial entries.
-#[derive(Drop)]
+#[derive(Clone, Copy)]
 pub struct Extent {
     pub initials: usize,
     pub entries: usize,

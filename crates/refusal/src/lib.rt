@@ -1,9 +1,11 @@
 // Why a call is turned down: the causes of document 01 and those that document 02 adds, one name each.
+#![tactic(auto)]
+
 ghost use Rattle.std.specs.Prelude.{◌≡◌};
 ghost use Rattle.refusal.specs.Numbers.{number_of};
 ghost use Rattle.refusal.specs.Checks as Checks;
 
-#[derive(Drop)]
+#[derive(Clone, Copy)]
 pub enum Cause {
     Kind,
     InputWidth,
@@ -32,7 +34,7 @@ pub enum Cause {
 }
 
 // What a list of checks comes to: nothing turned the input down, or the first check that did.
-#[derive(Drop)]
+#[derive(Clone, Copy)]
 pub enum Verdict {
     Passed,
     Refused(Cause),

@@ -1,4 +1,5 @@
 // Reads one design's line from standard input and writes the report on it.
+#![tactic(auto)]
 use console::Console;
 
 fn main() {

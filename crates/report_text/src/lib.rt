@@ -1,4 +1,5 @@
 // The report's one line of text.
+#![tactic(auto)]
 ghost use Rattle.std.specs.Prelude.{◌≡◌, cond, List, [], ◌++◌, ℕ, ◌+◌, ◌≤◌, length};
 ghost use Rattle.design.specs.Legal.{Legal};
 ghost use Rattle.sizing.specs.Size.{size};
@@ -12,7 +13,7 @@ use refusal::{Cause, Verdict};
 use sizing::size_of;
 
 // Text of at most 96 bytes: the bytes with zeros behind them, and how many there are.
-#[derive(Drop)]
+#[derive(Clone, Copy)]
 pub struct Text {
     pub bytes: [u8; 96],
     pub count: usize,

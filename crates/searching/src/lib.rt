@@ -1,4 +1,5 @@
 // The search for the design with the fewest bits, for a function and its widths.
+#![tactic(auto)]
 ghost use Rattle.std.specs.Prelude.{◌≡◌};
 ghost use Rattle.searching.specs.Best.{refused_with, smallest_answer, told_by, smallest_told};
 
@@ -14,14 +15,14 @@ use refusal::{Cause, Verdict};
 use values::widths::{function_verdict, limits_of};
 
 // A design and its size in bits.
-#[derive(Drop)]
+#[derive(Clone, Copy)]
 pub struct SizedDesign {
     pub design: Design,
     pub bits: u64,
 }
 
 // What `smallest` answers. Where it is refused, the design and its bits are zeros.
-#[derive(Drop)]
+#[derive(Clone, Copy)]
 pub struct Found {
     pub verdict: Verdict,
     pub best: SizedDesign,

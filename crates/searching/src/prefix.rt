@@ -11,7 +11,7 @@ use general::pow2;
 use sizing::bits_of;
 
 // A design whose first pairs are chosen, `tables` of them: where the bits of the next table begin, and size and budget so far.
-#[derive(Drop)]
+#[derive(Clone, Copy)]
 pub struct Prefix {
     pub design: Design,
     pub tables: u32,

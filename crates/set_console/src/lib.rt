@@ -1,5 +1,6 @@
 // What the programs over whole sets share: reading a set from standard input, and writing the lines of a set, the answer of a check or
 // the counts to standard output. No contract can say which bytes come in or go out; what can be said of a set that is read is promised.
+#![tactic(auto)]
 ghost use Rattle.std.specs.Prelude.{◌≡◌, true, false, not, ◌&&◌, [], ◌∷◌, ◌++◌, ◌+◌, ◌-◌, ◌^◌, ◌<◌, length, take};
 ghost use Rattle.refusal.specs.declared.Cause.{Cause};
 ghost use Rattle.refusal.specs.Checks.{passes};
@@ -22,7 +23,7 @@ use writing::{Written, write_line};
 
 // What came of the input: a line that was taken, and no set is finished with it; one that finished a set; none, as the input has ended; one
 // that is refused.
-#[derive(Drop)]
+#[derive(Clone, Copy)]
 pub enum Came {
     Line,
     Set,
@@ -32,7 +33,7 @@ pub enum Came {
 
 // A reading that goes on from line to line, and the place in the input and output. `lines` counts those that were taken since the start of
 // the input, empty ones too.
-#[derive(Drop)]
+#[derive(Clone, Copy)]
 pub struct SetRead {
     pub state: Reading,
     pub console: Console,
@@ -210,7 +211,7 @@ pub fn read_set(
 }
 
 // What came of putting a text: where to go on, and whether there was a text and nothing before it failed to go out.
-#[derive(Drop)]
+#[derive(Clone, Copy)]
 pub struct Put {
     pub console: Console,
     pub more: bool,

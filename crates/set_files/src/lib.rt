@@ -1,4 +1,5 @@
 // Going through a file of sets: what `check_set`, `count_set` and `set_to_hex` share. They differ in what they write of each set.
+#![tactic(auto)]
 ghost use Rattle.std.specs.Prelude.{◌≡◌, true, ◌^◌, ◌<◌, length};
 ghost use Rattle.refusal.specs.declared.Cause.{Cause};
 ghost use Rattle.reading.specs.ReadLine.{session};
@@ -16,7 +17,7 @@ use hex_console::put_records;
 use set_console::{Came, SetRead, is_set, put_checked, put_counted, put_end, read_set, start};
 
 // What is written of each set: the answer of its check, its counts, or its Intel HEX records.
-#[derive(Drop)]
+#[derive(Clone, Copy)]
 pub enum Task {
     Check,
     Count,
@@ -94,7 +95,7 @@ fn put_came(
 }
 
 // What came of the next set: whether to look for another.
-#[derive(Drop)]
+#[derive(Clone, Copy)]
 struct Answered {
     set: SetRead,
     more: bool,

@@ -1,4 +1,5 @@
 // Reads sets from standard input, line by line, and writes the Intel HEX records of each.
+#![tactic(auto)]
 use set_files::{Task, answer_sets};
 
 fn main() {

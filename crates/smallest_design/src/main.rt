@@ -1,4 +1,5 @@
 // Reads a line of three decimal numbers, kind, w and q, from standard input, and writes the line of the smallest design and its report.
+#![tactic(auto)]
 ghost use Rattle.design.specs.Legal.{Legal};
 
 use console::{Console, KEPT, TURNS};
@@ -9,7 +10,7 @@ use refusal::Verdict;
 use searching::smallest;
 
 // What the line is: everything before the first newline, or everything there is.
-#[derive(Drop)]
+#[derive(Clone, Copy)]
 struct QuestionLine {
     console: Console,
     question: ReadQuestion,

@@ -14,7 +14,7 @@ use design::Design;
 use values::TableUnits;
 
 // A word of the run's interval, the first word of the run and how many there are, their initial entry, and their Y without table 0.
-#[derive(Drop)]
+#[derive(Clone, Copy)]
 pub struct Run {
     pub near: u32,
     pub start: u32,

@@ -1,4 +1,6 @@
 // Exact values of document 01's functions, rounded down, and bounds of their slopes.
+#![tactic(auto)]
+
 ghost use Rattle.std.specs.Prelude.{◌≡◌, ◌+◌, T, nat_abs};
 ghost use Rattle.std.specs.Int.Signed.{non_neg};
 ghost use Rattle.values.specs.Value.{value_of, told_by, value_told};
@@ -18,7 +20,7 @@ use rows::row_of;
 use widths::{limits_of, width_verdict};
 
 // A count of table units, of either sign. 2^g of them are one output unit.
-#[derive(Drop)]
+#[derive(Clone, Copy)]
 pub struct TableUnits(pub i64);
 
 impl TableUnits {
@@ -32,17 +34,17 @@ impl TableUnits {
 }
 
 // A count of output units.
-#[derive(Drop)]
+#[derive(Clone, Copy)]
 pub struct OutputUnits(pub u32);
 
 // A floor value: L(X), and whether E(X) is that whole number.
-#[derive(Drop)]
+#[derive(Clone, Copy)]
 pub struct FloorValue {
     pub units: TableUnits,
     pub whole: bool,
 }
 
-#[derive(Drop)]
+#[derive(Clone, Copy)]
 pub enum Valued {
     Value(FloorValue),
     Refused(Cause),

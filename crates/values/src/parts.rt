@@ -50,7 +50,7 @@ pub(crate) fn number_part(row: Row, w: u32, s: u32, x: u64, n: u64) -> u64
 }
 
 // The parts of two numbers.
-#[derive(Drop)]
+#[derive(Clone, Copy)]
 pub(crate) struct Parts {
     pub low: u64,
     pub high: u64,

@@ -43,7 +43,7 @@ fn lo(row: Row, w: u32, p: u32, end: u64) -> u64
 }
 
 // Hi and Lo of a segment: 65536 times the slope on it is at most Hi and at least Lo.
-#[derive(Drop)]
+#[derive(Clone, Copy)]
 pub struct SlopeBounds {
     pub hi: u64,
     pub lo: u64,
@@ -64,7 +64,7 @@ pub fn bounds_of(row: Row, w: u32, p: u32, a: u32, segment: u64) -> SlopeBounds
 }
 
 // The largest Hi - Lo and the largest Hi + Lo over the segments of a bits.
-#[derive(Drop)]
+#[derive(Clone, Copy)]
 pub struct LargestSlopes {
     pub spread: u64,
     pub sum: u64,

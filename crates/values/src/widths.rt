@@ -6,11 +6,11 @@ ghost use Rattle.values.specs.Widths.{limits_of, function_checks, width_checks};
 use refusal::{Cause, Verdict, outside};
 
 // The lowest and the highest number that pass.
-#[derive(Drop)]
+#[derive(Clone, Copy)]
 pub struct Span(pub u32, pub u32);
 
 // The highest kind, the spans of w, q and g, and the highest q + g.
-#[derive(Drop)]
+#[derive(Clone, Copy)]
 pub struct Limits {
     pub kind: u32,
     pub w: Span,

@@ -1,9 +1,10 @@
 // An input word in decimal, read a character at a time, so that a line of any length needs no buffer.
+#![tactic(auto)]
 ghost use Rattle.std.specs.Prelude.{◌≡◌, []};
 ghost use Rattle.word_text.specs.Decimal.{at_most_limit, reading_of, after_character, word_of};
 
 // What a line is: an input word, or something else.
-#[derive(Drop)]
+#[derive(Clone, Copy)]
 pub enum ReadWord {
     Word(u32),
     NotAWord,
@@ -13,7 +14,7 @@ pub enum ReadWord {
 const LIMIT: u64 = 4294967296;
 
 // What is known of a line so far: its number, or LIMIT where it is no word, and whether it has a character yet.
-#[derive(Drop)]
+#[derive(Clone, Copy)]
 pub struct WordText {
     pub value: u64,
     pub begun: bool,

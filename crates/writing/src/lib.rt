@@ -1,4 +1,5 @@
 // The writer: one line of a set a call, by its number.
+#![tactic(auto)]
 ghost use Rattle.std.specs.Prelude.{◌≡◌, true, length};
 ghost use Rattle.refusal.specs.Checks.{verdict};
 ghost use Rattle.design.specs.Legal.{Legal};
@@ -14,7 +15,7 @@ use refusal::{Cause, Verdict};
 use tables::set_verdict;
 
 // What `write_line` answers: how many digits the line has.
-#[derive(Drop)]
+#[derive(Clone, Copy)]
 pub enum Written {
     Length(usize),
     Refused(Cause),

@@ -16,8 +16,8 @@ counted n small =
 returns : tie.Need-returns
 returns c = counted _ (search)
 
-sub-result : tie.Need-overflow-sub-result
+sub-result : tie.Need-overflow_sub-result
 sub-result c = leading_le 64 _
 
-pub digit-count-spec : {M : Type 1} → statement M
-digit-count-spec = tie.close (tie.spec sub-result returns)
+pub digit_count_spec : {M : Type 1} → statement M
+digit_count_spec = tie.close (tie.spec sub-result returns)

@@ -22,8 +22,8 @@ module _ (e : ℤ) (e-fits : SFits w32 e) where
 returns : tie.Need-returns
 returns c = result-is _ c.ranges.entry
 
-sub-result : tie.Need-overflow-sub-result
+sub-result : tie.Need-overflow_sub-result
 sub-result c = mirror-fits _ c.ranges.entry
 
-pub mirrored-spec : {M : Type 1} → statement M
-mirrored-spec = tie.close (tie.spec sub-result returns)
+pub mirrored_spec : {M : Type 1} → statement M
+mirrored_spec = tie.close (tie.spec sub-result returns)

@@ -10,8 +10,8 @@ use Rattle.general.proofs.pow2.Tie as tie
 returns : tie.Need-returns
 returns c = ap (λ (n : ℕ). n % 2 ^ 64) (one-mul _) ∙ mod-eq_of_lt (pow-lt c.requires)
 
-pub pow2-spec : {M : Type 1} → statement M
-pow2-spec =
+pub pow2_spec : {M : Type 1} → statement M
+pow2_spec =
     tie.close
     (tie.spec
     (λ c. search rules)

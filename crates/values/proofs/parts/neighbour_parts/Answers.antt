@@ -10,8 +10,8 @@ use Rattle.values.specs.Inputs.{FloorInput}
 use Rattle.values.specs.Parts.{divisor_part, number_part}
 use Rattle.values.proofs.PartLaws.{linear, quadratic}
 use Rattle.values.proofs.Bounds.{coarser-input, number-part-fits}
-use Rattle.values.proofs.parts.neighbour_parts.Statement.{statement}
-use Rattle.values.proofs.parts.neighbour_parts.Tie as tie
+use Rattle.values.proofs.parts.neighbour_parts.Goals as goal
+use Rattle.values.proofs.parts.neighbour_parts.Goals.{After-divisor_part-divisor}
 
 parts : ℕ → ℕ → Parts
 parts low high = record { low = low; high = high }
@@ -68,74 +68,57 @@ module _ (row : Row) (w s X divisor : ℕ) (divisor-is : divisor ≡ divisor_par
     of-degree-2 other =
         ap₂ parts ((square-less n divisor positive).1 ∙ squared other (n - 1)) (square-more n divisor ∙ squared other (n + 1))
 
-divisor-part-requires : tie.Need-divisor-part-requires
-divisor-part-requires c κs = coarser-input c.args.s (omega arith) c.requires.0
+pub divisor_part-divisor-requires : goal.divisor_part-divisor-requires
+divisor_part-divisor-requires c = coarser-input c.args.s (omega arith) c.requires.floor_input
 
 -- this call's number: by the degree, nothing on the way is larger than the part of n + 1
-linear-room : (c : tie.After-divisor-part) → let a = c.before.args in a.row.k ≡ 1 → (a.n + 1) * c.divisor-part.result < 2 ^ 64
-linear-room c = let p = c.before.requires in room-linear _ _ _ _ _ c.divisor-part.ensures p.0 _ p.1.0 p.1.1
+linear-room : (c : After-divisor_part-divisor) → let a = c.args in a.row.k ≡ 1 → (a.n + 1) * c.divisor_part-divisor.result < 2 ^ 64
+linear-room c = let p = c.requires in room-linear _ _ _ _ _ c.divisor_part-divisor.ensures p.floor_input _ p.le_n.0 p.le_n.1
 
-quadratic-room : (c : tie.After-divisor-part) → let a = c.before.args in
-    (a.row.k ≡ 1 → ⊥) → (a.n + 1) * (a.n + 1) * c.divisor-part.result < 2 ^ 64
-quadratic-room c = let p = c.before.requires in room-quadratic _ _ _ _ _ c.divisor-part.ensures p.0 _ p.1.0 p.1.1
+quadratic-room : (c : After-divisor_part-divisor) → let a = c.args in
+    (a.row.k ≡ 1 → ⊥) → (a.n + 1) * (a.n + 1) * c.divisor_part-divisor.result < 2 ^ 64
+quadratic-room c = let p = c.requires in room-quadratic _ _ _ _ _ c.divisor_part-divisor.ensures p.floor_input _ p.le_n.0 p.le_n.1
 
-mul-once : tie.Need-overflow-mul-once
-mul-once c = elim (dec_lt 1 c.before.args.row.k) [
+pub overflow_mul-once : goal.overflow_mul-once
+overflow_mul-once c = elim (dec_lt 1 c.args.row.k) [
   | yes more ↦ omega (arith, quadratic-room c (λ e. omega arith))
-  | no one ↦ omega (arith, linear-room c (omega (arith, c.before.requires.0.lawful.k-pos)))
+  | no one ↦ omega (arith, linear-room c (omega (arith, c.requires.floor_input.lawful.k-pos)))
 ]
 
-sub-t10 : tie.Need-overflow-sub-t10
-sub-t10 c = omega (arith, (one_less _ c.before.before.divisor-part.result c.before.before.before.requires.1.0).0)
+pub overflow_sub-result : goal.overflow_sub-result
+overflow_sub-result c = omega (arith, (one_less _ c.divisor_part-divisor.result c.requires.le_n.0).0)
 
-add-t11 : tie.Need-overflow-add-t11
-add-t11 c = omega (arith, linear-room c.before.before c.if1.true)
+pub overflow_add-result : goal.overflow_add-result
+overflow_add-result c = omega (arith, linear-room c.before.before c.if-row-eq1.true)
 
-returns : tie.Need-returns
+pub returns-then-row-eq1 : goal.returns-then-row-eq1
+unfolding parts
+returns-then-row-eq1 c =
+    let q = c.before.before in
+    let p = q.requires in
+    of-degree-1 _ _ _ _ _ q.divisor_part-divisor.ensures p.floor_input _ p.le_n.0 p.le_n.1 c.if-row-eq1.true
+
+pub overflow_mul-middle : goal.overflow_mul-middle
+overflow_mul-middle c = omega (arith, quadratic-room c.before.before c.if-row-eq1.false)
+
+pub overflow_add-middle : goal.overflow_add-middle
+overflow_add-middle c = omega (arith, quadratic-room c.before.before c.if-row-eq1.false)
+
+pub overflow_mul-result : goal.overflow_mul-result
+overflow_mul-result c = omega (arith, quadratic-room c.before.before c.if-row-eq1.false)
+
+pub overflow_sub-result-2 : goal.overflow_sub-result-2
+overflow_sub-result-2 c = (square-less _ _ c.requires.le_n.0).0
+
+pub overflow_mul-result-2 : goal.overflow_mul-result-2
+overflow_mul-result-2 c = omega (arith, quadratic-room c.before.before c.if-row-eq1.false)
+
+pub overflow_add-result-2 : goal.overflow_add-result-2
+overflow_add-result-2 c = omega (arith, quadratic-room c.before.before c.if-row-eq1.false)
+
+pub returns : goal.returns
 unfolding parts
 returns c =
     let q = c.before.before in
-    let p = q.before.requires in
-    of-degree-1 _ _ _ _ _ q.divisor-part.ensures p.0 _ p.1.0 p.1.1 c.if1.true
-
-mul-middle : tie.Need-overflow-mul-middle
-mul-middle c = omega (arith, quadratic-room c.before.before c.if1.false)
-
-add-middle : tie.Need-overflow-add-middle
-add-middle c = omega (arith, quadratic-room c.before.before c.if1.false)
-
-mul-t12 : tie.Need-overflow-mul-t12
-mul-t12 c = omega (arith, quadratic-room c.before.before c.if1.false)
-
-sub-t13 : tie.Need-overflow-sub-t13
-sub-t13 c = (square-less _ _ c.before.before.before.requires.1.0).0
-
-mul-t14 : tie.Need-overflow-mul-t14
-mul-t14 c = omega (arith, quadratic-room c.before.before c.if1.false)
-
-add-t15 : tie.Need-overflow-add-t15
-add-t15 c = omega (arith, quadratic-room c.before.before c.if1.false)
-
-returns-2 : tie.Need-returns-2
-unfolding parts
-returns-2 c =
-    let q = c.before.before in
-    let p = q.before.requires in
-    of-degree-2 _ _ _ _ _ q.divisor-part.ensures p.0 _ p.1.0 p.1.1 c.if1.false
-
-pub neighbour-parts-spec : {M : Type 1} → statement M
-neighbour-parts-spec =
-    tie.close
-    (tie.spec
-    divisor-part-requires
-    mul-once
-    sub-t10
-    add-t11
-    returns
-    mul-middle
-    add-middle
-    mul-t12
-    sub-t13
-    mul-t14
-    add-t15
-    returns-2)
+    let p = q.requires in
+    of-degree-2 _ _ _ _ _ q.divisor_part-divisor.ensures p.floor_input _ p.le_n.0 p.le_n.1 c.if-row-eq1.false

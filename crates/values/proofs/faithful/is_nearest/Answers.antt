@@ -5,7 +5,6 @@ use mathlib.Core.Bool.{false}
 use Prim.Native.Nat.{ℕ, suc, ◌+◌, ◌-◌, ◌*◌, ◌^◌, ◌<◌, ◌≤◌}
 use native.Mathlib.Omega.{arith}
 use native.Mathlib.Nat.{pow-suc}
-use borrow.Author.Rules.{rules}
 use borrow.Author.Tests.{lt-ltb, le-ltb, lt-leb, le-leb}
 use lib.Dec.{leb}
 use Rattle.values.specs.declared.rows.Row.{Row}
@@ -14,8 +13,8 @@ use Rattle.values.specs.Parts.{number_part, value_part}
 use Rattle.values.specs.Faithful.{is_nearest}
 use Rattle.values.proofs.PartLaws.{compared, same-test-le}
 use Rattle.values.proofs.Bounds.{coarser-input}
-use Rattle.values.proofs.faithful.is_nearest.Statement.{statement}
-use Rattle.values.proofs.faithful.is_nearest.Tie as tie
+use Rattle.values.proofs.faithful.is_nearest.Goals as goal
+use Rattle.values.proofs.faithful.is_nearest.Goals.{After-neighbour_parts-parts, Else-word-eq0}
 
 module _ (row : Row) (w q X y : ℕ) where
   zero_word : y ≡ 0 → false ≡ is_nearest row w q X y
@@ -40,15 +39,15 @@ module _ (row : Row) (w q X y : ℕ) where
           high_is,
         )
 
-returns : tie.Need-returns
-returns c = zero_word _ _ _ _ _ c.if1.true
+pub returns-then-word-eq0 : goal.returns-then-word-eq0
+returns-then-word-eq0 c = zero_word _ _ _ _ _ c.if-word-eq0.true
 
-value-part-requires : tie.Need-value-part-requires
-value-part-requires c κs = let s = c.before.before in coarser-input (s.args.q + 1) (omega arith) s.requires.0
+pub value_part-exact-requires : goal.value_part-exact-requires
+value_part-exact-requires c = let s = c.before.before in coarser-input (s.args.q + 1) (omega arith) s.requires.floor_input
 
 -- the word is not 0
-positive : (c : tie.Else1) → 0 < c.before.before.args.y.0
-positive c = omega (arith, c.if1.false)
+positive : (c : Else-word-eq0) → 0 < c.args.y.0
+positive c = omega (arith, c.if-word-eq0.false)
 
 -- halves of a word of q + 2 bits have one bit more
 halves_small : (q y : ℕ) → y < 2 ^ (q + 2) → 2 * y + 1 ≤ 2 ^ (q + 1 + 2)
@@ -56,45 +55,28 @@ halves_small q y h =
     let e : q + 1 + 2 ≡ suc (q + 2) = omega arith in
     rw (e, pow-suc) (omega arith)
 
-neighbour-parts-requires : tie.Need-neighbour-parts-requires
-neighbour-parts-requires c κs =
-    let s = c.before.before.before in (
-      coarser-input (s.args.q + 1 + 2) (omega arith) s.requires.0,
-      (omega (arith, positive c.before), halves_small _ _ s.requires.1),
-    )
+pub neighbour_parts-parts-requires : goal.neighbour_parts-parts-requires
+neighbour_parts-parts-requires c =
+    let s = c.before.before.before in record { floor_input = coarser-input (s.args.q + 1 + 2) (omega arith) s.requires.floor_input; le_n = (omega (arith, positive c.before), halves_small _ _ s.requires.y_bound) }
 
 -- the two parts are those of its halves' neighbours
-low_part : (c : tie.After-neighbour-parts) → let a = c.before.before.before.before.args in
-    c.neighbour-parts.result.low ≡ number_part a.row a.w (a.q + 1) a.x (2 * a.y.0 - 1)
-low_part c = ap (λ (p : Parts). p.low) c.neighbour-parts.ensures
+low_part : (c : After-neighbour_parts-parts) → let a = c.args in
+    c.neighbour_parts-parts.result.low ≡ number_part a.row a.w (a.q + 1) a.x (2 * a.y.0 - 1)
+low_part c = ap (λ (p : Parts). p.low) c.neighbour_parts-parts.ensures
 
-high_part : (c : tie.After-neighbour-parts) → let a = c.before.before.before.before.args in
-    c.neighbour-parts.result.high ≡ number_part a.row a.w (a.q + 1) a.x (2 * a.y.0 + 1)
-high_part c = ap (λ (p : Parts). p.high) c.neighbour-parts.ensures
+high_part : (c : After-neighbour_parts-parts) → let a = c.args in
+    c.neighbour_parts-parts.result.high ≡ number_part a.row a.w (a.q + 1) a.x (2 * a.y.0 + 1)
+high_part c = ap (λ (p : Parts). p.high) c.neighbour_parts-parts.ensures
 
-returns-2 : tie.Need-returns-2
-returns-2 c =
+pub returns-then-parts-exact : goal.returns-then-parts-exact
+returns-then-parts-exact c =
     let n = c.before.before.before in
     let v = n.before in
-    near _ _ _ _ _ _ _ _ v.value-part.ensures (low_part n) (high_part n) (positive v.before) c.before.if2.true
+    near _ _ _ _ _ _ _ _ v.value_part-exact.ensures (low_part n) (high_part n) (positive v.before) c.if-parts-exact.true
 
-returns-3 : tie.Need-returns-3
-returns-3 c =
+pub returns-else-parts-exact : goal.returns-else-parts-exact
+returns-else-parts-exact c =
     let n = c.before.before in
     let v = n.before in
-    lt-leb _ _ c.if2.false
-    ∙ far-above _ _ _ _ _ _ _ _ v.value-part.ensures (low_part n) (high_part n) (positive v.before) c.if2.false
-
-pub is-nearest-spec : {M : Type 1} → statement M
-is-nearest-spec =
-    tie.close
-    (tie.spec
-    (λ c. search rules)
-    returns
-    (λ c. search rules)
-    value-part-requires
-    (λ c. search rules)
-    (λ c. search rules)
-    neighbour-parts-requires
-    returns-2
-    returns-3)
+    lt-leb _ _ c.if-parts-exact.false
+    ∙ far-above _ _ _ _ _ _ _ _ v.value_part-exact.ensures (low_part n) (high_part n) (positive v.before) c.if-parts-exact.false

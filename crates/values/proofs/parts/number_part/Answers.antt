@@ -5,15 +5,13 @@ use Prim.Native.Nat.{ℕ, zero, suc, ◌*◌, ◌^◌, ◌≤◌, ◌<◌}
 use native.Mathlib.Nat.{lt_of_le_of_lt, mul_assoc, zero-mul, mul-le-mul_right}
 use native.Mathlib.Decide.{dec_lt}
 use native.Mathlib.Omega.{arith}
-use borrow.Author.Rules.{rules}
 use Rattle.values.specs.declared.rows.Row.{Row}
 use Rattle.values.specs.Exact.{AtMost}
 use Rattle.values.specs.Inputs.{FloorInput}
 use Rattle.values.specs.Parts.{divisor_part, number_part}
 use Rattle.values.proofs.PartLaws.{compared, linear, quadratic}
 use Rattle.values.proofs.Bounds.{value-part-fits}
-use Rattle.values.proofs.parts.number_part.Statement.{statement}
-use Rattle.values.proofs.parts.number_part.Tie as tie
+use Rattle.values.proofs.parts.number_part.Goals as goal
 
 one-le : (m : ℕ) → 1 ≤ suc m
 one-le m = omega arith
@@ -42,23 +40,20 @@ module _ (row : Row) (w s X n divisor : ℕ) (divisor-is : divisor ≡ divisor_p
     twice-fits : (row.k ≡ 1 → ⊥) → n * (n * divisor) < 2 ^ 64
     twice-fits other = rw (twice-is other) room
 
-returns : tie.Need-returns
-returns c =
+pub returns-then-row-eq1 : goal.returns-then-row-eq1
+returns-then-row-eq1 c =
     let p = c.before.before in
-    once_is _ _ _ _ _ _ p.divisor-part.ensures p.before.requires.0 c.if1.true
+    once_is _ _ _ _ _ _ p.divisor_part.ensures p.requires.floor_input c.if-row-eq1.true
 
-returns-2 : tie.Need-returns-2
-returns-2 c =
+pub returns-else-row-eq1 : goal.returns-else-row-eq1
+returns-else-row-eq1 c =
     let p = c.before.before in
-    twice-is _ _ _ _ _ _ p.divisor-part.ensures p.before.requires.0 c.if1.false
+    twice-is _ _ _ _ _ _ p.divisor_part.ensures p.requires.floor_input c.if-row-eq1.false
 
-mul-once : tie.Need-overflow-mul-once
-mul-once c = record { fits = once-fits _ _ _ _ _ _ c.divisor-part.ensures c.before.requires.0 c.before.requires.1 }
+pub overflow_mul-once : goal.overflow_mul-once
+overflow_mul-once c = record { fits = once-fits _ _ _ _ _ _ c.divisor_part.ensures c.requires.floor_input c.requires.at_most }
 
-mul-result : tie.Need-overflow-mul-result
-mul-result c =
+pub overflow_mul-result : goal.overflow_mul-result
+overflow_mul-result c =
     let p = c.before.before in
-    record { fits = twice-fits _ _ _ _ _ _ p.divisor-part.ensures p.before.requires.0 p.before.requires.1 c.if1.false }
-
-pub number-part-spec : {M : Type 1} → statement M
-number-part-spec = tie.close (tie.spec (λ c κs. search rules) mul-once mul-result returns returns-2)
+    record { fits = twice-fits _ _ _ _ _ _ p.divisor_part.ensures p.requires.floor_input p.requires.at_most c.if-row-eq1.false }

@@ -13,19 +13,10 @@ use Rattle.values.specs.Floor.{root_from}
 use Rattle.values.specs.Newton.{newton_sum, newton_step}
 use Rattle.values.proofs.ExactLaws.{degree}
 use Rattle.values.proofs.FloorLaws.{IsRoot, root-found}
-use Rattle.values.proofs.NewtonLaws.{step-above, sum_below, step-closer, first-sum, first-power}
-use Rattle.values.proofs.newton.floor_root.Statement.{statement}
-use Rattle.values.proofs.newton.floor_root.Tie as tie
-
-record Inv (k limit root : ℕ) : Type 0 where
-  high : limit < (root + 1) ^ k
-  small : root < 2 ^ 32
-
-abbrev invariant-loop : tie.invariant-loop
-invariant-loop k p limit root₀ root = Inv k limit root
-
-abbrev decreases-loop : tie.decreases-loop
-decreases-loop k p limit root₀ root = root
+use Rattle.values.proofs.NewtonLaws.{step-above, sum-below, step-closer, first-sum, first-power}
+use Rattle.values.proofs.newton.floor_root.Invariants.{Inv}
+use Rattle.values.proofs.newton.floor_root.Goals as goal
+use Rattle.values.proofs.newton.floor_root.Goals.{In-loop-root}
 
 -- Of degree 1
 itself : (k p limit : ℕ) → RootInput k p limit → k ≡ 1 → limit ≡ root_from k limit (p + 1) 0
@@ -82,7 +73,7 @@ module _ (k p limit : ℕ) (input : RootInput k p limit) (other : k ≡ 1 → �
           r_small = inv.small;
           sum-small = omega (
             arith,
-            sum_below k limit root input.k-pos root-pos above,
+            sum-below k limit root input.k-pos root-pos above,
             mul-le-mul input.k-small inv.small,
           );
         }
@@ -93,65 +84,49 @@ module _ (k p limit : ℕ) (input : RootInput k p limit) (other : k ≡ 1 → �
     again : (next : ℕ) → next ≡ newton_step k limit root → Inv k limit next
     again next e = rw e record { high = step-above k limit root input.k-pos root-pos; small = omega (arith, closer, inv.small) }
 
-returns : tie.Need-returns invariant-loop decreases-loop
-returns c = itself _ _ _ c.before.requires c.if1.true
+pub returns-then-k-eq1 : goal.returns-then-k-eq1
+returns-then-k-eq1 c = itself _ _ _ c.requires c.if-k-eq1.true
 
-pow2-requires : tie.Need-pow2-requires invariant-loop decreases-loop
-pow2-requires c κs = omega arith
+pub pow2-requires : goal.pow2-requires
+pow2-requires c = omega arith
 
-step-requires : tie.Need-step-requires invariant-loop decreases-loop
-step-requires c κs = let b = c.before in rw c.pow2.ensures (first-input _ _ _ b.before.requires b.if1.false)
+pub step-root-requires : goal.step-root-requires
+step-root-requires c = let b = c.before in rw c.pow2.ensures (first-input _ _ _ b.requires b.if-k-eq1.false)
 
-loop-holds : tie.Need-loop-init invariant-loop decreases-loop
-loop-holds c =
+pub loop-root-init : goal.loop-root-init
+loop-root-init c =
     let b = c.before.before in
-    begun _ _ _ b.before.requires b.if1.false _ (rw c.before.pow2.ensures at c.step.ensures)
+    begun _ _ _ b.requires b.if-k-eq1.false _ (rw c.pow2.ensures at c.step-root.ensures)
 
-is-above-requires : tie.Need-is-above-requires invariant-loop decreases-loop
-is-above-requires c κs = let b = c.before.before.before in (stepwise _ _ _ b.before.requires b.if1.false, c.loop.invariant.small)
+pub is_above-requires : goal.is_above-requires
+is_above-requires c = let b = c.before.before.before in record { stepwise = stepwise _ _ _ b.requires b.if-k-eq1.false; r_bound = c.loop-root.invariant.small }
 
 -- the root is passed
-above : (c : tie.Then2 invariant-loop decreases-loop) → let a = c.before.before.before.before.before.before.args in
-    a.limit < c.before.before.loop.root ^ a.k
-above c = ltb-true _ _ (tested c.before.is-above.ensures c.if2.true)
+above : (c : In-loop-root) → let a = c.args in
+    a.limit < c.loop-root.root ^ a.k
+above c = ltb-true _ _ (tested c.is_above.ensures c.loop-root-test.true)
 
-step-requires-2 : tie.Need-step-requires-2 invariant-loop decreases-loop
-step-requires-2 c κs =
+pub step-root-requires-in-loop-root : goal.step-root-requires-in-loop-root
+step-root-requires-in-loop-root c =
     let l = c.before.before in
     let b = l.before.before.before in
-    next-input _ _ _ b.before.requires b.if1.false _ l.loop.invariant (above c)
+    next-input _ _ _ b.requires b.if-k-eq1.false _ l.loop-root.invariant (above c)
 
-loop-less : tie.Need-loop-smaller invariant-loop decreases-loop
-loop-less c =
+pub loop-root-smaller : goal.loop-root-smaller
+loop-root-smaller c =
     let l = c.before.before.before in
     let b = l.before.before.before in
-    rw c.step2.ensures (closer _ _ _ b.before.requires b.if1.false _ l.loop.invariant (above c.before))
+    rw c.step-root-in-loop-root.ensures (closer _ _ _ b.requires b.if-k-eq1.false _ l.loop-root.invariant (above c.before))
 
-loop-again : tie.Need-loop-preserved invariant-loop decreases-loop
-loop-again c =
+pub loop-root-preserved : goal.loop-root-preserved
+loop-root-preserved c =
     let l = c.before.before.before in
     let b = l.before.before.before in
-    again _ _ _ b.before.requires b.if1.false _ l.loop.invariant (above c.before) _ c.step2.ensures
+    again _ _ _ b.requires b.if-k-eq1.false _ l.loop-root.invariant (above c.before) _ c.step-root-in-loop-root.ensures
 
-returns-2 : tie.Need-returns-2 invariant-loop decreases-loop
-returns-2 c =
+pub returns : goal.returns
+returns c =
     let l = c.before.before in
-    let pre = l.before.before.before.before.requires in
+    let pre = l.requires in
     root-found _ _ pre.k-pos _ pre.limit-small
-    record { low = ltb-false _ _ (tested c.before.is-above.ensures c.if2.false); high = l.loop.invariant.high }
-
-pub floor-root-spec : {M : Type 1} → statement M
-floor-root-spec =
-    tie.close
-    (tie.spec
-    invariant-loop
-    decreases-loop
-    returns
-    pow2-requires
-    step-requires
-    loop-holds
-    is-above-requires
-    step-requires-2
-    loop-less
-    loop-again
-    returns-2)
+    record { low = ltb-false _ _ (tested c.is_above.ensures c.loop-root-test.false); high = l.loop-root.invariant.high }

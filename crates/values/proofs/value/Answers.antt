@@ -2,7 +2,6 @@
 use mathlib.Core.Path.{◌≡◌, refl, sym, ap, ◌∙◌}
 use Prim.Native.Nat.{ℕ, ◌+◌, ◌^◌, ◌≤◌, ◌<◌}
 use native.Mathlib.Omega.{arith}
-use borrow.Author.Rules.{rules}
 use borrow.Author.Tests.{le-leb, lt-leb}
 use Rattle.refusal.specs.declared.Cause.{Cause}
 use Rattle.refusal.specs.declared.Verdict.{Verdict}
@@ -18,8 +17,8 @@ use Rattle.values.specs.Widths.{limits_of, width_checks}
 use Rattle.values.specs.Value.{value_verdict, value_of, word_check, told_by, value_told}
 use Rattle.values.proofs.Bounds.{words-few}
 use Rattle.values.proofs.WidthLaws.{Widths, widths-of}
-use Rattle.values.proofs.value.Statement.{statement}
-use Rattle.values.proofs.value.Tie as tie
+use Rattle.values.proofs.value.Goals as goal
+use Rattle.values.proofs.value.Goals.{After-width_verdict, In_default}
 
 -- The answer by the verdict of the widths and the test of the word.
 module _ (kind w q g x : ℕ) where
@@ -54,63 +53,42 @@ module _ (kind w q g x : ℕ) where
         }
 
 -- the verdict of the widths, by the limits of the kind
-judged : (c : tie.After-width-verdict) → let a = c.before.before.args in
-    c.width-verdict.result ≡ verdict (width_checks (limits_of a.kind) a.kind a.w a.q a.g)
-judged c = rw (← c.before.Limits-of.ensures) c.width-verdict.ensures
+judged : (c : After-width_verdict) → let a = c.args in
+    c.width_verdict.result ≡ verdict (width_checks (limits_of a.kind) a.kind a.w a.q a.g)
+judged c = rw (← c.limits_of.ensures) c.width_verdict.ensures
 
 -- where they passed
-passed : (c : tie.After-enum-told) → let a = c.before.before.before.before.args in
+passed : (c : In_default) → let a = c.args in
     verdict (width_checks (limits_of a.kind) a.kind a.w a.q a.g) ≡ Verdict.Passed
-passed c = sym (judged c.before.before) ∙ c.enum_told.given.1
+passed c = sym (judged c.before) ∙ c.in_default.is
 
-limits : (c : tie.After-enum-told) → let a = c.before.before.before.before.args in Widths a.kind a.w a.q a.g
+limits : (c : In_default) → let a = c.args in Widths a.kind a.w a.q a.g
 limits c = widths-of _ _ _ _ (passed c)
 
-returns : tie.Need-returns
-returns c = refused _ _ _ _ _ _ (sym (judged c.before.before.before) ∙ c.before.cause.given.1)
+pub returns-in-Refused : goal.returns-in-Refused
+returns-in-Refused c = let p = refused _ _ _ _ _ _ (sym (judged c.before) ∙ c.in-Refused.is) in record { answer = p.0; told = p.1 }
 
-enum_told : tie.Need-enum-told
-enum_told c = search rules
+pub pow2-one-requires : goal.pow2-one-requires
+pow2-one-requires c = omega (arith, limits c)
 
-pow2-requires : tie.Need-pow2-requires
-pow2-requires c κs = omega (arith, limits c)
+pub returns-then-one-word : goal.returns-then-one-word
+returns-then-one-word c = let p = past _ _ _ _ _ (passed c.before.before) (omega (arith, c.pow2-one.ensures)) in record { answer = p.0; told = p.1 }
 
-returns-2 : tie.Need-returns-2
-returns-2 c = past _ _ _ _ _ (passed c.before.before) (omega (arith, c.before.pow2.ensures))
+pub returns : goal.returns
+returns c = let p = within _ _ _ _ _ (passed c.before.before.before.before)
+    (rw c.pow2-one.ensures at c.if-one-word.false) _
+    (rw (c.row_of.ensures, c.pow2-one.ensures) at c.floor_and_whole.ensures) in record { answer = p.0; told = p.1 }
 
-returns-3 : tie.Need-returns-3
-returns-3 c =
-    within _ _ _ _ _ (passed c.before.before.before.before)
-    (rw c.before.before.before.pow2.ensures at c.before.before.if1.false) _
-    (rw (c.before.row_of.ensures, c.before.before.before.pow2.ensures) at c.floor-and-whole.ensures)
+pub row_of-requires : goal.row_of-requires
+row_of-requires c = (limits c.before.before).kind-known
 
-row-of-requires : tie.Need-row-of-requires
-row-of-requires c κs = (limits c.before.before).kind-known
+pub overflow_add-q : goal.overflow_add-q
+overflow_add-q c = omega (arith, limits c.before.before.before)
 
-add-floor-and-whole : tie.Need-overflow-add-floor-and-whole
-add-floor-and-whole c = omega (arith, limits c.before.before.before)
+pub overflow_add-one : goal.overflow_add-one
+overflow_add-one c = omega (arith, words-few (limits c.before.before.before).room)
 
-add-floor-and-whole-2 : tie.Need-overflow-add-floor-and-whole-2
-add-floor-and-whole-2 c = omega (arith, words-few (limits c.before.before.before).room)
-
-floor-and-whole-requires : tie.Need-floor-and-whole-requires
-floor-and-whole-requires c κs =
-    rw (c.row_of.ensures, c.before.before.pow2.ensures)
-    (fits _ _ _ _ _ (passed c.before.before.before) (rw c.before.before.pow2.ensures at c.before.if1.false))
-
-pub value_spec : {M : Type 1} → statement M
-value_spec =
-    tie.close
-    (tie.spec
-    (λ c κs. search rules)
-    (λ c κs. search rules)
-    (λ c. search rules)
-    returns
-    enum_told
-    pow2-requires
-    returns-2
-    row-of-requires
-    add-floor-and-whole
-    add-floor-and-whole-2
-    floor-and-whole-requires
-    returns-3)
+pub floor_and_whole-requires : goal.floor_and_whole-requires
+floor_and_whole-requires c =
+    rw (c.row_of.ensures, c.pow2-one.ensures)
+    (fits _ _ _ _ _ (passed c.before.before.before) (rw c.pow2-one.ensures at c.if-one-word.false))

@@ -2,7 +2,6 @@
 use mathlib.Core.Path.{◌≡◌, ap, ◌∙◌}
 use Prim.Native.Nat.{ℕ, ◌<◌}
 use native.Mathlib.Omega.{arith}
-use borrow.Author.Rules.{rules}
 use lib.IntN.{ℤ, pos}
 use mir.Syntax.{w64}
 use mir.ValLaws.{to_z_pos}
@@ -13,8 +12,7 @@ use Rattle.values.specs.Room.{floor_bound}
 use Rattle.values.specs.Floor.{scaled, floor_value}
 use Rattle.values.proofs.FloorLaws.{scaled-high}
 use Rattle.values.proofs.Bounds.{floor-small}
-use Rattle.values.proofs.floor.floor_value.Statement.{statement}
-use Rattle.values.proofs.floor.floor_value.Tie as tie
+use Rattle.values.proofs.floor.floor_value.Goals as goal
 
 units : ℤ → TableUnits
 units z = record { 0 = z }
@@ -31,26 +29,17 @@ module _ (row : Row) (w P X : ℕ) (input : FloorInput row w P X) where
   few : {r : ℕ} → r ≡ floor_value row w P X → r < floor_bound
   few e = rw e (floor-small row w P X input)
 
-floor-root-requires : tie.Need-floor-root-requires
-floor-root-requires c κs = rw c.scaled.ensures (root-input _ _ _ _ c.before.requires)
+pub floor_root-root-requires : goal.floor_root-root-requires
+floor_root-root-requires c = rw c.scaled.ensures (root-input _ _ _ _ c.requires)
 
-cast-t7 : tie.Need-overflow-cast-t7
+pub overflow_cast-result : goal.overflow_cast-result
 unfolding floor_value
-cast-t7 c =
-    let small = few _ _ _ _ c.before.before.requires (rw c.before.scaled.ensures at c.floor-root.ensures) in
+overflow_cast-result c =
+    let small = few _ _ _ _ c.requires (rw c.scaled.ensures at c.floor_root-root.ensures) in
     record { sfits = omega (arith, small) }
 
-returns : tie.Need-returns
+pub returns : goal.returns
 unfolding floor_value units
 returns c =
-    let e = rw c.before.scaled.ensures at c.floor-root.ensures in
-    ap units (to_z_pos w64 _ (omega (arith, few _ _ _ _ c.before.before.requires e)) ∙ ap pos e)
-
-pub floor-value-spec : {M : Type 1} → statement M
-floor-value-spec =
-    tie.close
-    (tie.spec
-    (λ c κs. search rules)
-    floor-root-requires
-    cast-t7
-    returns)
+    let e = rw c.scaled.ensures at c.floor_root-root.ensures in
+    ap units (to_z_pos w64 _ (omega (arith, few _ _ _ _ c.requires e)) ∙ ap pos e)

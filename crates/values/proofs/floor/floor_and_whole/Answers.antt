@@ -2,7 +2,6 @@
 use mathlib.Core.Path.{◌≡◌, ap, ap₂, ◌∙◌}
 use mathlib.Core.Bool.{Bool}
 use Prim.Native.Nat.{ℕ}
-use borrow.Author.Rules.{rules}
 use lib.Dec.{eqb}
 use lib.IntN.{nat_abs}
 use Rattle.values.specs.declared.rows.Row.{Row}
@@ -14,8 +13,8 @@ use Rattle.values.specs.Parts.{number_part, value_part}
 use Rattle.values.specs.Floor.{floor_value, is_whole}
 use Rattle.values.proofs.PartLaws.{compared, same-test-eq}
 use Rattle.values.proofs.FloorLaws.{floor-greatest}
-use Rattle.values.proofs.floor.floor_and_whole.Statement.{statement}
-use Rattle.values.proofs.floor.floor_and_whole.Tie as tie
+use Rattle.values.proofs.floor.floor_and_whole.Goals as goal
+use Rattle.values.proofs.floor.floor_and_whole.Goals.{After-count}
 
 both : TableUnits → Bool → FloorValue
 both units whole = record { units = units; whole = whole }
@@ -31,28 +30,18 @@ module _ (row : Row) (w P X : ℕ) where
   at_most input count e = rw e (floor-greatest row input.lawful w P X input.range).holds
 
 -- the floor value as a plain number
-counted : (c : tie.After-count) → let a = c.before.before.args in c.count.result ≡ floor_value a.row a.w a.p a.x
-counted c = c.count.ensures ∙ ap (λ (u : TableUnits). nat_abs u.0) c.before.floor-value.ensures
+counted : (c : After-count) → let a = c.args in c.count.result ≡ floor_value a.row a.w a.p a.x
+counted c = c.count.ensures ∙ ap (λ (u : TableUnits). nat_abs u.0) c.floor_value-units.ensures
 
-returns : tie.Need-returns
+pub returns : goal.returns
 unfolding both
 returns c =
     let n = c.before.before in
-    ap₂ both n.before.floor-value.ensures
-    (whole_is _ _ _ _ _ _ _ (counted n) c.before.number-part.ensures c.value-part.ensures)
+    ap₂ both n.floor_value-units.ensures
+    (whole_is _ _ _ _ _ _ _ (counted n) c.number_part.ensures c.value_part.ensures)
 
-count-requires : tie.Need-count-requires
-count-requires c κs = rw c.floor-value.ensures tt
+pub count-requires : goal.count-requires
+count-requires c = rw c.floor_value-units.ensures tt
 
-number-part-requires : tie.Need-number-part-requires
-number-part-requires c κs = let input = c.before.before.requires in (input, at_most _ _ _ _ input _ (counted c))
-
-pub floor-and-whole-spec : {M : Type 1} → statement M
-floor-and-whole-spec =
-    tie.close
-    (tie.spec
-    (λ c κs. search rules)
-    count-requires
-    number-part-requires
-    (λ c κs. search rules)
-    returns)
+pub number_part-requires : goal.number_part-requires
+number_part-requires c = let input = c.requires in record { floor_input = input; at_most = at_most _ _ _ _ input _ (counted c) }

@@ -2,12 +2,10 @@
 use mathlib.Core.Path.{◌≡◌, refl}
 use Prim.Native.Nat.{ℕ, ◌+◌, ◌/◌, ◌^◌, ◌<◌}
 use native.Mathlib.Omega.{arith}
-use borrow.Author.Rules.{rules}
 use Rattle.values.specs.Inputs.{StepInput}
 use Rattle.values.specs.Newton.{newton_sum, newton_step}
 use Rattle.values.proofs.NewtonLaws.{first-power}
-use Rattle.values.proofs.newton.step.Statement.{statement}
-use Rattle.values.proofs.newton.step.Tie as tie
+use Rattle.values.proofs.newton.step.Goals as goal
 
 module _ (k limit r : ℕ) (input : StepInput k limit r) where
   two : k ≡ 2
@@ -24,16 +22,8 @@ module _ (k limit r : ℕ) (input : StepInput k limit r) where
   sum_fits : r + limit / r < 2 ^ 64
   sum_fits = rw sum_is input.sum-small
 
-add-result : tie.Need-overflow-add-result
-add-result c = record { fits = sum_fits _ _ _ c.requires }
+pub overflow_add-result : goal.overflow_add-result
+overflow_add-result c = record { fits = sum_fits _ _ _ c.requires }
 
-returns : tie.Need-returns
+pub returns : goal.returns
 returns c = quadratic _ _ _ c.requires
-
-pub step_spec : {M : Type 1} → statement M
-step_spec =
-    tie.close
-    (tie.spec
-    (λ c. search rules)
-    add-result
-    returns)

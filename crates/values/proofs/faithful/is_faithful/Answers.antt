@@ -4,7 +4,6 @@ use mathlib.Core.Path.{◌≡◌, ap, ◌∙◌}
 use mathlib.Core.Bool.{false}
 use Prim.Native.Nat.{ℕ, ◌+◌, ◌-◌, ◌<◌, ◌≤◌}
 use native.Mathlib.Omega.{arith}
-use borrow.Author.Rules.{rules}
 use borrow.Author.Tests.{lt-ltb, le-ltb}
 use lib.Dec.{ltb}
 use Rattle.values.specs.declared.rows.Row.{Row}
@@ -13,8 +12,8 @@ use Rattle.values.specs.Parts.{number_part, value_part}
 use Rattle.values.specs.Faithful.{is_faithful}
 use Rattle.values.proofs.PartLaws.{compared, same_test}
 use Rattle.values.proofs.Bounds.{coarser-input}
-use Rattle.values.proofs.faithful.is_faithful.Statement.{statement}
-use Rattle.values.proofs.faithful.is_faithful.Tie as tie
+use Rattle.values.proofs.faithful.is_faithful.Goals as goal
+use Rattle.values.proofs.faithful.is_faithful.Goals.{After-neighbour_parts-parts, Else-word-eq0}
 
 module _ (row : Row) (w q X y : ℕ) where
   zero_word : y ≡ 0 → false ≡ is_faithful row w q X y
@@ -38,43 +37,39 @@ module _ (row : Row) (w q X y : ℕ) where
           high_is,
         )
 
-returns : tie.Need-returns
-returns c = zero_word _ _ _ _ _ c.if1.true
+pub returns-then-word-eq0 : goal.returns-then-word-eq0
+returns-then-word-eq0 c = zero_word _ _ _ _ _ c.if-word-eq0.true
 
-value-part-requires : tie.Need-value-part-requires
-value-part-requires c κs = let s = c.before.before in coarser-input s.args.q (omega arith) s.requires.0
+pub value_part-exact-requires : goal.value_part-exact-requires
+value_part-exact-requires c = let s = c.before.before in coarser-input s.args.q (omega arith) s.requires.floor_input
 
 -- the word is not 0
-positive : (c : tie.Else1) → 0 < c.before.before.args.y.0
-positive c = omega (arith, c.if1.false)
+positive : (c : Else-word-eq0) → 0 < c.args.y.0
+positive c = omega (arith, c.if-word-eq0.false)
 
-neighbour-parts-requires : tie.Need-neighbour-parts-requires
-neighbour-parts-requires c κs =
-    let p = c.before.before.before.requires in
-    (p.0, (positive c.before, omega (arith, p.1)))
+pub neighbour_parts-parts-requires : goal.neighbour_parts-parts-requires
+neighbour_parts-parts-requires c =
+    let p = c.requires in
+    record { floor_input = p.floor_input; le_n = (positive c.before, omega (arith, p.y_bound)) }
 
 -- the two parts are those of its neighbours
-low_part : (c : tie.After-neighbour-parts) → let a = c.before.before.before.before.args in
-    c.neighbour-parts.result.low ≡ number_part a.row a.w a.q a.x (a.y.0 - 1)
-low_part c = ap (λ (p : Parts). p.low) c.neighbour-parts.ensures
+low_part : (c : After-neighbour_parts-parts) → let a = c.args in
+    c.neighbour_parts-parts.result.low ≡ number_part a.row a.w a.q a.x (a.y.0 - 1)
+low_part c = ap (λ (p : Parts). p.low) c.neighbour_parts-parts.ensures
 
-high_part : (c : tie.After-neighbour-parts) → let a = c.before.before.before.before.args in
-    c.neighbour-parts.result.high ≡ number_part a.row a.w a.q a.x (a.y.0 + 1)
-high_part c = ap (λ (p : Parts). p.high) c.neighbour-parts.ensures
+high_part : (c : After-neighbour_parts-parts) → let a = c.args in
+    c.neighbour_parts-parts.result.high ≡ number_part a.row a.w a.q a.x (a.y.0 + 1)
+high_part c = ap (λ (p : Parts). p.high) c.neighbour_parts-parts.ensures
 
-returns-2 : tie.Need-returns-2
-returns-2 c =
+pub returns-then-parts-exact : goal.returns-then-parts-exact
+returns-then-parts-exact c =
     let n = c.before.before.before in
     let v = n.before in
-    near _ _ _ _ _ _ _ _ v.value-part.ensures (low_part n) (high_part n) (positive v.before) c.before.if2.true
+    near _ _ _ _ _ _ _ _ v.value_part-exact.ensures (low_part n) (high_part n) (positive v.before) c.if-parts-exact.true
 
-returns-3 : tie.Need-returns-3
-returns-3 c =
+pub returns-else-parts-exact : goal.returns-else-parts-exact
+returns-else-parts-exact c =
     let n = c.before.before in
     let v = n.before in
-    le-ltb _ _ c.if2.false
-    ∙ too-high _ _ _ _ _ _ _ _ v.value-part.ensures (low_part n) (high_part n) (positive v.before) c.if2.false
-
-pub is-faithful-spec : {M : Type 1} → statement M
-is-faithful-spec =
-    tie.close (tie.spec (λ c. search rules) returns value-part-requires neighbour-parts-requires returns-2 returns-3)
+    le-ltb _ _ c.if-parts-exact.false
+    ∙ too-high _ _ _ _ _ _ _ _ v.value_part-exact.ensures (low_part n) (high_part n) (positive v.before) c.if-parts-exact.false

@@ -2,9 +2,8 @@
 -- the sides do.
 use mathlib.Core.Path.{◌≡◌, ap}
 use mathlib.Core.Bool.{true}
-use Prim.Native.Nat.{ℕ, ◌+◌, ◌-◌}
+use Prim.Native.Nat.{ℕ, ◌+◌}
 use native.Mathlib.Omega.{arith}
-use borrow.Author.Rules.{rules}
 use borrow.Author.Tests.{eq-eqb, ne_eqb}
 use lib.Dec.{leb}
 use Rattle.values.specs.declared.rows.Row.{Row}
@@ -13,8 +12,7 @@ use Rattle.values.specs.Parts.{number_part, value_part}
 use Rattle.values.specs.Faithful.{is_too_low}
 use Rattle.values.proofs.PartLaws.{compared, same-test-le}
 use Rattle.values.proofs.Bounds.{coarser-input}
-use Rattle.values.proofs.faithful.is_too_low.Statement.{statement}
-use Rattle.values.proofs.faithful.is_too_low.Tie as tie
+use Rattle.values.proofs.faithful.is_too_low.Goals as goal
 
 module _ (row : Row) (w q X y : ℕ) where
   zero_word : y ≡ 0 → true ≡ is_too_low row w q X y
@@ -27,22 +25,19 @@ module _ (row : Row) (w q X y : ℕ) where
   by_part exact high exact-is high_is positive =
       rw (ne_eqb y 0 positive, same-test-le (compared row w q X (y + 1)).at_most, exact-is, high_is)
 
-returns : tie.Need-returns
-returns c = zero_word _ _ _ _ _ c.if1.true
+pub returns-then-word-eq0 : goal.returns-then-word-eq0
+returns-then-word-eq0 c = zero_word _ _ _ _ _ c.if-word-eq0.true
 
-value-part-requires : tie.Need-value-part-requires
-value-part-requires c κs = let s = c.before.before in coarser-input s.args.q (omega arith) s.requires.0
+pub value_part-exact-requires : goal.value_part-exact-requires
+value_part-exact-requires c = let s = c.before.before in coarser-input s.args.q (omega arith) s.requires.floor_input
 
-neighbour-parts-requires : tie.Need-neighbour-parts-requires
-neighbour-parts-requires c κs =
-    let p = c.before.before.before.requires in
-    (p.0, (omega (arith, c.before.if1.false), omega (arith, p.1)))
+pub neighbour_parts-parts-requires : goal.neighbour_parts-parts-requires
+neighbour_parts-parts-requires c =
+    let p = c.requires in
+    record { floor_input = p.floor_input; le_n = (omega (arith, c.if-word-eq0.false), omega (arith, p.y_bound)) }
 
-returns-2 : tie.Need-returns-2
-returns-2 c =
+pub returns : goal.returns
+returns c =
     let n = c.before in
     let v = n.before in
-    by_part _ _ _ _ _ _ _ v.value-part.ensures (ap (λ (p : Parts). p.high) n.neighbour-parts.ensures) v.before.if1.false
-
-pub is-too-low-spec : {M : Type 1} → statement M
-is-too-low-spec = tie.close (tie.spec (λ c. search rules) returns value-part-requires neighbour-parts-requires returns-2)
+    by_part _ _ _ _ _ _ _ v.value_part-exact.ensures (ap (λ (p : Parts). p.high) n.neighbour_parts-parts.ensures) v.if-word-eq0.false
