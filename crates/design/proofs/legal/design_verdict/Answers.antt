@@ -1,6 +1,5 @@
 -- `design::legal::design_verdict` meets its contract: a refusal of the widths stands, and the cut is judged after they pass.
 use mathlib.Core.Path.{◌≡◌, sym, ◌∙◌}
-use borrow.Author.Rules.{rules}
 use Rattle.refusal.specs.declared.Cause.{Cause}
 use Rattle.refusal.specs.declared.Verdict.{Verdict}
 use Rattle.refusal.specs.Checks.{verdict}
@@ -8,8 +7,8 @@ use Rattle.refusal.proofs.Checks.{verdict-append}
 use Rattle.values.specs.Widths.{limits_of, width_checks}
 use Rattle.design.specs.declared.Design.{Design}
 use Rattle.design.specs.Legal.{cut_checks, design_checks, design_verdict}
-use Rattle.design.proofs.legal.design_verdict.Statement.{statement}
-use Rattle.design.proofs.legal.design_verdict.Tie as tie
+use Rattle.design.proofs.legal.design_verdict.Goals as goal
+use Rattle.design.proofs.legal.design_verdict.Goals.{After-width_verdict}
 
 module _ (d : Design) where
   refused : (cause : Cause) → verdict (width_checks (limits_of d.kind) d.kind d.w d.q d.g) ≡ Verdict.Refused cause
@@ -23,28 +22,13 @@ module _ (d : Design) where
   passed e = rw (verdict-append, e)
 
 -- the verdict of the widths, by the limits of the kind
-judged : (c : tie.After-width-verdict) → let d = c.before.before.args.d in
-    c.width-verdict.result ≡ verdict (width_checks (limits_of d.kind) d.kind d.w d.q d.g)
-judged c = rw (← c.before.Limits-of.ensures) c.width-verdict.ensures
+judged : (c : After-width_verdict) → let d = c.args.d in
+    c.width_verdict.result ≡ verdict (width_checks (limits_of d.kind) d.kind d.w d.q d.g)
+judged c = rw (← c.limits_of.ensures) c.width_verdict.ensures
 
-returns : tie.Need-returns
-returns c = refused _ _ (sym (judged c.before.before.before) ∙ c.before.cause.given.1)
+pub returns-in-Refused : goal.returns-in-Refused
+returns-in-Refused c = refused _ _ (sym (judged c.before) ∙ c.in-Refused.is)
 
-enum_told : tie.Need-enum-told
-enum_told c = search rules
-
-returns-2 : tie.Need-returns-2
-returns-2 c =
-    c.cut-verdict.ensures ∙ passed _ (sym (judged c.before.before.before) ∙ c.before.enum_told.given.1)
-
-pub design-verdict-spec : {M : Type 1} → statement M
-design-verdict-spec =
-    tie.close
-    (tie.spec
-    (λ c κs. search rules)
-    (λ c κs. search rules)
-    (λ c. search rules)
-    returns
-    enum_told
-    (λ c κs. search rules)
-    returns-2)
+pub returns : goal.returns
+returns c =
+    c.cut_verdict.ensures ∙ passed _ (sym (judged c.before.before) ∙ c.in_default.is)

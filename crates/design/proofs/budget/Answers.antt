@@ -1,0 +1,29 @@
+-- `design::budget` meets its contract: the verdict's refusal, or the budget of a legal design.
+use mathlib.Core.Path.{◌≡◌, sym, ◌∙◌}
+use Rattle.refusal.specs.declared.Cause.{Cause}
+use Rattle.refusal.specs.declared.Verdict.{Verdict}
+use Rattle.design.specs.declared.Design.{Design}
+use Rattle.design.specs.declared.Measured.{Measured}
+use Rattle.design.specs.Legal.{design_verdict, Legal}
+use Rattle.design.specs.Answers.{budget_answer, told_by, budget_told}
+use Rattle.design.proofs.budget.Goals as goal
+use Rattle.design.proofs.budget.Goals.{In_default}
+
+refused : (d : Design) (cause : Cause) → design_verdict d ≡ Verdict.Refused cause
+    → (Measured.Refused cause ≡ budget_answer d) × (told_by (Measured.Refused cause) ≡ budget_told d)
+unfolding budget_answer budget_told
+refused d cause e = (rw e, rw e)
+
+pub returns-in-Refused : goal.returns-in-Refused
+returns-in-Refused c = let p = refused _ _ (sym c.design_verdict.ensures ∙ c.in-Refused.is) in record { answer = p.0; told = p.1 }
+
+-- where the verdict passed
+legal : (c : In_default) → Legal c.args.d
+legal c = sym c.design_verdict.ensures ∙ c.in_default.is
+
+pub budget_of-requires : goal.budget_of-requires
+budget_of-requires c = legal c
+
+pub returns : goal.returns
+unfolding budget_answer budget_told
+returns c = record { answer = rw (legal c.before, c.budget_of.ensures); told = rw (legal c.before, c.budget_of.ensures) }

@@ -1,0 +1,29 @@
+-- `design::measure::offset_count` meets its contract: the pair is the table's, and it has few bits.
+use mathlib.Core.Path.{sym, ◌∙◌}
+use Prim.Native.Nat.{◌+◌, ◌≤◌}
+use native.Mathlib.Omega.{arith}
+use Rattle.design.specs.Limits.{most_table_bits}
+use Rattle.design.proofs.LegalLaws.{limits}
+use Rattle.design.proofs.StoredLaws.{count-is}
+use Rattle.design.proofs.measure.offset_count.Goals as goal
+use Rattle.design.proofs.measure.offset_count.Goals.{After-struct_known-1}
+
+pub pair_at-pair-requires : goal.pair_at-pair-requires
+pair_at-pair-requires c = (c.requires.i_lt_m, (limits _ c.requires.legal).m-high)
+
+-- the bits of the table
+few_bits : (c : After-struct_known-1) → c.pair_at-pair.result.a + c.pair_at-pair.result.b ≤ most_table_bits
+few_bits c =
+    let start = c.before.before in
+    rw c.pair_at-pair.ensures ((limits _ start.requires.legal).table _ start.requires.i_lt_m).sum-high
+
+pub overflow_add-pair : goal.overflow_add-pair
+overflow_add-pair c = omega (arith, few_bits c)
+
+pub pow2-requires : goal.pow2-requires
+pow2-requires c = omega (arith, few_bits c)
+
+pub returns : goal.returns
+returns c =
+    let start = c.before.before.before in
+    rw c.pair_at-pair.ensures at c.pow2.ensures ∙ sym (count-is start.args.d start.args.i)
