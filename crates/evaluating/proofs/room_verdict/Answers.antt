@@ -3,7 +3,6 @@ use mathlib.Core.Path.{◌≡◌, sym, ◌∙◌}
 use mathlib.Core.List.{List}
 use Prim.Native.Nat.{ℕ, ◌≤◌, ◌<◌}
 use native.Mathlib.Omega.{arith}
-use borrow.Author.Rules.{rules}
 use borrow.Author.Tests.{lt-ltb, le-ltb}
 use lib.ListN.{length}
 use lib.IntN.{ℤ}
@@ -14,8 +13,8 @@ use Rattle.refusal.proofs.Checks.{verdict-append}
 use Rattle.design.specs.declared.Design.{Design}
 use Rattle.tables.specs.Set.{set_checks}
 use Rattle.evaluating.specs.Batch.{output_check, room_verdict}
-use Rattle.evaluating.proofs.room_verdict.Statement.{statement}
-use Rattle.evaluating.proofs.room_verdict.Tie as tie
+use Rattle.evaluating.proofs.room_verdict.Goals as goal
+use Rattle.evaluating.proofs.room_verdict.Goals.{In_default}
 
 module _ (d : Design) (initial : List ℕ) (offsets : List ℤ) (words output : ℕ) where
   refused : (cause : Cause) → verdict (set_checks d (length initial) (length offsets)) ≡ Verdict.Refused cause
@@ -32,31 +31,11 @@ module _ (d : Design) (initial : List ℕ) (offsets : List ℤ) (words output : 
     unfolding room_verdict output_check
     long h = rw (verdict-append, passed, le-ltb _ _ h)
 
--- where the set passed
-set-passed : (c : tie.After-enum-told) →
-    let a = c.before.before.before.before.args in
-    verdict (set_checks a.d (length a.initial.now) (length a.offsets.now)) ≡ Verdict.Passed
-set-passed c = sym c.before.before.set-verdict.ensures ∙ c.enum_told.given.1
+pub returns-in-Refused : goal.returns-in-Refused
+returns-in-Refused c = sym (refused _ _ _ _ _ _ (sym c.set_verdict.ensures ∙ c.in-Refused.is))
 
-returns : tie.Need-returns
-returns c = sym (refused _ _ _ _ _ _ (sym c.before.before.before.set-verdict.ensures ∙ c.before.cause.given.1))
+pub returns-then-output-words : goal.returns-then-output-words
+returns-then-output-words c = sym (short _ _ _ _ _ ((let set-passed' : (let a = c.args in verdict (set_checks a.d (length a.initial.now) (length a.offsets.now)) ≡ Verdict.Passed) = sym c.set_verdict.ensures ∙ c.in_default.is in set-passed')) (omega arith))
 
-enum_told : tie.Need-enum-told
-enum_told c = search rules
-
-returns-2 : tie.Need-returns-2
-returns-2 c = sym (short _ _ _ _ _ (set-passed c.before) (omega arith))
-
-returns-3 : tie.Need-returns-3
-returns-3 c = sym (long _ _ _ _ _ (set-passed c.before) c.if1.false)
-
-pub room-verdict-spec : {M : Type 1} → statement M
-room-verdict-spec =
-    tie.close
-    (tie.spec
-    (λ c κs. search rules)
-    (λ c. search rules)
-    returns
-    enum_told
-    returns-2
-    returns-3)
+pub returns : goal.returns
+returns c = sym (long _ _ _ _ _ ((let set-passed' : (let a = c.args in verdict (set_checks a.d (length a.initial.now) (length a.offsets.now)) ≡ Verdict.Passed) = sym c.set_verdict.ensures ∙ c.in_default.is in set-passed')) c.if-output-words.false)

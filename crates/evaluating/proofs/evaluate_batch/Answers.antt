@@ -2,7 +2,6 @@
 use mathlib.Core.Path.{◌≡◌, refl, sym, ap, ◌∙◌}
 use mathlib.Core.List.{List, ◌++◌, map}
 use Prim.Native.Nat.{ℕ, ◌<◌}
-use borrow.Author.Rules.{rules}
 use lib.IntN.{ℤ}
 use lib.ListN.{length, drop, length-map}
 use Rattle.refusal.specs.declared.Cause.{Cause}
@@ -13,8 +12,8 @@ use Rattle.evaluating.specs.declared.Batched.{Batched}
 use Rattle.evaluating.specs.Batch.{room_verdict, batch_below, place_verdict, batch_answer, output_left, output_after, told_by, batch_told}
 use Rattle.evaluating.proofs.BatchLaws.{batch-all, batch-passed, room-tells}
 use Rattle.evaluating.proofs.BatchTold.{batch-told}
-use Rattle.evaluating.proofs.evaluate_batch.Statement.{statement}
-use Rattle.evaluating.proofs.evaluate_batch.Tie as tie
+use Rattle.evaluating.proofs.evaluate_batch.Goals as goal
+use Rattle.evaluating.proofs.evaluate_batch.Goals.{In_default, In_default-answer}
 
 -- The answer and the output by the verdicts.
 module _ (d : Design) (initial : List ℕ) (offsets : List ℤ) (words output : List ℕ) where
@@ -51,59 +50,31 @@ module _ (d : Design) (initial : List ℕ) (offsets : List ℤ) (words output : 
         answered r left (rw room (sym r-is)) (rw (r-is ∙ counted, length-map) left_is)
 
 -- where 1 to 10 and 14 passed
-room-passed : (c : tie.After-enum-told) →
-    let a = c.before.before.before.before.before.before.args in
+room-passed : (c : In_default) →
+    let a = c.args in
     room_verdict a.d a.initial.now a.offsets.now (length a.words.now) (length a.output.now) ≡ Verdict.Passed
-room-passed c = sym c.before.before.room-verdict.ensures ∙ c.enum_told.given.1
+room-passed c = sym c.room_verdict.ensures ∙ c.in_default.is
 
--- where the words passed
-words-passed : (c : tie.After-enum-told2) →
-    let a = c.before.before.before.before.before.before.before.before.before.before.args in
-    (i : ℕ) → i < length a.words.now → place_verdict a.d a.initial.now a.offsets.now a.words.now i ≡ Verdict.Passed
-words-passed c = batch-passed _ _ _ (sym c.before.before.words-verdict.ensures ∙ c.enum-told2.given.1)
+pub returns-in-Refused : goal.returns-in-Refused
+returns-in-Refused c = let p = room-refused _ _ _ _ _ _ (sym c.room_verdict.ensures ∙ c.in-Refused.is) in record { answer = p.0; contents = p.1.0; told = p.1.1 }
 
-returns : tie.Need-returns
-returns c = room-refused _ _ _ _ _ _ (sym c.before.before.before.room-verdict.ensures ∙ c.before.cause.given.1)
+pub lookups_of-lookups-requires : goal.lookups_of-lookups-requires
+lookups_of-lookups-requires c = (room-tells _ _ _ _ _ (room-passed c)).0.legal
 
-enum_told : tie.Need-enum-told
-enum_told c = search rules
+pub words_verdict-answer-requires : goal.words_verdict-answer-requires
+words_verdict-answer-requires c = record { usable = (room-tells _ _ _ _ _ ((let room-passed' : (let a = c.args in room_verdict a.d a.initial.now a.offsets.now (length a.words.now) (length a.output.now) ≡ Verdict.Passed) = sym c.room_verdict.ensures ∙ c.in_default.is in room-passed'))).0; lookups_value = c.lookups_of-lookups.ensures }
 
-lookups-of-requires : tie.Need-lookups-of-requires
-lookups-of-requires c κs = (room-tells _ _ _ _ _ (room-passed c)).0.legal
+pub returns-in-Refused-answer : goal.returns-in-Refused-answer
+returns-in-Refused-answer c = let p = word-refused _ _ _ _ _ ((let room-passed' : (let a = c.args in room_verdict a.d a.initial.now a.offsets.now (length a.words.now) (length a.output.now) ≡ Verdict.Passed) = sym c.room_verdict.ensures ∙ c.in_default.is in room-passed')) _ _
+    (sym c.words_verdict-answer.ensures ∙ c.in-Refused-answer.is) in record { answer = p.0; contents = p.1.0; told = p.1.1 }
 
-words-verdict-requires : tie.Need-words-verdict-requires
-words-verdict-requires c κs = ((room-tells _ _ _ _ _ (room-passed c.before)).0, c.lookups-of.ensures)
-
-returns-2 : tie.Need-returns-2
-returns-2 c =
-    word-refused _ _ _ _ _ (room-passed c.before.before.before.before.before) _ _
-    (sym c.before.before.before.words-verdict.ensures ∙ c.before.answer.given.1)
-
-write-words-requires : tie.Need-write-words-requires
-write-words-requires c κs =
+pub write_words-requires : goal.write_words-requires
+write_words-requires c =
     let b = c.before.before.before.before in
-    let tells = room-tells _ _ _ _ _ (room-passed b.before) in
-    (tells.0, (b.lookups-of.ensures, (words-passed c.before, tells.1)))
+    let tells = room-tells _ _ _ _ _ ((let room-passed' : (let a = c.args in room_verdict a.d a.initial.now a.offsets.now (length a.words.now) (length a.output.now) ≡ Verdict.Passed) = sym c.room_verdict.ensures ∙ c.in_default.is in room-passed')) in
+    record { usable = tells.0; lookups_value = b.lookups_of-lookups.ensures; by_index = (let words-passed' : (let a = c.args in (i : ℕ) → i < length a.words.now → place_verdict a.d a.initial.now a.offsets.now a.words.now i ≡ Verdict.Passed) = batch-passed _ _ _ (sym c.words_verdict-answer.ensures ∙ c.in_default-answer.is) in words-passed'); words_in_bounds = tells.1 }
 
-returns-3 : tie.Need-returns-3
-returns-3 c =
-    accepted _ _ _ _ _ (room-passed c.before.before.before.before.before.before.before.before)
-    (words-passed c.before.before.before.before) _ _ c.before.before.before.before.before.before.words-verdict.ensures
-    c.before.before.write-words.ensures
-
-pub evaluate-batch-spec : {M : Type 1} → statement M
-evaluate-batch-spec =
-    tie.close
-    (tie.spec
-    (λ c κs. search rules)
-    (λ c. search rules)
-    returns
-    enum_told
-    lookups-of-requires
-    words-verdict-requires
-    (λ c. search rules)
-    returns-2
-    (λ c. search rules)
-    write-words-requires
-    (λ c. search rules)
-    returns-3)
+pub returns : goal.returns
+returns c = let p = accepted _ _ _ _ _ ((let room-passed' : (let a = c.args in room_verdict a.d a.initial.now a.offsets.now (length a.words.now) (length a.output.now) ≡ Verdict.Passed) = sym c.room_verdict.ensures ∙ c.in_default.is in room-passed'))
+    ((let words-passed' : (let a = c.args in (i : ℕ) → i < length a.words.now → place_verdict a.d a.initial.now a.offsets.now a.words.now i ≡ Verdict.Passed) = batch-passed _ _ _ (sym c.words_verdict-answer.ensures ∙ c.in_default-answer.is) in words-passed')) _ _ c.words_verdict-answer.ensures
+    c.write_words.ensures in record { answer = p.0; contents = p.1.0; told = p.1.1 }

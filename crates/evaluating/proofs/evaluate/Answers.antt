@@ -2,7 +2,6 @@
 use mathlib.Core.Path.{◌≡◌, refl, sym, ap, ◌∙◌}
 use mathlib.Core.List.{List}
 use Prim.Native.Nat.{ℕ}
-use borrow.Author.Rules.{rules}
 use lib.ListN.{length}
 use lib.IntN.{ℤ}
 use Rattle.refusal.specs.declared.Cause.{Cause}
@@ -16,8 +15,8 @@ use Rattle.tables.specs.Set.{set_checks}
 use Rattle.tables.proofs.SetLaws.{usable}
 use Rattle.evaluating.specs.declared.Evaluated.{Evaluated}
 use Rattle.evaluating.specs.Evaluate.{word_checks, evaluated, evaluate_verdict, evaluate_answer, told_by, evaluate_told}
-use Rattle.evaluating.proofs.evaluate.Statement.{statement}
-use Rattle.evaluating.proofs.evaluate.Tie as tie
+use Rattle.evaluating.proofs.evaluate.Goals as goal
+use Rattle.evaluating.proofs.evaluate.Goals.{In_default}
 
 -- The answer by the verdicts of the set and of the word.
 module _ (d : Design) (initial : List ℕ) (offsets : List ℤ) (x : ℕ) where
@@ -40,34 +39,19 @@ module _ (d : Design) (initial : List ℕ) (offsets : List ℤ) (x : ℕ) where
   answered passed r e = promised r (rw (verdict-append, passed) e)
 
 -- where the set passed
-set-passed : (c : tie.After-enum-told) →
-    let a = c.before.before.before.before.args in
+set-passed : (c : In_default) →
+    let a = c.args in
     verdict (set_checks a.d (length a.initial.now) (length a.offsets.now)) ≡ Verdict.Passed
-set-passed c = sym c.before.before.set-verdict.ensures ∙ c.enum_told.given.1
+set-passed c = sym c.set_verdict.ensures ∙ c.in_default.is
 
-returns : tie.Need-returns
-returns c = refused _ _ _ _ _ (sym c.before.before.before.set-verdict.ensures ∙ c.before.cause.given.1)
+pub returns-in-Refused : goal.returns-in-Refused
+returns-in-Refused c = let p = refused _ _ _ _ _ (sym c.set_verdict.ensures ∙ c.in-Refused.is) in record { answer = p.0; told = p.1 }
 
-enum_told : tie.Need-enum-told
-enum_told c = search rules
+pub lookups_of-requires : goal.lookups_of-requires
+lookups_of-requires c = (usable _ _ _ (set-passed c)).legal
 
-lookups-of-requires : tie.Need-lookups-of-requires
-lookups-of-requires c κs = (usable _ _ _ (set-passed c)).legal
+pub word_answer-requires : goal.word_answer-requires
+word_answer-requires c = record { usable = usable _ _ _ ((let set-passed' : (let a = c.args in verdict (set_checks a.d (length a.initial.now) (length a.offsets.now)) ≡ Verdict.Passed) = sym c.set_verdict.ensures ∙ c.in_default.is in set-passed')); lookups_value = c.lookups_of.ensures }
 
-word-answer-requires : tie.Need-word-answer-requires
-word-answer-requires c κs = (usable _ _ _ (set-passed c.before), c.lookups-of.ensures)
-
-returns-2 : tie.Need-returns-2
-returns-2 c = answered _ _ _ _ (set-passed c.before.before) _ c.word-answer.ensures
-
-pub evaluate-spec : {M : Type 1} → statement M
-evaluate-spec =
-    tie.close
-    (tie.spec
-    (λ c κs. search rules)
-    (λ c. search rules)
-    returns
-    enum_told
-    lookups-of-requires
-    word-answer-requires
-    returns-2)
+pub returns : goal.returns
+returns c = let p = answered _ _ _ _ ((let set-passed' : (let a = c.args in verdict (set_checks a.d (length a.initial.now) (length a.offsets.now)) ≡ Verdict.Passed) = sym c.set_verdict.ensures ∙ c.in_default.is in set-passed')) _ c.word_answer.ensures in record { answer = p.0; told = p.1 }
