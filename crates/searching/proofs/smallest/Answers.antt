@@ -16,6 +16,9 @@ use Rattle.searching.specs.Best.{
   smallest_answer,
   told_by,
   smallest_told,
+use Rattle.searching.proofs.smallest.Goals as goal
+use Rattle.searching.proofs.smallest.Goals.{After-function_verdict, In_default}
+
 }
 use Rattle.searching.proofs.VerdictLaws.{first-refused, none-admitted, some-admitted}
 use Rattle.searching.proofs.smallest.Statement.{statement}
@@ -43,45 +46,27 @@ fewer : {best found : SizedDesign} → best ≡ found → best.bits < no_bits �
 fewer e h = rw e at h
 
 -- the verdict on kind, w and q, by the limits of the kind
-judged : (c : tie.After-function-verdict) → let a = c.before.before.args in
-    c.function-verdict.result ≡ verdict (function_checks (limits_of a.kind) a.kind a.w a.q)
-judged c = rw (← c.before.Limits-of.ensures) c.function-verdict.ensures
+judged : (c : After-function_verdict) → let a = c.args in
+    c.function_verdict.result ≡ verdict (function_checks (limits_of a.kind) a.kind a.w a.q)
+judged c = rw (← c.limits_of.ensures) c.function_verdict.ensures
 
-passed : (c : tie.After-enum-told) → let a = c.before.before.before.before.args in
+passed : (c : In_default) → let a = c.args in
     verdict (function_checks (limits_of a.kind) a.kind a.w a.q) ≡ Verdict.Passed
-passed c = sym (judged c.before.before) ∙ c.enum_told.given.1
+passed c = sym (judged c.before) ∙ c.in_default.is
 
-returns : tie.Need-returns
+pub returns-in-Refused : goal.returns-in-Refused
+returns-in-Refused c =
+    let f = c.before.before in let p = refuses _ _ _ _ _ (first-refused _ _ _ _ (sym (judged c.before.before) ∙ c.in-Refused.is)) c.refused.ensures in record { answer = p.0; told = p.1; }
+
+pub returns-then-best-ge-NO_BITS : goal.returns-then-best-ge-NO_BITS
+returns-then-best-ge-NO_BITS c =
+    let best = c.before.before.before in let p = refuses _ _ _ _ _ (none-admitted _ _ _ (passed c.before.before.before.before) (no-fewer best.best_design-best.ensures c.if-best-ge-NO_BITS.true))
+    c.refused-then-best-ge-NO_BITS.ensures in record { answer = p.0; told = p.1; }
+
+pub returns : goal.returns
 returns c =
-    let f = c.before.before.before.before in
-    refuses _ _ _ _ _ (first-refused _ _ _ _ (sym (judged f) ∙ c.before.before.cause.given.1)) c.refused.ensures
+    let best = c.before.before in let p = finds _ _ _ _ (some-admitted _ _ _ (passed c.before.before.before) (fewer best.best_design-best.ensures c.if-best-ge-NO_BITS.false)) (rw
+    best.best_design-best.ensures) in record { answer = p.0; told = p.1; }
 
-returns-2 : tie.Need-returns-2
-returns-2 c =
-    let best = c.before.before.before in
-    refuses _ _ _ _ _ (none-admitted _ _ _ (passed best.before) (no-fewer best.best-design.ensures c.before.if1.true))
-    c.refused2.ensures
-
-returns-3 : tie.Need-returns-3
-returns-3 c =
-    let best = c.before.before in
-    finds _ _ _ _ (some-admitted _ _ _ (passed best.before) (fewer best.best-design.ensures c.if1.false)) (rw
-    best.best-design.ensures)
-
-best-design-requires : tie.Need-best-design-requires
-best-design-requires c κs = passed c
-
-pub smallest-spec : {M : Type 1} → statement M
-smallest-spec =
-    tie.close
-    (tie.spec
-    (λ c κs. search rules)
-    (λ c κs. search rules)
-    (λ c. search rules)
-    (λ c κs. search rules)
-    returns
-    (λ c. search rules)
-    best-design-requires
-    (λ c κs. search rules)
-    returns-2
-    returns-3)
+pub best_design-best-requires : goal.best_design-best-requires
+best_design-best-requires c = passed c

@@ -4,7 +4,6 @@ use mathlib.Core.List.{List}
 use Prim.Native.Nat.{ℕ, ◌^◌}
 use lib.IntN.{ℤ}
 use lib.ListN.{length}
-use borrow.Author.Rules.{rules}
 use Rattle.refusal.specs.declared.Cause.{Cause}
 use Rattle.refusal.specs.declared.Verdict.{Verdict}
 use Rattle.refusal.proofs.Answers.{answer-told}
@@ -15,8 +14,8 @@ use Rattle.tables.proofs.SetLaws.{usable}
 use Rattle.checking.specs.declared.Checked.{Checked}
 use Rattle.checking.specs.Check.{faithful_at, finding_below, found, check_verdict, check_answer, told_by, check_told}
 use Rattle.checking.proofs.CheckLaws.{check-searches, found-told}
-use Rattle.checking.proofs.check.Statement.{statement}
-use Rattle.checking.proofs.check.Tie as tie
+use Rattle.checking.proofs.check.Goals as goal
+use Rattle.checking.proofs.check.Goals.{In_default}
 
 module _ (d : Design) (initial : List ℕ) (offsets : List ℤ) where
   -- what is promised of an answer
@@ -35,42 +34,25 @@ module _ (d : Design) (initial : List ℕ) (offsets : List ℤ) where
       → r ≡ found (finding_below (2 ^ d.w) (faithful_at d initial offsets)) → Promised r
   searched e r r-is = promised r (r-is ∙ sym (check-searches d initial offsets e))
 
-returns : tie.Need-returns
+pub returns-in-Refused : goal.returns-in-Refused
 unfolding check_verdict
-returns c = refused _ _ _ _ (sym c.before.before.before.set-verdict.ensures ∙ c.before.cause.given.1)
-
-enum_told : tie.Need-enum-told
-enum_told c = search rules
+returns-in-Refused c = let p = refused _ _ _ _ (sym c.set_verdict.ensures ∙ c.in-Refused.is) in record { answer = p.0; told = p.1 }
 
 -- where the set's verdict passed
-set : (c : tie.After-enum-told) → let a = c.before.before.before.before.args in
+set : (c : In_default) → let a = c.args in
     Usable a.d (length a.initial.now) (length a.offsets.now)
-set c = usable _ _ _ (sym c.before.before.set-verdict.ensures ∙ c.enum_told.given.1)
+set c = usable _ _ _ (sym c.set_verdict.ensures ∙ c.in_default.is)
 
-lookups-of-requires : tie.Need-lookups-of-requires
-lookups-of-requires c κs = (set c).legal
+pub lookups_of-requires : goal.lookups_of-requires
+lookups_of-requires c = (set c).legal
 
-row-of-requires : tie.Need-row-of-requires
-row-of-requires c κs = (limits _ (set c.before).legal).widths.kind-known
+pub row_of-requires : goal.row_of-requires
+row_of-requires c = (limits _ ((let set' : (let a = c.args in Usable a.d (length a.initial.now) (length a.offsets.now)) = usable _ _ _ (sym c.set_verdict.ensures ∙ c.in_default.is) in set')).legal).widths.kind-known
 
-search-requires : tie.Need-search-requires
-search-requires c κs = (set c.before.before, (c.before.lookups-of.ensures, c.row_of.ensures))
+pub search-requires : goal.search-requires
+search-requires c = record { usable = (let set' : (let a = c.args in Usable a.d (length a.initial.now) (length a.offsets.now)) = usable _ _ _ (sym c.set_verdict.ensures ∙ c.in_default.is) in set'); lookups_value = c.lookups_of.ensures; row_value = c.row_of.ensures }
 
-returns-2 : tie.Need-returns-2
+pub returns : goal.returns
 unfolding check_verdict
-returns-2 c =
-    let b = c.before.before.before in
-    searched _ _ _ (sym b.before.before.set-verdict.ensures ∙ b.enum_told.given.1) _ c.search.ensures
-
-pub check-spec : {M : Type 1} → statement M
-check-spec =
-    tie.close
-    (tie.spec
-    (λ c κs. search rules)
-    (λ c. search rules)
-    returns
-    enum_told
-    lookups-of-requires
-    row-of-requires
-    search-requires
-    returns-2)
+returns c =
+    let b = c.before.before.before.before in let p = searched _ _ _ (sym b.set_verdict.ensures ∙ b.in_default.is) _ c.search.ensures in record { answer = p.0; told = p.1 }

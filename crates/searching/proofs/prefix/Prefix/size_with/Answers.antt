@@ -17,8 +17,7 @@ use Rattle.searching.specs.Designs.{with_pair}
 use Rattle.searching.specs.Search.{size_before, Fitting, Next, SlopesFor}
 use Rattle.searching.proofs.OpenLaws.{size-next, bits-kept, position-kept}
 use Rattle.searching.proofs.SmallLaws.{size_few, widest-asked}
-use Rattle.searching.proofs.prefix.Prefix.size_with.Statement.{statement}
-use Rattle.searching.proofs.prefix.Prefix.size_with.Tie as tie
+use Rattle.searching.proofs.prefix.Prefix.size_with.Goals as goal
 
 -- what is looked up, and the size that the calls come to with it
 module _ (prefix : Prefix) (a b : ℕ) (slopes : List ℕ) (known : SlopesFor prefix.design slopes) (n : Next prefix)
@@ -48,43 +47,28 @@ module _ (prefix : Prefix) (a b : ℕ) (slopes : List ℕ) (known : SlopesFor pr
           rw (entries-are, bits_are, sum_is, bits-kept prefix n, position-kept prefix n)
           (sym (size-next d prefix.tables a b n.more begun.places begun.m-high))
 
-returns : tie.Need-returns
+pub returns : goal.returns
 returns c =
-    let b = c.before in
-    let e = b.before.before.before.before.requires in
-    grown _ _ _ _ e.0 e.1.0 e.1.1 _ _ b.before.pow2.ensures b.bits_of.ensures
+    let b = c.before.before in
+    let e = b.requires in
+    grown _ _ _ _ e.slopes_for e.next.0 e.next.1 _ _ b.pow2.ensures b.bits_of.ensures
 
-bits-of-requires : tie.Need-bits-of-requires
-bits-of-requires c κs = let e = c.before.before.before.requires in asked _ _ _ _ e.0 e.1.0 e.1.1
+pub bits_of-requires : goal.bits_of-requires
+bits_of-requires c = let e = c.requires in asked _ _ _ _ e.slopes_for e.next.0 e.next.1
 
-mul-result : tie.Need-overflow-mul-result
-mul-result c =
-    let e = c.before.before.before.before.requires in
-    omega (arith, few _ _ _ _ e.0 e.1.0 e.1.1 _ _ c.before.pow2.ensures c.bits_of.ensures)
+pub overflow_mul-result : goal.overflow_mul-result
+overflow_mul-result c =
+    let e = c.requires in
+    omega (arith, few _ _ _ _ e.slopes_for e.next.0 e.next.1 _ _ c.pow2.ensures c.bits_of.ensures)
 
-add-result : tie.Need-overflow-add-result
-add-result c =
-    let b = c.before in
-    let e = b.before.before.before.before.requires in
-    let n = e.1.0 in
+pub overflow_add-result : goal.overflow_add-result
+overflow_add-result c =
+    let b = c.before.before in
+    let e = b.requires in
+    let n = e.next.0 in
     omega (
       arith,
-      few _ _ _ _ e.0 n e.1.1 _ _ b.before.pow2.ensures b.bits_of.ensures,
+      few _ _ _ _ e.slopes_for n e.next.1 _ _ b.pow2.ensures b.bits_of.ensures,
       bits-kept _ n,
       size_few _ _ n.so_far,
     )
-
-pub size-with-spec : {M : Type 1} → statement M
-size-with-spec =
-    tie.close
-    (tie.spec
-    (λ c. search rules)
-    (λ c. search rules)
-    (λ c. search rules)
-    (λ c. search rules)
-    (λ c κs. search rules)
-    bits-of-requires
-    (λ c. search rules)
-    mul-result
-    add-result
-    returns)

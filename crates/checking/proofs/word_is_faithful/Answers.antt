@@ -6,7 +6,6 @@ use Prim.Native.Nat.{ℕ, ◌+◌, ◌^◌}
 use native.Mathlib.Omega.{arith}
 use lib.ListN.{get_or}
 use lib.IntN.{ℤ}
-use borrow.Author.Rules.{rules}
 use Rattle.general.proofs.Tests.{tested}
 use Rattle.values.specs.declared.TableUnits.{TableUnits}
 use Rattle.values.specs.declared.OutputUnits.{OutputUnits}
@@ -19,8 +18,7 @@ use Rattle.design.proofs.LegalLaws.{limits, room}
 use Rattle.tables.specs.Sum.{sum_from, sum_at, sum_outside, word_of, word_at}
 use Rattle.tables.proofs.WordLaws.{exact-at, word_small}
 use Rattle.checking.specs.Check.{faithful_at}
-use Rattle.checking.proofs.word_is_faithful.Statement.{statement}
-use Rattle.checking.proofs.word_is_faithful.Tie as tie
+use Rattle.checking.proofs.word_is_faithful.Goals as goal
 
 -- The answer, by what the calls promise
 module _ (d : Design) (entry : ℕ) (offsets : List ℤ) (x : ℕ) (sum : TableUnits) (outside : Bool)
@@ -41,50 +39,34 @@ module _ (d : Design) (entry : ℕ) (offsets : List ℤ) (x : ℕ) (sum : TableU
       let inside : sum_outside d (sum_at d initial offsets x) ≡ false = rw sum_is at (tested outside-is e) in
       rw (row_is, one-is, word-is, sum_is, inside)
 
-returns : tie.Need-returns
-returns c initial entry-is =
-    no_word _ _ _ _ _ _ c.before.before.sum-from.ensures c.before.sum-outside.ensures initial entry-is
-    c.if1.true
+pub returns-then-sum_outside : goal.returns-then-sum_outside
+returns-then-sum_outside c initial entry-is =
+    no_word _ _ _ _ _ _ c.sum_from-sum.ensures c.sum_outside.ensures initial entry-is
+    c.if-sum_outside.true
 
-pow2-requires : tie.Need-pow2-requires
-pow2-requires c κs = omega (arith, (limits _ c.before.before.before.requires.0.0).widths.room.w-small)
+pub pow2-requires : goal.pow2-requires
+pow2-requires c = omega (arith, (limits _ c.requires.legal.0).widths.room.w-small)
 
-add-is-faithful : tie.Need-overflow-add-is-faithful
-add-is-faithful c =
-    let p = c.before.before.before.before.requires in
-    omega (arith, words-few (room _ (limits _ p.0.0)), c.pow2.ensures, p.1.1.1.word)
+pub overflow_add-pow2 : goal.overflow_add-pow2
+overflow_add-pow2 c =
+    let p = c.requires in
+    omega (arith, words-few (room _ (limits _ p.legal.0)), c.pow2.ensures, p.row_value.1.word)
 
-word-of-requires : tie.Need-word-of-requires
-word-of-requires c κs =
+pub word_of-requires : goal.word_of-requires
+word_of-requires c =
     let b = c.before in
-    (b.before.before.before.requires.0.0, tested b.before.sum-outside.ensures b.if1.false)
+    record { legal = b.requires.legal.0; sum_value = tested b.sum_outside.ensures b.if-sum_outside.false }
 
-is-faithful-requires : tie.Need-is-faithful-requires
-is-faithful-requires c κs =
+pub is_faithful-requires : goal.is_faithful-requires
+is_faithful-requires c =
     let b = c.before.before in
-    let p = b.before.before.before.requires in
-    let l = limits _ p.0.0 in (
-      rw (p.1.1.0, c.before.pow2.ensures) (coarser-input _ (omega arith) (exact-at _ l _ p.1.1.1.word)),
-      rw c.word_of.ensures (word_small _ _ (tested b.before.sum-outside.ensures b.if1.false)),
-    )
+    let p = b.requires in
+    let l = limits _ p.legal.0 in record { floor_input = rw (p.row_value.0, c.pow2.ensures) (coarser-input _ (omega arith) (exact-at _ l _ p.row_value.1.word)); y_bound = rw c.word_of.ensures (word_small _ _ (tested b.sum_outside.ensures b.if-sum_outside.false)) }
 
-returns-2 : tie.Need-returns-2
-returns-2 c initial entry-is =
+pub returns : goal.returns
+returns c initial entry-is =
     let b = c.before.before.before in
-    c.is-faithful.ensures
-    ∙ by_word _ _ _ _ _ _ b.before.before.sum-from.ensures b.before.sum-outside.ensures initial entry-is
-    b.if1.false _ _ _
-    b.before.before.before.requires.1.1.0 c.before.before.pow2.ensures c.before.word_of.ensures
-
-pub word-is-faithful-spec : {M : Type 1} → statement M
-word-is-faithful-spec =
-    tie.close
-    (tie.spec
-    (λ c κs. search rules)
-    (λ c κs. search rules)
-    returns
-    pow2-requires
-    add-is-faithful
-    word-of-requires
-    is-faithful-requires
-    returns-2)
+    c.is_faithful.ensures
+    ∙ by_word _ _ _ _ _ _ b.sum_from-sum.ensures b.sum_outside.ensures initial entry-is
+    b.if-sum_outside.false _ _ _
+    b.requires.row_value.0 c.pow2.ensures c.word_of.ensures

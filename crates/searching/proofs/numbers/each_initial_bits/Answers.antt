@@ -17,14 +17,8 @@ use Rattle.searching.specs.Best.{best_of}
 use Rattle.searching.specs.Search.{Started, SlopesFor, SlopesOf, with_tables}
 use Rattle.searching.proofs.BestLaws.{best-first, best-one, best-rest}
 use Rattle.searching.proofs.BeginLaws.{by-alpha, no-alpha}
-use Rattle.searching.proofs.numbers.each_initial_bits.Statement.{statement}
-use Rattle.searching.proofs.numbers.each_initial_bits.Tie as tie
-
-record Inv (kind w q g : ℕ) (slopes : List ℕ) (best found : SizedDesign) (alpha : ℕ) : Type 0 where
-  low : least_initial_bits ≤ alpha
-  high : alpha ≤ most_initial_bits + 1
-  known : SlopesOf kind w (q + g) slopes
-  so_far : best_of best (joined least_initial_bits (alpha - least_initial_bits) (by-alpha kind w q g)) ≡ found
+use Rattle.searching.proofs.numbers.each_initial_bits.Invariants.{Inv}
+use Rattle.searching.proofs.numbers.each_initial_bits.Goals as goal
 
 module _ (kind w q g end : ℕ) (passed : verdict (width_checks (limits_of kind) kind w q g) ≡ Verdict.Passed)
     (end_is : end ≡ min w (most_initial_bits + 1)) where
@@ -61,65 +55,38 @@ module _ (kind w q g end : ℕ) (passed : verdict (width_checks (limits_of kind)
       best-rest least_initial_bits (by-alpha kind w q g) best found alpha (most_initial_bits + 1) inv.low inv.high
       inv.so_far (λ other from to. no-alpha kind w q g found other (omega (arith, end_is, ended, from, to)))
 
-abbrev invariant-loop : tie.invariant-loop
-invariant-loop kind w q g slopes end found₀ alpha₀ found alpha = Inv kind w q g slopes found₀ found alpha
-
-abbrev decreases-loop : tie.decreases-loop
-decreases-loop kind w q g slopes end found₀ alpha₀ found alpha = end - alpha
-
-returns : tie.Need-returns invariant-loop decreases-loop
+pub returns : goal.returns
 returns c =
     let smaller = c.before.before in
-    sym (done _ _ _ _ _ smaller.before.before.requires smaller.smaller.ensures _ _ _ _ c.before.loop.invariant c.loop-test.false)
+    sym (done _ _ _ _ _ smaller.requires smaller.smaller-end.ensures _ _ _ _ c.loop-alpha.invariant c.loop-alpha-test.false)
 
-loop-again : tie.Need-loop-preserved invariant-loop decreases-loop
-loop-again c =
+pub loop-alpha-preserved : goal.loop-alpha-preserved
+loop-alpha-preserved c =
     let loop = c.before.before.before in
     let smaller = loop.before.before in
-    turn _ _ _ _ _ smaller.before.before.requires smaller.smaller.ensures _ loop.before.loop.invariant.low loop.loop-test.true _
-    c.before.bare.ensures _ _ _ _ loop.before.loop.invariant c.each-table-count.ensures
+    turn _ _ _ _ _ smaller.requires smaller.smaller-end.ensures _ loop.loop-alpha.invariant.low loop.loop-alpha-test.true _
+    c.bare.ensures _ _ _ _ loop.loop-alpha.invariant c.each_table_count-found.ensures
 
-slopes-by-a-requires : tie.Need-slopes-by-a-requires invariant-loop decreases-loop
-slopes-by-a-requires c κs = c.requires
+pub slopes_by_a-slopes-requires : goal.slopes_by_a-slopes-requires
+slopes_by_a-slopes-requires c = c.requires
 
-loop-holds : tie.Need-loop-init invariant-loop decreases-loop
-loop-holds c = begin _ _ _ _ _ c.before.before.requires c.smaller.ensures _ _ c.before.slopes-by-a.ensures
+pub loop-alpha-init : goal.loop-alpha-init
+loop-alpha-init c = begin _ _ _ _ _ c.requires c.smaller-end.ensures _ _ c.slopes_by_a-slopes.ensures
 
-slice-aggregate-each-table-count : tie.Need-slice-aggregate-each-table-count invariant-loop decreases-loop
-slice-aggregate-each-table-count c = sym c.before.before.loop.invariant.known.long
+pub slice_bounds-each_table_count-end : goal.slice_bounds-each_table_count-end
+slice_bounds-each_table_count-end c = sym c.loop-alpha.invariant.known.long
 
-each-table-count-requires : tie.Need-each-table-count-requires invariant-loop decreases-loop
-each-table-count-requires c κs =
+pub each_table_count-found-requires : goal.each_table_count-found-requires
+each_table_count-found-requires c =
     let loop = c.before.before in
     let smaller = loop.before.before in
-    let inv = loop.before.loop.invariant in (
-      started _ _ _ _ _ smaller.before.before.requires smaller.smaller.ensures _ inv.low loop.loop-test.true _
+    let inv = loop.loop-alpha.invariant in (
+      started _ _ _ _ _ smaller.requires smaller.smaller-end.ensures _ inv.low loop.loop-alpha-test.true _
           c.bare.ensures,
-      slopes-kept _ _ _ _ _ smaller.before.before.requires smaller.smaller.ensures _ inv.low loop.loop-test.true _
+      slopes-kept _ _ _ _ _ smaller.requires smaller.smaller-end.ensures _ inv.low loop.loop-alpha-test.true _
           c.bare.ensures _
           inv.known,
     )
 
-add-alpha : tie.Need-overflow-add-alpha invariant-loop decreases-loop
-add-alpha c = omega (arith, c.before.before.before.before.loop.invariant.high)
-
-loop-less : tie.Need-loop-smaller invariant-loop decreases-loop
-loop-less c = falls _ _ c.before.before.before.loop-test.true
-
-pub each-initial-bits-spec : {M : Type 1} → statement M
-each-initial-bits-spec =
-    tie.close
-    (tie.spec
-    invariant-loop
-    decreases-loop
-    slopes-by-a-requires
-    (λ c. search rules)
-    (λ c κs. search rules)
-    loop-holds
-    slice-aggregate-each-table-count
-    (λ c κs. search rules)
-    each-table-count-requires
-    add-alpha
-    loop-less
-    loop-again
-    returns)
+pub loop-alpha-smaller : goal.loop-alpha-smaller
+loop-alpha-smaller c = falls _ _ c.loop-alpha-test.true

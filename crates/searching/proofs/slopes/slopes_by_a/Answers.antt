@@ -14,17 +14,9 @@ use Rattle.values.specs.declared.slopes.LargestSlopes.{LargestSlopes}
 use Rattle.values.specs.Slopes.{largest_spread, largest_sum, largest_slopes}
 use Rattle.values.proofs.WidthLaws.{Widths, widths-of}
 use Rattle.design.specs.Limits.{most_table_bits}
-use Rattle.searching.proofs.slopes.slopes_by_a.Statement.{statement}
-use Rattle.searching.proofs.slopes.slopes_by_a.Tie as tie
-
--- both of each k below a
-record Known (kind w P : ℕ) (row : Row) (slopes : List ℕ) (a : ℕ) : Type 0 where
-  row_is : row ≡ row_of kind
-  long : length slopes ≡ most_table_bits + most_table_bits
-  low : 1 ≤ a
-  high : a ≤ most_table_bits
-  spread_at : (k : ℕ) → 1 ≤ k → k < a → k < w → get_or slopes k 0 ≡ largest_spread (row_of kind) w P k
-  sum-at : (k : ℕ) → 1 ≤ k → k < a → k < w → get_or slopes (most_table_bits + k) 0 ≡ largest_sum (row_of kind) w P k
+use Rattle.searching.proofs.slopes.slopes_by_a.Invariants.{Known}
+use Rattle.searching.proofs.slopes.slopes_by_a.Goals as goal
+use Rattle.searching.proofs.slopes.slopes_by_a.Goals.{Start, else-a-w, then-a-w}
 
 -- one more, if it is asked for
 module _ {kind w P : ℕ} {row : Row} {slopes : List ℕ} {a : ℕ} (known : Known kind w P row slopes a) (below : a < most_table_bits) where
@@ -61,38 +53,31 @@ module _ {kind w P : ℕ} {row : Row} {slopes : List ℕ} {a : ℕ} (known : Kno
         sum-at = λ k one before asked. known.sum-at k one (omega arith) asked;
       }
 
-abbrev invariant-loop : tie.invariant-loop
-invariant-loop kind w q g row slopes₀ a₀ slopes a = Known kind w (q + g) row slopes a
-
-abbrev decreases-loop : tie.decreases-loop
-decreases-loop kind w q g row slopes₀ a₀ slopes a = most_table_bits - a
-
 -- kind and widths that pass
-passed : (c : tie.Start invariant-loop decreases-loop) → let a = c.args in Widths a.kind a.w a.q a.g
+passed : (c : Start) → let a = c.args in Widths a.kind a.w a.q a.g
 passed c = let a = c.args in widths-of a.kind a.w a.q a.g c.requires
 
-loop-again : tie.Need-loop-preserved invariant-loop decreases-loop
-loop-again c =
-    let known = c.before.before.loop.invariant in
-    ⊎_elim (λ w. rw w.2 (one_more known (omega arith) _ w.1.ensures)) (λ w. rw w.1 (none_more known (omega arith) w.0.left))
-    c.if1.branch
+pub loop-a-preserved : goal.loop-a-preserved
+loop-a-preserved c =
+    let known = c.loop-a.invariant in
+    elim c.if-a-w.branch [ then-a-w w ↦ rw w.2 (one_more known (omega arith) _ w.1.ensures) | else-a-w w ↦ rw w.slopes-is (none_more known (omega arith) w.if-a-w.false) ]
 
-returns : tie.Need-returns invariant-loop decreases-loop
+pub returns : goal.returns
 returns c =
-    let known = c.before.loop.invariant in
+    let known = c.loop-a.invariant in
     record {
       long = known.long;
       spread_at = λ k one below asked. known.spread_at k one (omega arith) asked;
       sum-at = λ k one below asked. known.sum-at k one (omega arith) asked;
     }
 
-row-of-requires : tie.Need-row-of-requires invariant-loop decreases-loop
-row-of-requires c κs = (passed c).kind-known
+pub row_of-row-requires : goal.row_of-row-requires
+row_of-row-requires c = (passed c).kind-known
 
-loop-holds : tie.Need-loop-init invariant-loop decreases-loop
-loop-holds c =
+pub loop-a-init : goal.loop-a-init
+loop-a-init c =
     record {
-      row_is = c.row_of.ensures;
+      row_is = c.row_of-row.ensures;
       long = refl;
       low = omega arith;
       high = omega arith;
@@ -100,55 +85,31 @@ loop-holds c =
       sum-at = λ k one before asked. absurd (omega arith);
     }
 
-add-largest-slopes : tie.Need-overflow-add-largest-slopes invariant-loop decreases-loop
-add-largest-slopes c = omega (arith, (passed c.before.before.before.before).room.s-small)
+pub overflow_add-q : goal.overflow_add-q
+overflow_add-q c = omega (arith, (passed c.before.before.before.before).room.s-small)
 
-cast-largest-slopes : tie.Need-overflow-cast-largest-slopes invariant-loop decreases-loop
-cast-largest-slopes c = omega arith
+pub overflow_cast-a : goal.overflow_cast-a
+overflow_cast-a c = omega arith
 
-largest-slopes-requires : tie.Need-largest-slopes-requires invariant-loop decreases-loop
-largest-slopes-requires c κs =
+pub largest_slopes-largest-requires : goal.largest_slopes-largest-requires
+largest_slopes-largest-requires c =
     let w = passed c.before.before.before.before in
-    rw c.before.before.loop.invariant.row_is (record { lawful = w.lawful; room = w.room; a_small = omega arith })
+    rw c.loop-a.invariant.row_is (record { lawful = w.lawful; room = w.room; a_small = omega arith })
 
-mul-slopes : tie.Need-overflow-mul-slopes invariant-loop decreases-loop
-mul-slopes c = omega arith
+pub offset_bounds-slopes-a : goal.offset_bounds-slopes-a
+offset_bounds-slopes-a c = omega arith
 
-array-write-slopes : tie.Need-array-write-slopes invariant-loop decreases-loop
-array-write-slopes c = omega arith
+pub bounds-slopes-a : goal.bounds-slopes-a
+bounds-slopes-a c = omega arith
 
-add-slopes : tie.Need-overflow-add-slopes invariant-loop decreases-loop
-add-slopes c = omega arith
+pub overflow_add-slopes : goal.overflow_add-slopes
+overflow_add-slopes c = omega arith
 
-mul-slopes-2 : tie.Need-overflow-mul-slopes-2 invariant-loop decreases-loop
-mul-slopes-2 c = omega arith
+pub offset_bounds-slopes-a-then-a-w : goal.offset_bounds-slopes-a-then-a-w
+offset_bounds-slopes-a-then-a-w c = omega arith
 
-array-write-slopes-2 : tie.Need-array-write-slopes-2 invariant-loop decreases-loop
-array-write-slopes-2 c = omega arith
+pub bounds-slopes-a-then-a-w : goal.bounds-slopes-a-then-a-w
+bounds-slopes-a-then-a-w c = omega arith
 
-add_a : tie.Need-overflow-add-a invariant-loop decreases-loop
-add_a c = omega arith
-
-loop-less : tie.Need-loop-smaller invariant-loop decreases-loop
-loop-less c = omega arith
-
-pub slopes-by-a-spec : {M : Type 1} → statement M
-slopes-by-a-spec =
-    tie.close
-    (tie.spec
-    invariant-loop
-    decreases-loop
-    row-of-requires
-    loop-holds
-    add-largest-slopes
-    cast-largest-slopes
-    largest-slopes-requires
-    mul-slopes
-    array-write-slopes
-    add-slopes
-    mul-slopes-2
-    array-write-slopes-2
-    add_a
-    loop-less
-    loop-again
-    returns)
+pub loop-a-smaller : goal.loop-a-smaller
+loop-a-smaller c = omega arith

@@ -24,14 +24,9 @@ use Rattle.searching.proofs.OpenLaws.{position-kept}
 use Rattle.searching.proofs.SmallLaws.{guard-few}
 use Rattle.searching.proofs.TableLaws.{last-a, still-many, last-by-b, last_taken, last-left}
 use Rattle.searching.proofs.TableLaws as tables
-use Rattle.searching.proofs.cuts.last_table.Statement.{statement}
-use Rattle.searching.proofs.cuts.last_table.Tie as tie
-
--- before the turn of a: no a before it is better
-record Inv (best : SizedDesign) (d : Design) (i end a : ℕ) : Type 0 where
-  low : 1 ≤ a
-  high : a ≤ end
-  so_far : best_of best (joined 1 (a - 1) (λ a. for_each 1 most_offset_bits (λ b. continued 0 (with_pair d i a b) (i + 1)))) ≡ best
+use Rattle.searching.proofs.cuts.last_table.Invariants.{Inv}
+use Rattle.searching.proofs.cuts.last_table.Goals as goal
+use Rattle.searching.proofs.cuts.last_table.Goals.{After-smaller-end, In-loop-a, Start}
 
 -- the next turn's a fits
 end-small : (a end alpha other : ℕ) → end ≡ min (alpha + 1) other → a < end → alpha ≤ most_initial_bits → Fits w32 (a + 1)
@@ -156,135 +151,98 @@ module _ (prefix : Prefix) (n : Next prefix) (last : prefix.tables + 1 ≡ prefi
           n.more a' other e same admitted)))
           inv.so_far)
 
-abbrev invariant-loop : tie.invariant-loop
-invariant-loop slopes prefix best d b limit end a₀ a = Inv best d prefix.tables end a
-
-abbrev decreases-loop : tie.decreases-loop
-decreases-loop slopes prefix best d b limit end a₀ a = end - a
-
 -- what is asked of the caller
-asked : (c : tie.Start invariant-loop decreases-loop) → let a = c.args in Next a.prefix × (a.prefix.tables + 1 ≡ a.prefix.design.m)
-asked c = c.requires.1
+asked : (c : Start) → let a = c.args in Next a.prefix × (a.prefix.tables + 1 ≡ a.prefix.design.m)
+asked c = c.requires.next
 
 -- and where the loop ends
-end_is : (c : tie.After-smaller invariant-loop decreases-loop) → let d = c.before.before.before.before.before.before.before.args.prefix in
-    c.smaller.result ≡ min (d.design.alpha + 1) (most_table_bits + 1 - (d.design.w - d.design.alpha - d.position))
-end_is c = c.smaller.ensures
+end_is : (c : After-smaller-end) → let d = c.args.prefix in
+    c.smaller-end.result ≡ min (d.design.alpha + 1) (most_table_bits + 1 - (d.design.w - d.design.alpha - d.position))
+end_is c = c.smaller-end.ensures
 
-returns : tie.Need-returns invariant-loop decreases-loop
-returns c =
-    let size = c.before.before in
+pub returns-then-best-bits : goal.returns-then-best-bits
+returns-then-best-bits c =
+    let size = c.before.before.before in
     let loop = size.before in
     let smaller = loop.before.before in
-    let e = asked smaller.before.before.before.before.before.before.before in
-    stops _ e.0 e.1 _ refl _ (end_is smaller) _ _ loop.before.loop.invariant loop.loop-test.true _ size.size-with.ensures
-    (omega (arith, c.if1.true))
+    let e = asked c.before.before.before.before.before.before.before.before.before.before.before.before.before in
+    stops _ e.0 e.1 _ refl _ ((let end_is' : (let d = c.args.prefix in c.smaller-end.result ≡ min (d.design.alpha + 1) (most_table_bits + 1 - (d.design.w - d.design.alpha - d.position))) = c.smaller-end.ensures in end_is')) _ _ loop.loop-a.invariant loop.loop-a-test.true _ size.size_with-bits.ensures
+    (omega (arith, c.if-best-bits.true))
 
-returns-2 : tie.Need-returns-2 invariant-loop decreases-loop
-returns-2 c =
+pub returns-then-budget_with-limit : goal.returns-then-budget_with-limit
+returns-then-budget_with-limit c =
+    let budget = c.before.before.before in
+    let size = budget.before.before.before in
+    let loop = size.before in
+    let smaller = loop.before.before in
+    let e = asked c.before.before.before.before.before.before.before.before.before.before.before.before.before.before.before.before in
+    taken _ e.0 e.1 _ refl _ ((let end_is' : (let d = c.args.prefix in c.smaller-end.result ≡ min (d.design.alpha + 1) (most_table_bits + 1 - (d.design.w - d.design.alpha - d.position))) = c.smaller-end.ensures in end_is')) _ _ loop.loop-a.invariant loop.loop-a-test.true _ size.size_with-bits.ensures
+    _ _ budget.budget_with.ensures smaller.limit_of-limit.ensures _ c.with_pair.ensures
+    (omega (arith, budget.if-best-bits.false)) (omega (arith, c.if-budget_with-limit.true))
+
+pub returns : goal.returns
+returns c =
+    let smaller = c.before.before.before in
+    let e = asked c.before.before.before.before.before.before.before.before.before.before in
+    done _ e.0 e.1 _ refl _ ((let end_is' : (let d = c.args.prefix in c.smaller-end.result ≡ min (d.design.alpha + 1) (most_table_bits + 1 - (d.design.w - d.design.alpha - d.position))) = c.smaller-end.ensures in end_is')) _ _ c.loop-a.invariant c.loop-a-test.false
+
+pub loop-a-preserved : goal.loop-a-preserved
+loop-a-preserved c =
     let budget = c.before.before in
     let size = budget.before.before.before in
     let loop = size.before in
     let smaller = loop.before.before in
-    let e = asked smaller.before.before.before.before.before.before.before in
-    taken _ e.0 e.1 _ refl _ (end_is smaller) _ _ loop.before.loop.invariant loop.loop-test.true _ size.size-with.ensures
-    _ _ budget.budget-with.ensures smaller.before.before.limit-of.ensures _ c.with_pair.ensures
-    (omega (arith, budget.before.if1.false)) (omega (arith, c.before.if2.true))
+    let e = asked c.before.before.before.before.before.before.before.before.before.before.before.before.before.before.before in
+    left _ e.0 e.1 _ refl _ ((let end_is' : (let d = c.args.prefix in c.smaller-end.result ≡ min (d.design.alpha + 1) (most_table_bits + 1 - (d.design.w - d.design.alpha - d.position))) = c.smaller-end.ensures in end_is')) _ _ loop.loop-a.invariant loop.loop-a-test.true _ size.size_with-bits.ensures
+    _ _ budget.budget_with.ensures smaller.limit_of-limit.ensures c.if-budget_with-limit.false
 
-returns-3 : tie.Need-returns-3 invariant-loop decreases-loop
-returns-3 c =
-    let smaller = c.before.before in
-    let e = asked smaller.before.before.before.before.before.before.before in
-    done _ e.0 e.1 _ refl _ (end_is smaller) _ _ c.before.loop.invariant c.loop-test.false
+pub overflow_sub-b : goal.overflow_sub-b
+overflow_sub-b c = omega (arith, (asked c.before.before.before.before).0.so_far.begun.started.alpha-below)
 
-loop-again : tie.Need-loop-preserved invariant-loop decreases-loop
-loop-again c =
-    let budget = c.before in
-    let size = budget.before.before.before in
-    let loop = size.before in
-    let smaller = loop.before.before in
-    let e = asked smaller.before.before.before.before.before.before.before in
-    left _ e.0 e.1 _ refl _ (end_is smaller) _ _ loop.before.loop.invariant loop.loop-test.true _ size.size-with.ensures
-    _ _ budget.budget-with.ensures smaller.before.before.limit-of.ensures c.if2.false
-
-sub-b : tie.Need-overflow-sub-b invariant-loop decreases-loop
-sub-b c = omega (arith, (asked c.before.before.before).0.so_far.begun.started.alpha-below)
-
-sub-b-2 : tie.Need-overflow-sub-b-2 invariant-loop decreases-loop
-sub-b-2 c =
-    let n = (asked c.before.before.before.before).0 in
+pub overflow_sub-b-2 : goal.overflow_sub-b-2
+overflow_sub-b-2 c =
+    let n = (asked c.before.before.before.before.before).0 in
     omega (arith, position-kept _ n, n.so_far.left-low)
 
-limit-of-requires : tie.Need-limit-of-requires invariant-loop decreases-loop
-limit-of-requires c κs = guard-few _ (asked c.before.before.before.before).0.so_far.begun
+pub limit_of-limit-requires : goal.limit_of-limit-requires
+limit_of-limit-requires c = guard-few _ (asked c.before.before.before.before.before).0.so_far.begun
 
-add-smaller : tie.Need-overflow-add-smaller invariant-loop decreases-loop
-add-smaller c = omega (arith, (asked c.before.before.before.before.before.before).0.so_far.begun.started.alpha-high)
+pub overflow_add-d : goal.overflow_add-d
+overflow_add-d c = omega (arith, (asked c.before.before.before.before.before.before.before).0.so_far.begun.started.alpha-high)
 
-sub-smaller : tie.Need-overflow-sub-smaller invariant-loop decreases-loop
-sub-smaller c =
-    let e = asked c.before.before.before.before.before.before in
+pub overflow_sub-b-3 : goal.overflow_sub-b-3
+overflow_sub-b-3 c =
+    let e = asked c.before.before.before.before.before.before.before in
     omega (arith, (taken-all _ e.0 e.1 _ refl).2)
 
-loop-holds : tie.Need-loop-init invariant-loop decreases-loop
-loop-holds c =
-    let e = asked c.before.before.before.before.before.before.before in
+pub loop-a-init : goal.loop-a-init
+loop-a-init c =
+    let e = asked c.before.before.before.before.before.before.before.before in
     begin _ e.0 e.1 _ refl _ (end_is c) _
 
 -- the pair of this turn fits
-next_fits : (c : tie.In-loop invariant-loop decreases-loop) → let a = c.before.before.before.before.before.before.before.before.before.args in
+next_fits : (c : In-loop-a) → let a = c.args in
     let prefix = a.prefix in
-    Next prefix × Fitting prefix.design prefix.tables c.before.loop.a
+    Next prefix × Fitting prefix.design prefix.tables c.loop-a.a
     (prefix.design.w - prefix.design.alpha - prefix.position)
 next_fits c =
-    let smaller = c.before.before in
-    let e = asked smaller.before.before.before.before.before.before.before in
-    (e.0, fits _ e.0 e.1 _ refl _ (end_is smaller) _ c.before.loop.invariant.low c.loop-test.true)
+    let smaller = c.before.before.before in
+    let e = asked c.before.before.before.before.before.before.before.before.before.before in
+    (e.0, fits _ e.0 e.1 _ refl _ ((let end_is' : (let d = c.args.prefix in c.smaller-end.result ≡ min (d.design.alpha + 1) (most_table_bits + 1 - (d.design.w - d.design.alpha - d.position))) = c.smaller-end.ensures in end_is')) _ c.loop-a.invariant.low c.loop-a-test.true)
 
-size-with-requires : tie.Need-size-with-requires invariant-loop decreases-loop
-size-with-requires c κs = (c.before.before.before.before.before.before.before.before.before.requires.0, next_fits c)
+pub size_with-bits-requires : goal.size_with-bits-requires
+size_with-bits-requires c = record { slopes_for = c.requires.slopes_for; next = next_fits c; }
 
-budget-with-requires : tie.Need-budget-with-requires invariant-loop decreases-loop
-budget-with-requires c κs =
-    let loop = c.before.before.before in
-    (loop.before.before.before.before.before.before.before.before.before.requires.0, next_fits loop)
+pub budget_with-requires : goal.budget_with-requires
+budget_with-requires c =
+    let loop = c.before.before.before.before in
+    record { slopes_for = loop.requires.slopes_for; next = (let next_fits' : (let a = c.args in let prefix = a.prefix in Next prefix × Fitting prefix.design prefix.tables c.loop-a.a (prefix.design.w - prefix.design.alpha - prefix.position)) = let smaller = c.before.before.before in let e = asked c.before.before.before.before.before.before.before.before.before.before.before.before.before in (e.0, fits _ e.0 e.1 _ refl _ ((let end_is' : (let d = c.args.prefix in c.smaller-end.result ≡ min (d.design.alpha + 1) (most_table_bits + 1 - (d.design.w - d.design.alpha - d.position))) = c.smaller-end.ensures in end_is')) _ c.loop-a.invariant.low c.loop-a-test.true) in next_fits'); }
 
-with-pair-requires : tie.Need-with-pair-requires invariant-loop decreases-loop
-with-pair-requires c κs =
-    let loop = c.before.before.before.before.before in
-    let n = (next_fits loop).0 in
+pub with_pair-requires : goal.with_pair-requires
+with_pair-requires c =
+    let loop = c.before.before.before.before.before.before in
+    let n = ((let next_fits' : (let a = c.args in let prefix = a.prefix in Next prefix × Fitting prefix.design prefix.tables c.loop-a.a (prefix.design.w - prefix.design.alpha - prefix.position)) = let smaller = c.before.before.before in let e = asked c.before.before.before.before.before.before.before.before.before.before.before.before.before.before.before in (e.0, fits _ e.0 e.1 _ refl _ ((let end_is' : (let d = c.args.prefix in c.smaller-end.result ≡ min (d.design.alpha + 1) (most_table_bits + 1 - (d.design.w - d.design.alpha - d.position))) = c.smaller-end.ensures in end_is')) _ c.loop-a.invariant.low c.loop-a-test.true) in next_fits')).0 in
     (lt_of_lt_of_le n.more n.so_far.begun.m-high, n.so_far.begun.places)
 
-add_a : tie.Need-overflow-add-a invariant-loop decreases-loop
-add_a c =
-    let smaller = c.before.before.before.before.before.before.before in
-    let begun = (asked smaller.before.before.before.before.before.before.before).0.so_far.begun in
-    end-small _ _ _ _ (end_is smaller) c.before.before.before.before.before.loop-test.true begun.started.alpha-high
-
-loop-less : tie.Need-loop-smaller invariant-loop decreases-loop
-loop-less c = falls _ _ c.before.before.before.before.before.loop-test.true
-
-pub last-table-spec : {M : Type 1} → statement M
-last-table-spec =
-    tie.close
-    (tie.spec
-    invariant-loop
-    decreases-loop
-    sub-b
-    sub-b-2
-    limit-of-requires
-    add-smaller
-    (λ c. search rules)
-    (λ c. search rules)
-    sub-smaller
-    (λ c κs. search rules)
-    loop-holds
-    size-with-requires
-    returns
-    budget-with-requires
-    with-pair-requires
-    returns-2
-    add_a
-    loop-less
-    loop-again
-    returns-3)
+pub loop-a-smaller : goal.loop-a-smaller
+loop-a-smaller c = falls _ _ c.loop-a-test.true

@@ -16,8 +16,7 @@ use Rattle.searching.specs.Designs.{with_pair}
 use Rattle.searching.specs.Search.{budget_before, Fitting, Next, SlopesFor}
 use Rattle.searching.proofs.OpenLaws.{budget-next, budget-kept, position-kept}
 use Rattle.searching.proofs.SmallLaws.{widths, reach_few, share-few, budget-few}
-use Rattle.searching.proofs.prefix.Prefix.budget_with.Statement.{statement}
-use Rattle.searching.proofs.prefix.Prefix.budget_with.Tie as tie
+use Rattle.searching.proofs.prefix.Prefix.budget_with.Goals as goal
 
 -- the factors that the calls and the lookup give, as the definition has them
 module _ (prefix : Prefix) (a b high low : ℕ) (n : Next prefix) (fit : Fitting prefix.design prefix.tables a b)
@@ -43,59 +42,45 @@ module _ (prefix : Prefix) (a b high low : ℕ) (n : Next prefix) (fit : Fitting
         let begun = n.so_far.begun in
         rw (share-is, budget-kept prefix n) (sym (budget-next d prefix.tables a b n.more begun.places begun.m-high))
 
-returns : tie.Need-returns
+pub returns : goal.returns
 returns c =
+    let b = c.before.before.before in
+    let e = b.requires in
+    grown _ _ _ _ _ e.next.0 e.next.1 b.pow2.ensures b.pow2-2.ensures _ e.slopes_for
+
+pub overflow_sub-reach : goal.overflow_sub-reach
+overflow_sub-reach c = rw c.pow2.ensures (pow_pos _)
+
+pub pow2-requires-2 : goal.pow2-requires-2
+pow2-requires-2 c =
+    let e = c.requires in
+    let n = e.next.0 in
+    omega (arith, position-kept _ n, e.next.1.left-low, (widths _ n.so_far.begun).room.w-small)
+
+pub overflow_mul-reach : goal.overflow_mul-reach
+overflow_mul-reach c =
     let b = c.before.before in
-    let e = b.before.before.before.requires in
-    grown _ _ _ _ _ e.1.0 e.1.1 b.before.pow2.ensures b.pow22.ensures _ e.0
+    let e = b.requires in
+    rw (reach-is _ _ _ _ _ e.next.0 e.next.1 b.pow2.ensures c.pow2-2.ensures)
+    (record { fits = lt_trans (reach_few _ _ e.next.0.so_far _ _ e.next.1) (lit< tt) })
 
-sub-reach : tie.Need-overflow-sub-reach
-sub-reach c = rw c.pow2.ensures (pow_pos _)
+pub overflow_mul-result : goal.overflow_mul-result
+overflow_mul-result c =
+    let b = c.before.before.before in
+    let e = b.requires in
+    rw (share-is _ _ _ _ _ e.next.0 e.next.1 b.pow2.ensures c.pow2-2.ensures _ e.slopes_for)
+    (record { fits = lt_of_le_of_lt (share-few _ _ e.next.0.so_far _ _ e.next.1) (lit< tt) })
 
-pow2-requires-2 : tie.Need-pow2-requires-2
-pow2-requires-2 c κs =
-    let e = c.before.before.requires in
-    let n = e.1.0 in
-    omega (arith, position-kept _ n, e.1.1.left-low, (widths _ n.so_far.begun).room.w-small)
-
-mul-reach : tie.Need-overflow-mul-reach
-mul-reach c =
-    let b = c.before in
-    let e = b.before.before.requires in
-    rw (reach-is _ _ _ _ _ e.1.0 e.1.1 b.pow2.ensures c.pow22.ensures)
-    (record { fits = lt_trans (reach_few _ _ e.1.0.so_far _ _ e.1.1) (lit< tt) })
-
-mul-result-2 : tie.Need-overflow-mul-result-2
-mul-result-2 c =
-    let b = c.before.before in
-    let e = b.before.before.requires in
-    rw (share-is _ _ _ _ _ e.1.0 e.1.1 b.pow2.ensures c.before.pow22.ensures _ e.0)
-    (record { fits = lt_of_le_of_lt (share-few _ _ e.1.0.so_far _ _ e.1.1) (lit< tt) })
-
-add-result : tie.Need-overflow-add-result
-add-result c =
-    let b = c.before.before in
-    let e = b.before.before.before.requires in
-    let n = e.1.0 in
+pub overflow_add-result : goal.overflow_add-result
+overflow_add-result c =
+    let b = c.before.before.before in
+    let e = b.requires in
+    let n = e.next.0 in
     omega (
       arith,
-      share-is _ _ _ _ _ n e.1.1 b.before.pow2.ensures b.pow22.ensures _ e.0,
-      share-few _ _ n.so_far _ _ e.1.1,
+      share-is _ _ _ _ _ n e.next.1 b.pow2.ensures b.pow2-2.ensures _ e.slopes_for,
+      share-few _ _ n.so_far _ _ e.next.1,
       budget-kept _ n,
       n.so_far.within,
       budget-few _ _ n.so_far,
     )
-
-pub budget-with-spec : {M : Type 1} → statement M
-budget-with-spec =
-    tie.close
-    (tie.spec
-    (λ c κs. search rules)
-    sub-reach
-    pow2-requires-2
-    mul-reach
-    (λ c. search rules)
-    (λ c. search rules)
-    mul-result-2
-    add-result
-    returns)

@@ -9,8 +9,7 @@ use Rattle.design.specs.Cut.{fraction_bits}
 use Rattle.searching.specs.Designs.{bare}
 use Rattle.searching.specs.Search.{prefix_of, with_tables}
 use Rattle.searching.proofs.PrefixLaws.{position_first, size-first, budget-first}
-use Rattle.searching.proofs.numbers.first_prefix.Statement.{statement}
-use Rattle.searching.proofs.numbers.first_prefix.Tie as tie
+use Rattle.searching.proofs.numbers.first_prefix.Goals as goal
 
 first-is : (d : Design) (m bits : ℕ) (made : Design) → made ≡ with_tables d m → bits ≡ 2 ^ d.alpha * (fraction_bits d + 2)
     → record { design = made; tables = 0; position = 0; bits = bits; budget = (m + 2) * 2 ^ 17 } ≡ prefix_of (with_tables d m) 0
@@ -19,16 +18,11 @@ first-is d m bits made made-is bits_are =
     let e = with_tables d m in
     rw (made-is, bits_are, position_first e, size-first e, budget-first e)
 
-returns : tie.Need-returns
-returns c = let b = c.before.before in first-is b.before.args.d _ _ _ b.bare.ensures c.initial-size.ensures
+pub returns : goal.returns
+returns c = let b = c.before.before in first-is b.args.d _ _ _ b.bare.ensures c.initial_size.ensures
 
-add-initial-size : tie.Need-overflow-add-initial-size
-add-initial-size c = let u = c.before.before.requires in omega (arith, (widths-of _ _ _ _ u.widths).room.s-small)
+pub overflow_add-d : goal.overflow_add-d
+overflow_add-d c = let u = c.requires in omega (arith, (widths-of _ _ _ _ u.widths).room.s-small)
 
-initial-size-requires : tie.Need-initial-size-requires
-initial-size-requires c κs = let u = c.before.before.requires in (u.alpha-high, (widths-of _ _ _ _ u.widths).room.s-small)
-
-pub first-prefix-spec : {M : Type 1} → statement M
-first-prefix-spec =
-    tie.close
-    (tie.spec (λ c κs. search rules) add-initial-size initial-size-requires (λ c. search rules) (λ c. search rules) returns)
+pub initial_size-requires : goal.initial_size-requires
+initial_size-requires c = let u = c.requires in (u.alpha-high, (widths-of _ _ _ _ u.widths).room.s-small)

@@ -21,17 +21,9 @@ use Rattle.searching.specs.Designs.{no_design, designs}
 use Rattle.searching.specs.Best.{no_bits, nothing, best_of, smallest_of}
 use Rattle.searching.proofs.BestLaws.{best_none, best-first, best-one}
 use Rattle.searching.proofs.BeginLaws.{by-alpha, no-guard}
-use Rattle.searching.proofs.numbers.best_design.Statement.{statement}
-use Rattle.searching.proofs.numbers.best_design.Tie as tie
-
--- the designs by g
-abbrev by-g : ℕ → ℕ → ℕ → ℕ → List Design
-by-g kind w q g = for_each least_initial_bits most_initial_bits (by-alpha kind w q g)
-
-record Inv (kind w q : ℕ) (found : SizedDesign) (g : ℕ) : Type 0 where
-  low : (limits_of kind).g.0 ≤ g
-  high : g ≤ (limits_of kind).g.1 + 1
-  so_far : best_of nothing (joined (limits_of kind).g.0 (g - (limits_of kind).g.0) (by-g kind w q)) ≡ found
+use Rattle.searching.proofs.numbers.best_design.Invariants.{by-g, Inv}
+use Rattle.searching.proofs.numbers.best_design.Goals as goal
+use Rattle.searching.proofs.numbers.best_design.Goals.{else-q-g, then-q-g}
 
 module _ (kind w q : ℕ) where
   begin : (made : Design) → made ≡ no_design → Inv kind w q (record { design = made; bits = no_bits }) (limits_of kind).g.0
@@ -57,12 +49,6 @@ module _ (kind w q : ℕ) where
       let all : g ≡ (limits_of kind).g.1 + 1 = omega (arith, inv.high, ended) in
       sym (rw all at inv.so_far)
 
-abbrev invariant-loop : tie.invariant-loop
-invariant-loop kind w q limits found₀ g₀ g_end found g = Inv kind w q found g
-
-abbrev decreases-loop : tie.decreases-loop
-decreases-loop kind w q limits found₀ g₀ g_end found g = g_end - g
-
 -- the limits of the kind, which the code has as a call's result
 module _ (kind : ℕ) (limits : Limits) (is : limits ≡ limits_of kind) where
   below_end : (g : ℕ) → g < limits.g.1 + 1 → g < (limits_of kind).g.1 + 1
@@ -86,62 +72,39 @@ few_bits : (kind w q : ℕ) → verdict (function_checks (limits_of kind) kind w
 unfolding limits_of
 few_bits kind w q passed = (function-within (limits_of kind) kind w q passed).1
 
-returns : tie.Need-returns invariant-loop decreases-loop
+pub returns : goal.returns
 returns c =
-    let limits-is = c.before.before.before.before.Limits-of.ensures in
-    done _ _ _ _ _ c.before.loop.invariant (at-end _ _ limits-is _ c.loop-test.false)
+    let limits-is = c.limits_of-limits.ensures in
+    done _ _ _ _ _ c.loop-g.invariant (at-end _ _ limits-is _ c.loop-g-test.false)
 
-loop-again : tie.Need-loop-preserved invariant-loop decreases-loop
-loop-again c =
+pub loop-g-preserved : goal.loop-g-preserved
+loop-g-preserved c =
     let loop = c.before.before in
-    let limits-is = loop.before.before.before.before.Limits-of.ensures in
-    let inv = loop.before.loop.invariant in
-    let below = below_end _ _ limits-is _ loop.loop-test.true in
-    ⊎_elim (λ v. rw v.2 (turn _ _ _ _ _ inv below _ v.1.ensures)) (λ v. rw v.1 (skipped _ _ _ _ _ inv below
-    (over _ _ limits-is _ v.0.left)))
-    c.if1.branch
+    let limits-is = loop.limits_of-limits.ensures in
+    let inv = loop.loop-g.invariant in
+    let below = below_end _ _ limits-is _ loop.loop-g-test.true in
+    elim c.if-q-g.branch [ then-q-g v ↦ rw v.2 (turn _ _ _ _ _ inv below _ v.1.ensures) | else-q-g v ↦ rw v.found-is (skipped _ _ _ _ _ inv below
+    (over _ _ limits-is _ v.if-q-g.false)) ]
 
-add-g-end : tie.Need-overflow-add-g-end invariant-loop decreases-loop
-add-g-end c = omega (arith, few-guards _ _ c.before.before.Limits-of.ensures)
+pub overflow_add-g-end : goal.overflow_add-g-end
+overflow_add-g-end c = omega (arith, few-guards _ _ c.limits_of-limits.ensures)
 
-loop-holds : tie.Need-loop-init invariant-loop decreases-loop
-loop-holds c = begins _ _ c.before.before.Limits-of.ensures _ _ _ (begin _ _ _ _ c.before.no-design.ensures)
+pub loop-g-init : goal.loop-g-init
+loop-g-init c = begins _ _ c.limits_of-limits.ensures _ _ _ (begin _ _ _ _ c.no_design.ensures)
 
-add-if1 : tie.Need-overflow-add-if1 invariant-loop decreases-loop
-add-if1 c =
+pub overflow_add-q : goal.overflow_add-q
+overflow_add-q c =
     let limits = c.before.before.before.before in
-    let a = limits.before.args in
-    omega (arith, c.loop-test.true, few-guards _ _ limits.Limits-of.ensures, few_bits a.kind a.w a.q limits.before.requires)
+    let a = limits.args in
+    omega (arith, c.loop-g-test.true, few-guards _ _ limits.limits_of-limits.ensures, few_bits a.kind a.w a.q limits.requires)
 
-each-initial-bits-requires : tie.Need-each-initial-bits-requires invariant-loop decreases-loop
-each-initial-bits-requires c κs =
+pub each_initial_bits-found-requires : goal.each_initial_bits-found-requires
+each_initial_bits-found-requires c =
     let loop = c.before.before in
     let limits = loop.before.before.before.before in
-    guard-passes _ _ _ _ _ limits.before.requires loop.before.loop.invariant.low
-    (le_of_suc-le-suc (rw add-one at (below_end _ _ limits.Limits-of.ensures _ loop.loop-test.true)))
-    (rw limits.Limits-of.ensures at c.if1.true)
+    guard-passes _ _ _ _ _ limits.requires loop.loop-g.invariant.low
+    (le_of_suc-le-suc (rw add-one at (below_end _ _ limits.limits_of-limits.ensures _ loop.loop-g-test.true)))
+    (rw limits.limits_of-limits.ensures at c.if-q-g.true)
 
-add-g : tie.Need-overflow-add-g invariant-loop decreases-loop
-add-g c =
-    let loop = c.before.before in
-    omega (arith, loop.loop-test.true, few-guards _ _ loop.before.before.before.before.Limits-of.ensures)
-
-loop-less : tie.Need-loop-smaller invariant-loop decreases-loop
-loop-less c = falls _ _ c.before.before.loop-test.true
-
-pub best-design-spec : {M : Type 1} → statement M
-best-design-spec =
-    tie.close
-    (tie.spec
-    invariant-loop
-    decreases-loop
-    (λ c κs. search rules)
-    (λ c κs. search rules)
-    add-g-end
-    loop-holds
-    add-if1
-    each-initial-bits-requires
-    add-g
-    loop-less
-    loop-again
-    returns)
+pub loop-g-smaller : goal.loop-g-smaller
+loop-g-smaller c = falls _ _ c.loop-g-test.true
