@@ -1,0 +1,55 @@
+-- `frames::frame_verdict` meets its contract: a test that fails makes `frame_fails` true, and where both pass it is false.
+use mathlib.Core.Path.{◌≡◌, ap}
+use mathlib.Core.Bool.{true, false, not}
+use mathlib.Core.List.{List}
+use lib.Dec.{eqb}
+use lib.ListN.{get_or}
+use Rattle.refusal.specs.declared.Cause.{Cause}
+use Rattle.refusal.specs.declared.Verdict.{Verdict}
+use Rattle.refusal.specs.Checks.{verdict}
+use Prim.Native.Nat.{ℕ, ◌+◌, ◌*◌, ◌≤◌}
+use native.Mathlib.Omega.{arith}
+use mir.Syntax.{w8, w64}
+use mir.Val.{Fits}
+use borrow.Author.Rules.{rules}
+use borrow.Author.Tests.{eq-eqb, ne_eqb}
+use Rattle.frames.specs.DesignFrame.{frame_fails, frame_checks}
+use Rattle.frames.proofs.frame_verdict.Goals as goal
+use Rattle.frames.proofs.frame_verdict.Goals.{then-bytes-ne1-via-else-bytes-ne1+then-count-due, then-bytes-ne1-via-then-bytes-ne1}
+
+twice-fits : (m : ℕ) → Fits w8 m → Fits w64 (2 * m)
+twice-fits m fits = omega arith
+
+due-fits : (k m : ℕ) → k ≤ 8 → Fits w8 m → Fits w64 (k + 2 * m)
+due-fits k m h fits = omega arith
+
+pub overflow_mul-due : goal.overflow_mul-due
+overflow_mul-due c = twice-fits _ (search rules)
+
+pub overflow_add-due : goal.overflow_add-due
+overflow_add-due c = due-fits _ _ (omega arith) (search rules)
+
+-- The verdict by the two tests: the frame kind is 1, and the number of bytes is 8 + 2m.
+module _ (bytes : List ℕ) (count : ℕ) where
+  other-kind : (get_or bytes 0 0 ≡ 1 → ⊥) → Verdict.Refused Cause.Frame ≡ verdict (frame_checks bytes count)
+  unfolding frame_fails frame_checks
+  other-kind other = rw (frame_fails, ne_eqb _ _ other)
+
+  other-count : get_or bytes 0 0 ≡ 1 → not (eqb count (8 + 2 * get_or bytes 6 0)) ≡ true
+      → Verdict.Refused Cause.Frame ≡ verdict (frame_checks bytes count)
+  unfolding frame_fails frame_checks
+  other-count kind other = rw (frame_fails, eq-eqb _ _ kind, other)
+
+  is-due : get_or bytes 0 0 ≡ 1 → not (eqb count (8 + 2 * get_or bytes 6 0)) ≡ false → Verdict.Passed ≡ verdict (frame_checks bytes count)
+  unfolding frame_fails frame_checks
+  is-due kind due = rw (frame_fails, eq-eqb _ _ kind, due)
+
+pub returns-then-bytes-ne1 : goal.returns-then-bytes-ne1
+returns-then-bytes-ne1 c =
+    let a = c.args in
+    elim c.then-bytes-ne1.branch [ then-bytes-ne1-via-then-bytes-ne1 w ↦ other-kind a.bytes a.count (λ e. w.if-bytes-ne1.true (omega (arith, e))) | then-bytes-ne1-via-else-bytes-ne1+then-count-due w ↦ other-count a.bytes a.count (omega (arith, w.if-bytes-ne1.false)) (ap not (ne_eqb _ _ w.if-count-due.true)) ]
+
+pub returns : goal.returns
+returns c =
+    let a = c.args in
+    is-due a.bytes a.count (omega (arith, c.if-bytes-ne1.false)) (ap not (eq-eqb _ _ c.if-count-due.false))
