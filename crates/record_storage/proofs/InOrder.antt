@@ -28,7 +28,7 @@ use Rattle.records.specs.IntelHex.{
 use Rattle.records.specs.SetBytes.{entry_count, entry_at, bytes_below, set_bytes, set_records}
 use Rattle.records.proofs.CountLaws.{data_head, end-head}
 use Rattle.records.proofs.BytesLaws.{below-congruence, data-length}
-use Rattle.record_reading.proofs.WholeSets.{initial-at, offset_at}
+use Rattle.record_reading.proofs.WholeSets.{initial-at, offset-at}
 use Rattle.storage.specs.Sets.{TableSet}
 use Rattle.record_storage.specs.RecordFile.{joined, file_bytes, data_records, end_record, record_file}
 use Rattle.record_storage.specs.RecordStorage.{records_in}
@@ -75,7 +75,7 @@ module _ (t : TableSet) where
   offset-is : (place : ℕ) → number (initial_count d + place) ≡ offset place
   offset-is place =
       let left : initial_count d + place - initial_count d ≡ place = omega arith in
-      offset_at (initial_count d) t.initial t.offsets (initial_count d + place) (omega arith) ∙ rw left
+      offset-at (initial_count d) t.initial t.offsets (initial_count d + place) (omega arith) ∙ rw left
 
   offsets_are : bytes_below (offset_total d) (λ place. number (initial_count d + place))
       ≡ joined (list_below (offset_total d) (λ place. big_endian entry_bytes (offset place)))

@@ -18,7 +18,7 @@ use Rattle.lines.proofs.SlotLaws.{
   first-line,
   initial-line,
   offset-line,
-  last_line,
+  last-line,
   slot-first,
   slot-initial,
   slot-offset,
@@ -37,7 +37,7 @@ lines_fit d initial offsets initial-fits offset-fits n h =
       | first-line e ↦ rw (e, slot-first d)
       | initial-line index e k ↦ rw (slot-initial d n index e k) (initial-fits index k)
       | offset-line place e k ↦ rw (slot-offset d n place e k) (offset-fits place k)
-      | last_line e ↦ rw (slot-last d n e)
+      | last-line e ↦ rw (slot-last d n e)
     ]
 
 module _ (t : TableSet) where
@@ -54,7 +54,7 @@ module _ (t : TableSet) where
               | first-line e ↦ rw (e, slot-first d)
               | initial-line index e k ↦ rw (slot-initial d n index e k) (lt-leb _ _ (ok.below index k))
               | offset-line place e k ↦ rw (slot-offset d n place e k)
-              | last_line e ↦ rw (slot-last d n e)
+              | last-line e ↦ rw (slot-last d n e)
             ];
       }
 

@@ -24,7 +24,7 @@ use Rattle.design.specs.Budget.{reach, table_budget, budget, limit, within_limit
 use Rattle.design.specs.Answers.{budget_answer, budget_told}
 use Rattle.design.proofs.SameLaws.{with-pairs, only-pairs}
 use Rattle.entries.specs.Entries.{value_at, end_values, initial_at, hi_at, lo_at, offset_at}
-use Rattle.sizing.specs.Size.{size, size_verdict, size_answer, size_told}
+use Rattle.sizing.specs.Size.{size_verdict, size_answer, size_told}
 use Rattle.sizing.proofs.SizeLaws.{size_same}
 use Rattle.tables.specs.Sum.{offset_for, sum_at, sum_outside, word_of, word_at}
 use Rattle.tables.specs.Set.{tables_check, set_checks}

@@ -7,7 +7,7 @@ use native.Mathlib.Omega.{arith}
 use lib.ListN.{replicate}
 use Rattle.general.specs.Lists.{All}
 use Rattle.general.proofs.JoinedLaws.{all_weaker}
-use Rattle.reading.specs.ReadLine.{Session, after, verdict_on, finished}
+use Rattle.reading.specs.ReadLine.{Session, after, verdict_on}
 use Rattle.reading.proofs.ReadLaws.{not-begun}
 use Rattle.refusal.specs.declared.Verdict.{Verdict}
 use Rattle.storage.specs.Sets.{TableSet, Storable, lines_in}

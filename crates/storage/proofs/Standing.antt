@@ -19,7 +19,7 @@ use Rattle.lines.proofs.SlotLaws.{
   first-line,
   initial-line,
   offset-line,
-  last_line,
+  last-line,
   slot-first,
   slot-initial,
   slot-offset,
@@ -57,7 +57,7 @@ module _ (d : Design) (j n : ℕ) (earlier : j < n) (within : n < line_count d) 
         | first-line f ↦ rw (f, slot-first d) tt
         | initial-line index f h ↦ rw (slot-initial d n index f h) (λ same. omega arith)
         | offset-line place f h ↦ rw (slot-offset d n place f h) tt
-        | last_line f ↦ rw (slot-last d n f) tt
+        | last-line f ↦ rw (slot-last d n f) tt
       ]
 
   other_offset : (p : ℕ) → j ≡ initial_count d + 1 + p → OtherOffset p (slot_of d n)
@@ -67,7 +67,7 @@ module _ (d : Design) (j n : ℕ) (earlier : j < n) (within : n < line_count d) 
         | first-line f ↦ rw (f, slot-first d) tt
         | initial-line index f h ↦ rw (slot-initial d n index f h) tt
         | offset-line place f h ↦ rw (slot-offset d n place f h) (λ same. omega arith)
-        | last_line f ↦ rw (slot-last d n f) tt
+        | last-line f ↦ rw (slot-last d n f) tt
       ]
 
   apart : Apart (slot_of d j) (slot_of d n)
@@ -77,7 +77,7 @@ module _ (d : Design) (j n : ℕ) (earlier : j < n) (within : n < line_count d) 
         | first-line e ↦ rw (e, slot-first d) tt
         | initial-line index e h ↦ rw (slot-initial d j index e h) (other-initial index e)
         | offset-line place e h ↦ rw (slot-offset d j place e h) (other_offset place e)
-        | last_line e ↦ rw (slot-last d j e) tt
+        | last-line e ↦ rw (slot-last d j e) tt
       ]
 
 -- An entry that is stored leaves every other as it was,
