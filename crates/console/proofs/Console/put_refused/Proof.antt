@@ -3,7 +3,7 @@ use borrow.Author.Rules.{rules}
 use Rattle.report_text.proofs.TextLaws.{text-counts}
 use Rattle.console.proofs.Console.put_refused.Statement.{statement}
 use Rattle.console.proofs.Console.put_refused.Tie as tie
-use Rattle.io.proofs.Counting.{prefix_len_of_le}
+use Rattle.console.proofs.CountLaws.{prefix_len_of_le}
 
 put-text-requires : tie.Need-put-text-requires
 put-text-requires c κs = prefix_len_of_le _ _ (rw c.refused.ensures (text-counts _))

@@ -4,7 +4,7 @@ use Rattle.report_text.specs.Report.{report_of}
 use Rattle.report_text.proofs.TextLaws.{text-counts}
 use Rattle.console.proofs.Console.put_report.Statement.{statement}
 use Rattle.console.proofs.Console.put_report.Tie as tie
-use Rattle.io.proofs.Counting.{prefix_len_of_le}
+use Rattle.console.proofs.CountLaws.{prefix_len_of_le}
 
 put-text-requires : tie.Need-put-text-requires
 unfolding report_of
