@@ -1,6 +1,6 @@
 -- Signs by arithmetic: the difference of two counts, B's top bit, |j| and the sign by it, and T or -1 - T by the sign.
 use mathlib.Core.Path.{◌≡◌, refl, ap, ◌∙◌}
-use mathlib.Core.Bool.{Bool, true, false, not, cond}
+use mathlib.Core.Bool.{Bool, true, false, cond}
 use Prim.Native.Nat.{ℕ, zero, suc, ◌+◌, ◌-◌, ◌*◌, ◌/◌, ◌^◌, ◌≤◌, ◌<◌}
 use native.Mathlib.Nat.{not-suc-le-zero, one-mul, div-eq_of_lt, div-eq_of_lt-le}
 use native.Mathlib.Omega.{arith}

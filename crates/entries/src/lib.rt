@@ -1,5 +1,6 @@
 // What the fill writes, entry by entry: document 01, "Filling".
 #![tactic(auto)]
+
 ghost use Rattle.std.specs.Prelude.{◌≡◌, ◌*◌, ◌^◌, ◌≤◌, ◌<◌, pos, nat_abs};
 ghost use Rattle.values.specs.Room.{widest_word, floor_bound};
 ghost use Rattle.values.specs.Inputs.{InRange, SlopeInput};

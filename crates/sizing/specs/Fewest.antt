@@ -1,5 +1,5 @@
 -- Document 02, A6, as a statement: that the width which the definition finds by trying is the fewest bits of all.
-use Rattle.std.specs.Prelude.{ℕ, ◌-◌, ◌^◌, ◌≤◌, ◌<◌, ℤ, pos, neg_ℤ, ◌≤ℤ◌, ◌<ℤ◌}
+use Rattle.std.specs.Prelude.{ℕ, ◌-◌, ◌^◌, ◌≤◌, ◌<◌, pos, neg_ℤ, ◌≤ℤ◌, ◌<ℤ◌}
 use Rattle.design.specs.declared.Design.{Design}
 use Rattle.design.specs.Cut.{a_of, b_of}
 use Rattle.design.specs.Legal.{Legal}

@@ -1,5 +1,6 @@
 // The size of a design in bits, as gate arrays count it: each table at its own width. Document 02, A6.
 #![tactic(auto)]
+
 ghost use Rattle.std.specs.Prelude.{◌≡◌, ◌+◌, ◌*◌, ◌^◌, ◌≤◌, ◌<◌};
 ghost use Rattle.values.specs.Room.{finest_unit};
 ghost use Rattle.design.specs.Limits.{most_initial_bits};

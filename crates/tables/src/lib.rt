@@ -1,5 +1,6 @@
 // Table sets: the refusals 1 to 10 that the calls over them share, and the sums and words that they give.
 #![tactic(auto)]
+
 ghost use Rattle.std.specs.Prelude.{◌≡◌};
 ghost use Rattle.refusal.specs.Checks.{verdict};
 ghost use Rattle.design.specs.Legal.{Legal};

@@ -2,7 +2,6 @@
 use mathlib.Core.Path.{◌≡◌, ◌∙◌}
 use Prim.Native.Nat.{ℕ, ◌≤◌}
 use native.Mathlib.Omega.{arith}
-use borrow.Author.Rules.{rules}
 use lib.IntN.{ℤ, pos, nat_abs, ◌-ℤ◌, ◌*ℤ◌}
 use lib.Pow.{pow_mono}
 use mir.Syntax.{w32}
@@ -14,8 +13,8 @@ use Rattle.entries.specs.Inputs.{WordInput}
 use Rattle.entries.specs.Signs.{side_of}
 use Rattle.entries.proofs.EntryBounds.{odd-small}
 use Rattle.entries.proofs.SignLaws.{side-small, side-factor-small, side-times, twice-fits, twice-is}
-use Rattle.entries.proofs.absolute.Statement.{statement}
-use Rattle.entries.proofs.absolute.Tie as tie
+use Rattle.entries.proofs.absolute.Goals as goal
+use Rattle.entries.proofs.absolute.Goals.{After-odd_number-j}
 
 -- the side and 1 or -1, as their bits are read,
 module _ (j : ℤ) where
@@ -43,39 +42,26 @@ j-small : (b B : ℕ) → WordInput b B → nat_abs (odd_number b B) ≤ word_bo
 j-small b B input = omega (arith, odd-small b B input.B-lt, pow_mono {i = b} {j = widest_word} input.b-small)
 
 -- j, as its bits are read
-odd_is : (c : tie.After-odd-number) → to_z w32 (of_z w32 c.odd_number.result) ≡ odd_number c.before.args.b c.before.args.word
-odd_is c = to_z-of_z w32 _ (record { sfits = c.odd_number.type-inv }) ∙ c.odd_number.ensures
+odd_is : (c : After-odd_number-j) → to_z w32 (of_z w32 c.odd_number-j.result) ≡ odd_number c.args.b c.args.word
+odd_is c = to_z-of_z w32 _ (record { sfits = c.odd_number-j.type_inv }) ∙ c.odd_number-j.ensures
 
-returns : tie.Need-returns
+pub returns : goal.returns
 returns c =
-    rw (c.top_bit.ensures, odd_is c.before, size_is _ (j-small _ _ c.before.before.requires))
+    rw (c.top_bit.ensures, odd_is c.before, size_is _ (j-small _ _ c.requires))
 
-cast-factor : tie.Need-overflow-cast-factor
-cast-factor c = rw c.top_bit.ensures (side-fits _)
+pub overflow_cast-factor : goal.overflow_cast-factor
+overflow_cast-factor c = rw c.top_bit.ensures (side-fits _)
 
-mul-factor : tie.Need-overflow-mul-factor
-mul-factor c = rw c.top_bit.ensures (twice-fits _ (side-small _))
+pub overflow_mul-factor : goal.overflow_mul-factor
+overflow_mul-factor c = rw c.top_bit.ensures (twice-fits _ (side-small _))
 
-sub-factor : tie.Need-overflow-sub-factor
-sub-factor c = rw c.top_bit.ensures (factor-fits _)
+pub overflow_sub-factor : goal.overflow_sub-factor
+overflow_sub-factor c = rw c.top_bit.ensures (factor-fits _)
 
-mul-result : tie.Need-overflow-mul-result
-mul-result c = rw (c.top_bit.ensures, odd_is c.before) (product-fits _ (j-small _ _ c.before.before.requires))
+pub overflow_mul-result : goal.overflow_mul-result
+overflow_mul-result c = rw (c.top_bit.ensures, odd_is c.before) (product-fits _ (j-small _ _ c.requires))
 
-cast-result : tie.Need-overflow-cast-result
-cast-result c =
-    let small = j-small _ _ c.before.before.requires in
+pub overflow_cast-result : goal.overflow_cast-result
+overflow_cast-result c =
+    let small = j-small _ _ c.requires in
     rw (c.top_bit.ensures, odd_is c.before, size_is _ small) (tt, omega (arith, small))
-
-pub absolute-spec : {M : Type 1} → statement M
-absolute-spec =
-    tie.close
-    (tie.spec
-    (λ c κs. search rules)
-    (λ c κs. search rules)
-    cast-factor
-    mul-factor
-    sub-factor
-    mul-result
-    cast-result
-    returns)

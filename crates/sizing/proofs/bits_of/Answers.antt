@@ -2,7 +2,6 @@
 use mathlib.Core.Path.{◌≡◌, sym, ◌∙◌}
 use Prim.Native.Nat.{ℕ, ◌+◌, ◌-◌, ◌*◌, ◌^◌, ◌≤◌, ◌<◌}
 use lib.IntN.{pos}
-use borrow.Author.Rules.{rules}
 use native.Mathlib.Omega.{arith}
 use lib.Pow.{pow_pos}
 use Rattle.general.specs.Digits.{Digits}
@@ -13,8 +12,7 @@ use Rattle.sizing.specs.Width.{most_bits}
 use Rattle.sizing.specs.Widest.{widest_offset, bits_for}
 use Rattle.sizing.proofs.BitsLaws.{bits-counted}
 use Rattle.sizing.proofs.SizeLaws.{widest-small, digits-few}
-use Rattle.sizing.proofs.bits_of.Statement.{statement}
-use Rattle.sizing.proofs.bits_of.Tie as tie
+use Rattle.sizing.proofs.bits_of.Goals as goal
 
 -- T and its digits, as the calls give them
 module _ (slopes b p high T count : ℕ) (fit : OffsetInput slopes b p) (high_is : high ≡ 2 ^ b) (T-is : T ≡ magnitude slopes p (pos (high - 1)))
@@ -33,25 +31,21 @@ module _ (slopes b p high T count : ℕ) (fit : OffsetInput slopes b p) (high_is
 asked : (slopes b p high : ℕ) → OffsetInput slopes b p → high ≡ 2 ^ b → slopes * (high - 1) * 2 ^ p ≤ reach_bound
 asked slopes b p high fit high_is = product_small slopes b p (high - 1) fit.small (omega (arith, high_is))
 
-returns : tie.Need-returns
+pub returns : goal.returns
 returns c =
     let t = c.before in
-    counted _ _ _ _ _ _ t.before.before.requires t.before.pow2.ensures t.magnitude-of.ensures c.digit-count.ensures
+    counted _ _ _ _ _ _ t.requires t.pow2.ensures t.magnitude_of-t.ensures c.digit_count.ensures
 
-sub-magnitude-of : tie.Need-overflow-sub-magnitude-of
-sub-magnitude-of c = rw c.pow2.ensures (pow_pos _)
+pub overflow_sub-pow2 : goal.overflow_sub-pow2
+overflow_sub-pow2 c = rw c.pow2.ensures (pow_pos _)
 
-magnitude-of-requires : tie.Need-magnitude-of-requires
-magnitude-of-requires c κs = let fit = c.before.requires in (asked _ _ _ _ fit c.pow2.ensures, omega (arith, fit.bits))
+pub magnitude_of-t-requires : goal.magnitude_of-t-requires
+magnitude_of-t-requires c = let fit = c.requires in (asked _ _ _ _ fit c.pow2.ensures, omega (arith, fit.bits))
 
-add-result : tie.Need-overflow-add-result
-add-result c =
+pub overflow_add-result : goal.overflow_add-result
+overflow_add-result c =
     let t = c.before in
     omega (
       arith,
-      few _ _ _ _ _ _ t.before.before.requires t.before.pow2.ensures t.magnitude-of.ensures c.digit-count.ensures,
+      few _ _ _ _ _ _ t.requires t.pow2.ensures t.magnitude_of-t.ensures c.digit_count.ensures,
     )
-
-pub bits-of-spec : {M : Type 1} → statement M
-bits-of-spec =
-    tie.close (tie.spec (λ c κs. search rules) sub-magnitude-of magnitude-of-requires (λ c κs. search rules) add-result returns)

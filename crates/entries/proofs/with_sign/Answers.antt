@@ -2,7 +2,6 @@
 use mathlib.Core.Path.{◌≡◌, ◌∙◌}
 use Prim.Native.Nat.{ℕ, ◌≤◌, ◌<◌}
 use native.Mathlib.Omega.{arith}
-use borrow.Author.Rules.{rules}
 use lib.IntN.{pos, ◌-ℤ◌, ◌*ℤ◌}
 use mir.Syntax.{w32}
 use mir.Val.{SFits, to_z, of_z}
@@ -10,8 +9,7 @@ use mir.ValLaws.{to_z_pos, to_z-of_z}
 use Rattle.entries.specs.Inputs.{offset_bound}
 use Rattle.entries.specs.Signs.{entry_by, by_arithmetic}
 use Rattle.entries.proofs.SignLaws.{bit_is, twice-fits, twice-is, by-arithmetic, factor-small, product_small, entry-mag}
-use Rattle.entries.proofs.with_sign.Statement.{statement}
-use Rattle.entries.proofs.with_sign.Tie as tie
+use Rattle.entries.proofs.with_sign.Goals as goal
 
 -- 1 - 2·s, as its bits are read,
 module _ (s : ℕ) (s-lt : s < 2) where
@@ -38,29 +36,17 @@ module _ (s : ℕ) (s-lt : s < 2) where
     entry-is : to_z w32 (of_z w32 (to_z w32 (of_z w32 (to_z w32 factor *ℤ to_z w32 t)) -ℤ to_z w32 s)) ≡ entry_by s t
     entry-is = to_z-of_z w32 _ sum_fits ∙ sum_is
 
-returns : tie.Need-returns
+pub returns : goal.returns
 returns c = entry-is _ c.requires.0 _ c.requires.1
 
-mul-result : tie.Need-overflow-mul-result
-mul-result c = twice-fits _ c.requires.0
+pub overflow_mul-result : goal.overflow_mul-result
+overflow_mul-result c = twice-fits _ c.requires.0
 
-sub-result : tie.Need-overflow-sub-result
-sub-result c = factor-fits _ c.requires.0
+pub overflow_sub-result : goal.overflow_sub-result
+overflow_sub-result c = factor-fits _ c.requires.0
 
-mul-result-2 : tie.Need-overflow-mul-result-2
-mul-result-2 c = product-fits _ c.requires.0 _ c.requires.1
+pub overflow_mul-result-2 : goal.overflow_mul-result-2
+overflow_mul-result-2 c = product-fits _ c.requires.0 _ c.requires.1
 
-sub-result-2 : tie.Need-overflow-sub-result-2
-sub-result-2 c = sum_fits _ c.requires.0 _ c.requires.1
-
-pub with-sign-spec : {M : Type 1} → statement M
-with-sign-spec =
-    tie.close
-    (tie.spec
-    (λ c. search rules)
-    mul-result
-    sub-result
-    (λ c. search rules)
-    mul-result-2
-    sub-result-2
-    returns)
+pub overflow_sub-result-2 : goal.overflow_sub-result-2
+overflow_sub-result-2 c = sum_fits _ c.requires.0 _ c.requires.1

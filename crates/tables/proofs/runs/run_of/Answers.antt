@@ -6,7 +6,6 @@ use lib.IntN.{pos}
 use mir.Syntax.{w64}
 use mir.Val.{to_z}
 use mir.ValLaws.{to_z_pos}
-use borrow.Author.Rules.{rules}
 use Rattle.values.specs.declared.TableUnits.{TableUnits}
 use Rattle.design.specs.declared.Design.{Design}
 use Rattle.design.specs.Cut.{b_of}
@@ -14,8 +13,8 @@ use Rattle.design.proofs.LegalLaws.{Limits, limits}
 use Rattle.tables.specs.declared.lookups.Lookup.{Lookup}
 use Rattle.tables.specs.Lookup.{lookup_of}
 use Rattle.tables.proofs.LookupLaws.{looked, lookup-small, shl_one}
-use Rattle.tables.proofs.runs.run_of.Statement.{statement}
-use Rattle.tables.proofs.runs.run_of.Tie as tie
+use Rattle.tables.proofs.runs.run_of.Goals as goal
+use Rattle.tables.proofs.runs.run_of.Goals.{Start}
 
 -- How many words there are, by the lookup of table 0
 module _ (d : Design) (l : Limits d) (first : Lookup) (first-is : first ≡ lookup_of d 0) where
@@ -27,29 +26,26 @@ module _ (d : Design) (l : Limits d) (first : Lookup) (first-is : first ≡ look
   size-found = shl_one first.b b-small ∙ rw first-is refl
 
 -- the entry is the same number in 64 bits
-held : (c : tie.Start) → to_z w64 c.args.entry ≡ pos c.args.entry
+held : (c : Start) → to_z w64 c.args.entry ≡ pos c.args.entry
 held c = to_z_pos w64 c.args.entry (omega arith)
 
-shl-t9 : tie.Need-overflow-shl-t9
-shl-t9 c = let p = c.before.requires in b-small _ (limits _ p.0.0) _ (looked p.1.0).first-is
+pub overflow_shl-result : goal.overflow_shl-result
+overflow_shl-result c = let p = c.requires in b-small _ (limits _ p.legal.0) _ (looked p.lookups_value).first-is
 
-add-above-requires : tie.Need-add-above-requires
-add-above-requires c κs = let s = c.before in (s.requires.0, (s.requires.1.0, (s.requires.1.1.0, rw (held s) (omega arith))))
+pub add_above-requires : goal.add_above-requires
+add_above-requires c = let s = c.before in record { legal = s.requires.legal; lookups_value = s.requires.lookups_value; same_interval = (s.requires.same_interval.0, rw (held c.before) (omega arith)) }
 
-returns : tie.Need-returns
+pub returns : goal.returns
 returns c =
     let s = c.before.before in
     let p = s.requires in (
       refl,
       refl,
       record {
-        interval = p.1.1.0;
-        starts = p.1.1.1;
-        size_is = size-found _ (limits _ p.0.0) _ (looked p.1.0).first-is;
-        above-is = rw (held s) at (ap (λ (u : TableUnits). u.0) c.add-above.ensures.0);
-        above-small = c.add-above.ensures.1;
+        interval = p.same_interval.0;
+        starts = p.same_interval.1;
+        size_is = size-found _ (limits _ p.legal.0) _ (looked p.lookups_value).first-is;
+        above-is = rw (held c.before.before) at (ap (λ (u : TableUnits). u.0) c.add_above.ensures.0);
+        above-small = c.add_above.ensures.1;
       },
     )
-
-pub run-of-spec : {M : Type 1} → statement M
-run-of-spec = tie.close (tie.spec (λ c. search rules) shl-t9 add-above-requires returns)

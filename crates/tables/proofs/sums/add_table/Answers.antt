@@ -14,8 +14,7 @@ use Rattle.tables.specs.Inputs.{SameInterval}
 use Rattle.tables.specs.Lookup.{lookup_of, place_at}
 use Rattle.tables.specs.Sum.{offset_for}
 use Rattle.tables.proofs.LookupLaws.{lookup-asks, place_is, place-lt}
-use Rattle.tables.proofs.sums.add_table.Statement.{statement}
-use Rattle.tables.proofs.sums.add_table.Tie as tie
+use Rattle.tables.proofs.sums.add_table.Goals as goal
 
 -- A table that is read: where its lookup leads
 module _ {d : Design} (offsets : List ℤ) {near x i : ℕ} (usable : Legal d × (offset_total d ≤ length offsets)) (more : i < d.m)
@@ -27,23 +26,19 @@ module _ {d : Design} (offsets : List ℤ) {near x i : ℕ} (usable : Legal d ×
   unfolding offset_for offset_from
   read = rw (at, e, place_is d (limits d usable.0) i near x more words)
 
-place-of-requires : tie.Need-place-of-requires
-place-of-requires c κs =
-    let p = c.requires in
-    lookup-asks _ (limits _ p.0.0) _ _ _ p.1.1.0 p.1.0.1 _ p.1.0.0
+pub place_of-requires : goal.place_of-requires
+place_of-requires c =
+    let p = c.requires in let p = lookup-asks _ (limits _ p.legal.0) _ _ _ p.i_lt_m.0 p.lookup_value.1 _ p.lookup_value.0 in record { small = p.0; near_lt_word_bound = p.1 }
 
-add-offset-requires : tie.Need-add-offset-requires
-add-offset-requires c κs =
+pub add_offset-requires : goal.add_offset-requires
+add_offset-requires c =
     let s = c.before in
     let p = s.requires in
-    (inside s.args.offsets.now p.0 p.1.1.0 p.1.0.0 p.1.0.1 c.place_of.ensures, p.1.1.1)
+    (inside s.args.offsets.now p.legal p.i_lt_m.0 p.lookup_value.0 p.lookup_value.1 c.place_of.ensures, p.i_lt_m.1)
 
-returns : tie.Need-returns
+pub returns : goal.returns
 returns c =
     let s = c.before.before in
     let p = s.requires in
-    rw (← read s.args.offsets.now p.0 p.1.1.0 p.1.0.0 p.1.0.1 c.before.place_of.ensures)
-    c.add-offset.ensures
-
-pub add-table-spec : {M : Type 1} → statement M
-add-table-spec = tie.close (tie.spec place-of-requires add-offset-requires returns)
+    rw (← read s.args.offsets.now p.legal p.i_lt_m.0 p.lookup_value.0 p.lookup_value.1 c.place_of.ensures)
+    c.add_offset.ensures

@@ -3,7 +3,6 @@ use mathlib.Core.Path.{◌≡◌, refl, sym, ap, subst, ◌∙◌}
 use mathlib.Core.Bool.{Bool, true, false, ◌||◌, true≢false}
 use Prim.Native.Nat.{◌≤◌}
 use native.Mathlib.Omega.{arith}
-use borrow.Author.Rules.{rules}
 use lib.IntN.{ℤ, pos}
 use lib.Signed.{lt_z, le_z}
 use mir.Syntax.{w64}
@@ -13,8 +12,8 @@ use Rattle.design.specs.declared.Design.{Design}
 use Rattle.design.specs.Cut.{sum_limit}
 use Rattle.design.proofs.LegalLaws.{limits, sum-limit-small}
 use Rattle.tables.specs.Sum.{sum_outside}
-use Rattle.tables.proofs.sums.sum_outside.Statement.{statement}
-use Rattle.tables.proofs.sums.sum_outside.Tie as tie
+use Rattle.tables.proofs.sums.sum_outside.Goals as goal
+use Rattle.tables.proofs.sums.sum_outside.Goals.{After-sum_limit-limit}
 
 first : (a b : Bool) → a ≡ true → a ≡ a || b
 first true b e = refl
@@ -35,24 +34,20 @@ module _ (d : Design) (Y held : ℤ) (same : held ≡ Y) where
   above limit limit_is e =
       subst (λ (z : ℤ). le_z limit held ≡ sum_outside d z) same (ap (λ (z : ℤ). le_z z held) limit_is ∙ second _ _ e)
 
-limit-small : (c : tie.After-sum-limit) → c.sum-limit.result ≤ entry_bound
-limit-small c = rw c.sum-limit.ensures (sum-limit-small _ (limits _ c.before.requires))
+limit-small : (c : After-sum_limit-limit) → c.sum_limit-limit.result ≤ entry_bound
+limit-small c = rw c.sum_limit-limit.ensures (sum-limit-small _ (limits _ c.requires))
 
-cast-limit : tie.Need-overflow-cast-limit
-cast-limit c = record { sfits = omega (arith, limit-small c) }
+pub overflow_cast-limit : goal.overflow_cast-limit
+overflow_cast-limit c = record { sfits = omega (arith, limit-small c) }
 
-returns-2 : tie.Need-returns-2
-returns-2 c =
+pub returns-else-sum-lt0 : goal.returns-else-sum-lt0
+returns-else-sum-lt0 c =
     let b = c.before.before.before.before.before in
-    let a = b.before.args in
-    above a.d a.sum.0 _ (to_z-of_z w64 a.sum.0 (record { sfits = c.struct-told2.given.0.1 })) _
-    (to_z_pos w64 b.sum-limit.result (omega (arith, limit-small b)) ∙ ap pos b.sum-limit.ensures) c.before.before.if1.false
+    let a = b.args in
+    above a.d a.sum.0 _ (to_z-of_z w64 a.sum.0 (record { sfits = c.struct_told-else-sum-lt0-1.given.0.1 })) _
+    (to_z_pos w64 b.sum_limit-limit.result (omega (arith, limit-small c.before.before.before.before.before)) ∙ ap pos b.sum_limit-limit.ensures) c.if-sum-lt0.false
 
-returns : tie.Need-returns
-returns c =
-    let a = c.before.before.before.before.args in
-    below a.d a.sum.0 _ (to_z-of_z w64 a.sum.0 (record { sfits = c.before.struct_told.given.0.1 })) c.if1.true
-
-pub sum-outside-spec : {M : Type 1} → statement M
-sum-outside-spec =
-    tie.close (tie.spec (λ c κs. search rules) cast-limit returns returns-2)
+pub returns-then-sum-lt0 : goal.returns-then-sum-lt0
+returns-then-sum-lt0 c =
+    let a = c.args in
+    below a.d a.sum.0 _ (to_z-of_z w64 a.sum.0 (record { sfits = c.struct_told-1.given.0.1 })) c.if-sum-lt0.true

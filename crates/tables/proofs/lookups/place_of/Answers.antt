@@ -3,7 +3,6 @@ use mathlib.Core.Path.{◌≡◌}
 use Prim.Native.Nat.{ℕ, ◌+◌, ◌-◌, ◌*◌, ◌/◌, ◌%◌, ◌^◌, ◌≤◌, ◌<◌}
 use native.Mathlib.Nat.{mod-le, lt_of_lt_of_le}
 use native.Mathlib.Omega.{arith}
-use borrow.Author.Rules.{rules}
 use lib.Pow.{pow_pos, shr_le}
 use Rattle.values.specs.Room.{word_bound}
 use Rattle.design.specs.Limits.{most_offsets}
@@ -11,8 +10,7 @@ use Rattle.tables.specs.declared.lookups.Lookup.{Lookup}
 use Rattle.tables.specs.Inputs.{Small}
 use Rattle.tables.specs.Lookup.{place_at}
 use Rattle.tables.proofs.LookupLaws.{shl_one}
-use Rattle.tables.proofs.lookups.place_of.Statement.{statement}
-use Rattle.tables.proofs.lookups.place_of.Tie as tie
+use Rattle.tables.proofs.lookups.place_of.Goals as goal
 
 size-pos : (n : ℕ) → n < 32 → 0 < 1 * 2 ^ n % 2 ^ 32
 size-pos n h = rw (shl_one n h) (pow_pos n)
@@ -33,39 +31,25 @@ place_is : (lookup : Lookup) (near x : ℕ) → Small lookup →
 unfolding place_at
 place_is lookup near x small = rw (shl_one lookup.b (omega arith))
 
-rem-result : tie.Need-nonzero-rem-result
-rem-result c = size-pos _ (omega (arith, c.before.before.before.requires.0))
+pub nonzero_rem-result : goal.nonzero_rem-result
+nonzero_rem-result c = size-pos _ (omega (arith, c.requires.small))
 
-sub-result : tie.Need-overflow-sub-result
-sub-result c = mod-le _ _
+pub overflow_sub-result : goal.overflow_sub-result
+overflow_sub-result c = mod-le _ _
 
-rem-result-2 : tie.Need-nonzero-rem-result-2
-rem-result-2 c = size-pos _ (omega (arith, c.before.before.before.requires.0))
+pub nonzero_rem-result-2 : goal.nonzero_rem-result-2
+nonzero_rem-result-2 c = size-pos _ (omega (arith, c.requires.small))
 
-add-result : tie.Need-overflow-add-result
-add-result c =
-    let p = c.before.before.before.requires.1 in
+pub overflow_add-result : goal.overflow_add-result
+overflow_add-result c =
+    let p = c.requires.near_lt_word_bound in
     record { fits = lt_of_lt_of_le (parts-small _ _ _ _ _ _ (omega (arith, p)) (omega (arith, p))) (omega arith) }
 
-add-result-2 : tie.Need-overflow-add-result-2
-add-result-2 c =
-    let p = c.before.before.before.before.requires in
-    let small = place-small _ _ _ _ _ _ _ p.0.start_small in
-    record { fits = lt_of_lt_of_le (small (omega (arith, p.1)) (omega (arith, p.1))) (omega arith) }
+pub overflow_add-result-2 : goal.overflow_add-result-2
+overflow_add-result-2 c =
+    let p = c.requires in
+    let small = place-small _ _ _ _ _ _ _ p.small.start_small in
+    record { fits = lt_of_lt_of_le (small (omega (arith, p.near_lt_word_bound)) (omega (arith, p.near_lt_word_bound))) (omega arith) }
 
-returns : tie.Need-returns
-returns c = place_is _ _ _ c.before.before.before.before.requires.0
-
-pub place-of-spec : {M : Type 1} → statement M
-place-of-spec =
-    tie.close
-    (tie.spec
-    (λ c. search rules)
-    (λ c. search rules)
-    (λ c. search rules)
-    rem-result
-    sub-result
-    rem-result-2
-    add-result
-    add-result-2
-    returns)
+pub returns : goal.returns
+returns c = place_is _ _ _ c.requires.small

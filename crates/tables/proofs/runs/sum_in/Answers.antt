@@ -13,8 +13,8 @@ use Rattle.tables.specs.Sum.{offset_for, sum_from}
 use Rattle.tables.proofs.LookupLaws.{looked}
 use Rattle.tables.proofs.SumLaws.{units}
 use Rattle.tables.proofs.RunLaws.{run-interval, run-sum}
-use Rattle.tables.proofs.runs.sum_in.Statement.{statement}
-use Rattle.tables.proofs.runs.sum_in.Tie as tie
+use Rattle.tables.proofs.runs.sum_in.Goals as goal
+use Rattle.tables.proofs.runs.sum_in.Goals.{Start}
 
 module _ {d : Design} (l : Limits d) {offsets : List ℤ} {run : Run} (r : RunOf d offsets run) (b : ℕ) (b_lt : b < run.size) where
   words : SameInterval d run.near (run.start + b)
@@ -24,21 +24,18 @@ module _ {d : Design} (l : Limits d) {offsets : List ℤ} {run : Run} (r : RunOf
   summed = rw r.above-is (run-sum d l run.start b r.starts (rw r.size_is at b_lt) run.entry offsets)
 
 -- this call's word
-word : (c : tie.Start) → let a = c.args in SameInterval a.d a.run.near (a.run.start + a.b)
-word c = let p = c.requires in words (limits _ p.0.0) p.1.1.0 _ p.1.1.1
+word : (c : Start) → let a = c.args in SameInterval a.d a.run.near (a.run.start + a.b)
+word c = let p = c.requires in words (limits _ p.legal.0) p.run_of.0 _ p.run_of.1
 
-add-x : tie.Need-overflow-add-x
-add-x c = omega (arith, (word c.before).word, words-few (limits _ c.before.requires.0.0).widths.room)
+pub overflow_add-x : goal.overflow_add-x
+overflow_add-x c = omega (arith, (word c.before).word, words-few (limits _ c.requires.legal.0).widths.room)
 
-add-table-requires : tie.Need-add-table-requires
-add-table-requires c κs =
-    let p = c.before.requires in
-    (p.0, (((looked p.1.0).first-is, word c.before), ((limits _ p.0.0).m-low, p.1.1.0.above-small)))
+pub add_table-requires : goal.add_table-requires
+add_table-requires c =
+    let p = c.requires in
+    record { legal = p.legal; lookup_value = ((looked p.lookups_value).first-is, word c.before.before.before); i_lt_m = ((limits _ p.legal.0).m-low, p.run_of.0.above-small) }
 
-returns : tie.Need-returns
+pub returns : goal.returns
 returns c =
-    let p = c.before.before.requires in
-    c.add-table.ensures.0 ∙ ap units (summed (limits _ p.0.0) p.1.1.0 _ p.1.1.1)
-
-pub sum-in-spec : {M : Type 1} → statement M
-sum-in-spec = tie.close (tie.spec add-x add-table-requires returns)
+    let p = c.requires in
+    c.add_table.ensures.0 ∙ ap units (summed (limits _ p.legal.0) p.run_of.0 _ p.run_of.1)

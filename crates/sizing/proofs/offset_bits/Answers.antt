@@ -1,7 +1,6 @@
 -- `sizing::offset_bits` meets its contract: the bits of the table's widest offset are those of all.
 use mathlib.Core.Path.{◌≡◌, sym, ◌∙◌}
 use Prim.Native.Nat.{ℕ, ◌<◌}
-use borrow.Author.Rules.{rules}
 use Rattle.values.specs.declared.slopes.LargestSlopes.{LargestSlopes}
 use Rattle.values.specs.Slopes.{largest_slopes}
 use Rattle.design.specs.declared.Pair.{Pair}
@@ -13,8 +12,7 @@ use Rattle.sizing.specs.Width.{offset_bits}
 use Rattle.sizing.specs.Widest.{widest_offset, bits_for}
 use Rattle.sizing.proofs.WidthLaws.{offset-bits-is}
 use Rattle.sizing.proofs.SizeLaws.{widest-input}
-use Rattle.sizing.proofs.offset_bits.Statement.{statement}
-use Rattle.sizing.proofs.offset_bits.Tie as tie
+use Rattle.sizing.proofs.offset_bits.Goals as goal
 
 -- the numbers of the table, as the calls give them
 module _ (d : Design) (i at : ℕ) (pair : Pair) (slopes : LargestSlopes) (place : at ≡ position d i) (pair_is : pair ≡ pair_at d i)
@@ -25,19 +23,16 @@ module _ (d : Design) (i at : ℕ) (pair : Pair) (slopes : LargestSlopes) (place
   bits_are : (bits : ℕ) → bits ≡ bits_for (widest_offset slopes.sum pair.b at) → bits ≡ offset_bits d i
   bits_are bits is = is ∙ rw (slopes-are, pair_is, place) (sym (offset-bits-is d i))
 
-returns : tie.Need-returns
+pub returns : goal.returns
 returns c =
     let slopes = c.before in
-    bits_are _ _ _ _ _ slopes.before.before.requires.1.1 slopes.before.pair-at.ensures slopes.table-slopes.ensures _
+    bits_are _ _ _ _ _ slopes.requires.i_lt_m.1 slopes.pair_at-pair.ensures slopes.table_slopes-slopes.ensures _
     c.bits_of.ensures
 
-pair-at-requires : tie.Need-pair-at-requires
-pair-at-requires c κs = (c.requires.1.0, (limits _ c.requires.0).m-high)
+pub pair_at-pair-requires : goal.pair_at-pair-requires
+pair_at-pair-requires c = (c.requires.i_lt_m.0, (limits _ c.requires.legal).m-high)
 
-bits-of-requires : tie.Need-bits-of-requires
-bits-of-requires c κs =
-    let e = c.before.before.requires in
-    asked _ _ _ _ _ e.1.1 c.before.pair-at.ensures c.table-slopes.ensures (limits _ e.0) e.1.0
-
-pub offset-bits-spec : {M : Type 1} → statement M
-offset-bits-spec = tie.close (tie.spec pair-at-requires (λ c κs. search rules) bits-of-requires returns)
+pub bits_of-requires : goal.bits_of-requires
+bits_of-requires c =
+    let e = c.requires in
+    asked _ _ _ _ _ e.i_lt_m.1 c.pair_at-pair.ensures c.table_slopes-slopes.ensures (limits _ e.legal) e.i_lt_m.0

@@ -1,0 +1,58 @@
+-- `sizing::size` meets its contract: the verdict's refusal, 11 of a legal design that is not admitted, or the size.
+use mathlib.Core.Path.{◌≡◌, refl, sym, ◌∙◌}
+use Prim.Native.Nat.{ℕ}
+use Rattle.refusal.specs.declared.Cause.{Cause}
+use Rattle.refusal.specs.declared.Verdict.{Verdict}
+use Rattle.design.specs.declared.Design.{Design}
+use Rattle.design.specs.declared.Measured.{Measured}
+use Rattle.design.specs.Legal.{Legal, design_checks, design_verdict}
+use Rattle.design.specs.Answers.{told_by}
+use Rattle.design.proofs.LegalLaws.{limits, guard_small}
+use Rattle.design.proofs.AdmittedLaws.{refused-before, not-admitted, admitted}
+use Rattle.sizing.specs.Size.{size, size_verdict, size_answer, size_told}
+use Rattle.sizing.proofs.size.Goals as goal
+use Rattle.sizing.proofs.size.Goals.{In_default}
+
+-- what is promised by the verdict
+module _ (d : Design) where
+  abbrev Promised : Measured → Type 0
+  Promised r = (r ≡ size_answer d) × (told_by r ≡ size_told d)
+
+  refused-with : (cause : Cause) → size_verdict d ≡ Verdict.Refused cause → Promised (Measured.Refused cause)
+  unfolding size_answer size_told
+  refused-with cause e = (rw e, rw e)
+
+  answered : (bits : ℕ) → size_verdict d ≡ Verdict.Passed → bits ≡ size d → Promised (Measured.Is bits)
+  unfolding size_answer size_told
+  answered bits e is = rw (e, is) (refl, refl)
+
+pub returns-in-Refused : goal.returns-in-Refused
+unfolding size_verdict design_verdict
+returns-in-Refused c = let p = refused-with _ _
+    (refused-before _ (design_checks _) _ (sym c.design_verdict.ensures ∙ c.in-Refused.is)) in record { answer = p.0; told = p.1 }
+
+-- where the verdict passed
+legal : (c : In_default) → Legal c.args.d
+legal c = sym c.design_verdict.ensures ∙ c.in_default.is
+
+pub limit_of-requires : goal.limit_of-requires
+limit_of-requires c = guard_small _ (limits _ (legal c))
+
+pub budget_of-requires : goal.budget_of-requires
+budget_of-requires c = legal c.before
+
+pub returns-then-limit_of-budget_of : goal.returns-then-limit_of-budget_of
+unfolding size_verdict design_verdict
+returns-then-limit_of-budget_of c =
+    let b = c.before in let p = refused-with _ _
+    (not-admitted _ (design_checks _) (legal c.before.before.before) (rw (b.limit_of.ensures, b.budget_of.ensures) at c.if-limit_of-budget_of.true)) in record { answer = p.0; told = p.1 }
+
+pub size_of-requires : goal.size_of-requires
+size_of-requires c = legal c.before.before.before
+
+pub returns : goal.returns
+unfolding size_verdict design_verdict
+returns c =
+    let b = c.before.before in let p = answered _ _
+    (admitted _ (design_checks _) (legal c.before.before.before.before) (rw (b.limit_of.ensures, b.budget_of.ensures) at
+    c.if-limit_of-budget_of.false)) c.size_of.ensures in record { answer = p.0; told = p.1 }
