@@ -1,5 +1,5 @@
 -- Document 01, refusal 15, "empty, odd length, over 32 digits, other character, wrong sum", and what a sound line holds.
-use Rattle.std.specs.Prelude.{Bool, cond, not, ◌||◌, List, [], ◌∷◌, ◌++◌, ℕ, ◌+◌, ◌-◌, ◌%◌, ltb, eqb, length, take, replicate}
+use Rattle.std.specs.Prelude.{Bool, cond, not, ◌||◌, List, [], ◌∷◌, ◌++◌, ℕ, ◌-◌, ◌%◌, ltb, eqb, length, take, replicate}
 use Rattle.general.specs.Lists.{total}
 use Rattle.refusal.specs.declared.Cause.{Cause}
 use Rattle.refusal.specs.declared.Verdict.{Verdict}

@@ -1,5 +1,6 @@
 // Lines of hexadecimal as frames of bytes, and the frame that holds a design.
 #![tactic(auto)]
+
 ghost use Rattle.std.specs.Prelude.{◌≡◌, true, [], ◌<◌, length};
 ghost use Rattle.refusal.specs.Checks.{verdict};
 ghost use Rattle.frames.specs.Hex.{digit_value};

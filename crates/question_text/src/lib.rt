@@ -1,6 +1,7 @@
 // The text of a question: a line of three decimal numbers with exactly one space between them. It is read a character at a time, so that
 // a line of any length needs no buffer.
 #![tactic(auto)]
+
 ghost use Rattle.std.specs.Prelude.{◌≡◌, [], ◌+◌, min};
 ghost use Rattle.question_text.specs.Question.{fields, three_numbers, grown, kept_of, with_character, question_of};
 

@@ -1,5 +1,6 @@
 // An input word in decimal, read a character at a time, so that a line of any length needs no buffer.
 #![tactic(auto)]
+
 ghost use Rattle.std.specs.Prelude.{◌≡◌, []};
 ghost use Rattle.word_text.specs.Decimal.{at_most_limit, reading_of, after_character, word_of};
 

@@ -1,15 +1,14 @@
 -- `WordText::word` meets its contract: the line is begun and its value is below the limit, or one of the two fails.
 use mathlib.Core.Path.{◌≡◌}
 use mathlib.Core.Bool.{true, false, and-false}
-use mathlib.Core.Logic.{⊎_elim}
 use Prim.Native.Nat.{◌^◌}
-use borrow.Author.Rules.{rules}
 use lib.Dec.{ltb}
+use borrow.Author.Tests.{lt-ltb, le-ltb}
 use Rattle.word_text.specs.declared.ReadWord.{ReadWord}
 use Rattle.word_text.specs.declared.WordText.{WordText}
 use Rattle.word_text.specs.Decimal.{word_of}
-use Rattle.word_text.proofs.WordText.word.Statement.{statement}
-use Rattle.word_text.proofs.WordText.word.Tie as tie
+use Rattle.word_text.proofs.WordText.word.Goals as goal
+use Rattle.word_text.proofs.WordText.word.Goals.{else-self-via-else-self, else-self-via-then-self+else-self-lt-LIMIT}
 
 module _ (s : WordText) where
   both : s.begun ≡ true → ltb s.value (2 ^ 32) ≡ true → ReadWord.Word s.value ≡ word_of s
@@ -24,14 +23,8 @@ module _ (s : WordText) where
   unfolding word_of
   no_number f = rw (f, and-false s.begun)
 
-cast-t4 : tie.Need-overflow-cast-t4
-cast-t4 c = search rules
+pub returns-then-self-lt-LIMIT : goal.returns-then-self-lt-LIMIT
+returns-then-self-lt-LIMIT c = both _ c.if-self.true (lt-ltb _ _ c.if-self-lt-LIMIT.true)
 
-returns : tie.Need-returns
-returns c = both _ c.before.before.before.if1.true c.before.if2.true
-
-returns-2 : tie.Need-returns-2
-returns-2 c = ⊎_elim (λ w. no_number _ w.2.left) (λ w. no-character _ w.left) c.if1.branch
-
-pub word-spec : {M : Type 1} → statement M
-word-spec = tie.close (tie.spec cast-t4 returns returns-2)
+pub returns : goal.returns
+returns c = elim c.else-self.branch [ else-self-via-then-self+else-self-lt-LIMIT w ↦ no_number _ (le-ltb _ _ w.if-self-lt-LIMIT.false) | else-self-via-else-self w ↦ no-character _ w.if-self.false ]

@@ -1,6 +1,5 @@
 -- `frames::frame_verdict` meets its contract: a test that fails makes `frame_fails` true, and where both pass it is false.
-use mathlib.Core.Logic.{⊎_elim}
-use mathlib.Core.Path.{◌≡◌}
+use mathlib.Core.Path.{◌≡◌, ap}
 use mathlib.Core.Bool.{true, false, not}
 use mathlib.Core.List.{List}
 use lib.Dec.{eqb}
@@ -15,8 +14,8 @@ use mir.Val.{Fits}
 use borrow.Author.Rules.{rules}
 use borrow.Author.Tests.{eq-eqb, ne_eqb}
 use Rattle.frames.specs.DesignFrame.{frame_fails, frame_checks}
-use Rattle.frames.proofs.frame_verdict.Statement.{statement}
-use Rattle.frames.proofs.frame_verdict.Tie as tie
+use Rattle.frames.proofs.frame_verdict.Goals as goal
+use Rattle.frames.proofs.frame_verdict.Goals.{then-bytes-ne1-via-else-bytes-ne1+then-count-due, then-bytes-ne1-via-then-bytes-ne1}
 
 twice-fits : (m : ℕ) → Fits w8 m → Fits w64 (2 * m)
 twice-fits m fits = omega arith
@@ -24,11 +23,11 @@ twice-fits m fits = omega arith
 due-fits : (k m : ℕ) → k ≤ 8 → Fits w8 m → Fits w64 (k + 2 * m)
 due-fits k m h fits = omega arith
 
-mul-due : tie.Need-overflow-mul-due
-mul-due c = twice-fits _ (search rules)
+pub overflow_mul-due : goal.overflow_mul-due
+overflow_mul-due c = twice-fits _ (search rules)
 
-add-due : tie.Need-overflow-add-due
-add-due c = due-fits _ _ (omega arith) (search rules)
+pub overflow_add-due : goal.overflow_add-due
+overflow_add-due c = due-fits _ _ (omega arith) (search rules)
 
 -- The verdict by the two tests: the frame kind is 1, and the number of bytes is 8 + 2m.
 module _ (bytes : List ℕ) (count : ℕ) where
@@ -45,27 +44,12 @@ module _ (bytes : List ℕ) (count : ℕ) where
   unfolding frame_fails frame_checks
   is-due kind due = rw (frame_fails, eq-eqb _ _ kind, due)
 
-returns : tie.Need-returns
+pub returns-then-bytes-ne1 : goal.returns-then-bytes-ne1
+returns-then-bytes-ne1 c =
+    let a = c.args in
+    elim c.then-bytes-ne1.branch [ then-bytes-ne1-via-then-bytes-ne1 w ↦ other-kind a.bytes a.count (λ e. w.if-bytes-ne1.true (omega (arith, e))) | then-bytes-ne1-via-else-bytes-ne1+then-count-due w ↦ other-count a.bytes a.count (omega (arith, w.if-bytes-ne1.false)) (ap not (ne_eqb _ _ w.if-count-due.true)) ]
+
+pub returns : goal.returns
 returns c =
-    let a = c.before.args in
-    ⊎_elim
-    (λ w. other-kind a.t1 a.count (λ e. w.taken (omega (arith, e))))
-    (λ w. other-count a.t1 a.count (omega (arith, w.0.left)) w.1.taken)
-    c.if1.branch
-
-returns-2 : tie.Need-returns-2
-returns-2 c =
-    let a = c.before.before.args in
-    is-due a.t1 a.count (omega (arith, c.before.if1.false)) c.if2.false
-
-pub frame-verdict-spec : {M : Type 1} → statement M
-frame-verdict-spec =
-    tie.close
-    (tie.spec
-    (λ c. search rules)
-    (λ c. search rules)
-    mul-due
-    add-due
-    (λ c. search rules)
-    returns
-    returns-2)
+    let a = c.args in
+    is-due a.bytes a.count (omega (arith, c.if-bytes-ne1.false)) (ap not (eq-eqb _ _ c.if-count-due.false))

@@ -1,10 +1,9 @@
 -- `frames::digit` meets its contract: the numbers are those of the characters from '0' to 'F', which is computed over all of them once.
 use mathlib.Core.Path.{◌≡◌, refl, sym, ◌∙◌}
 use mathlib.Core.Bool.{Bool, true, false, not}
-use Prim.Native.Nat.{ℕ, ◌+◌, ◌-◌, ◌≤◌, ◌<◌}
+use Prim.Native.Nat.{ℕ, ◌+◌, ◌-◌, ◌<◌}
 use native.Mathlib.Omega.{arith}
 use native.Mathlib.Decide.{dec_lt}
-use borrow.Author.Rules.{rules}
 use borrow.Author.Tests.{eqb-true, not-false, ltb-true, lt-ltb, le-ltb}
 use lib.Dec.{eqb}
 use lib.ListN.{get_or}
@@ -14,8 +13,8 @@ use Rattle.refusal.specs.Checks.{outside}
 use Rattle.refusal.proofs.Checks.{inside}
 use Rattle.frames.specs.Hex.{digit_value}
 use Rattle.frames.specs.Inputs.{digit_numbers}
-use Rattle.frames.proofs.digit.Statement.{statement}
-use Rattle.frames.proofs.digit.Tie as tie
+use Rattle.frames.proofs.digit.Goals as goal
+use Rattle.frames.proofs.digit.Goals.{Else-outside}
 
 -- Whether a number is not the one that its character stands for
 abbrev differs : ℕ → Bool
@@ -44,29 +43,18 @@ module _ (c : ℕ) where
             rw (le-ltb c 48 (omega arith), lt-ltb 57 c (omega arith), le-ltb c 65 (omega arith), lt-ltb 70 c past)
       ]
 
-returns : tie.Need-returns
-returns c = beyond _ (sym c.before.outside.ensures ∙ c.if1.true)
+pub returns-then-outside : goal.returns-then-outside
+returns-then-outside c = beyond _ (sym c.outside.ensures ∙ c.if-outside.true)
 
 -- where the character is one of those
-range : (c : tie.Else1) → outside 48 70 c.before.before.args.c ≡ false
-range c = sym c.before.outside.ensures ∙ c.if1.false
+range : (c : Else-outside) → outside 48 70 c.args.c ≡ false
+range c = sym c.outside.ensures ∙ c.if-outside.false
 
-sub-result : tie.Need-overflow-sub-result
-sub-result c = (inside 48 70 c.before.before.args.c (range c)).0
+pub overflow_sub-result : goal.overflow_sub-result
+overflow_sub-result c = (inside 48 70 c.args.c (range c)).0
 
-element-copy-out-result : tie.Need-element-copy-out-result
-element-copy-out-result c = let limits = inside 48 70 c.before.before.args.c (range c) in omega arith
+pub bounds-numbers-c : goal.bounds-numbers-c
+bounds-numbers-c c = let limits = inside 48 70 c.args.c (range c.before.before) in omega arith
 
-returns-2 : tie.Need-returns-2
-returns-2 c = rw c.before.before.before.requires (within _ (range c.before))
-
-pub digit-spec : {M : Type 1} → statement M
-digit-spec =
-    tie.close
-    (tie.spec
-    (λ c κs. search rules)
-    returns
-    sub-result
-    (λ c. search rules)
-    element-copy-out-result
-    returns-2)
+pub returns : goal.returns
+returns c = rw c.requires (within _ (range c.before.before.before))

@@ -2,15 +2,13 @@
 use mathlib.Core.Path.{◌≡◌, sym, ◌∙◌}
 use mathlib.Core.List.{List}
 use Prim.Native.Nat.{ℕ}
-use borrow.Author.Rules.{rules}
 use Rattle.refusal.specs.declared.Cause.{Cause}
 use Rattle.refusal.specs.declared.Verdict.{Verdict}
 use Rattle.refusal.specs.Checks.{verdict}
 use Rattle.refusal.proofs.Checks.{verdict-append}
 use Rattle.design.specs.Legal.{design_verdict}
 use Rattle.frames.specs.DesignFrame.{frame_checks, frame_design, first_checks}
-use Rattle.frames.proofs.first_verdict.Statement.{statement}
-use Rattle.frames.proofs.first_verdict.Tie as tie
+use Rattle.frames.proofs.first_verdict.Goals as goal
 
 -- The verdict by that of the frame: a refusal stands, and else the design decides.
 module _ (bytes : List ℕ) (count : ℕ) where
@@ -24,28 +22,13 @@ module _ (bytes : List ℕ) (count : ℕ) where
   unfolding first_checks design_verdict
   design-decides e = rw (verdict-append, e)
 
-returns : tie.Need-returns
+pub returns-in-Refused : goal.returns-in-Refused
+returns-in-Refused c =
+    let v = c.before in
+    not-due _ _ _ (sym v.frame_verdict.ensures ∙ c.in-Refused.is)
+
+pub returns : goal.returns
 returns c =
-    let v = c.before.before.before in
-    not-due _ _ _ (sym v.frame-verdict.ensures ∙ c.before.cause.given.1)
-
-enum_told : tie.Need-enum-told
-enum_told c = search rules
-
-returns-2 : tie.Need-returns-2
-returns-2 c =
     let t = c.before.before in
-    rw c.before.frame-design.ensures at c.design-verdict.ensures
-    ∙ design-decides _ _ (sym t.before.before.frame-verdict.ensures ∙ t.enum_told.given.1)
-
-pub first-verdict-spec : {M : Type 1} → statement M
-first-verdict-spec =
-    tie.close
-    (tie.spec
-    (λ c κs. search rules)
-    (λ c. search rules)
-    returns
-    enum_told
-    (λ c κs. search rules)
-    (λ c κs. search rules)
-    returns-2)
+    rw c.frame_design.ensures at c.design_verdict.ensures
+    ∙ design-decides _ _ (sym t.frame_verdict.ensures ∙ t.in_default.is)
