@@ -1,8 +1,8 @@
 -- From a bound on a count to what the contracts and `&buf[..n]` ask.
 use Prim.Native.Nat.{ℕ, ◌≤◌}
-use mathlib.Core.Path.{◌≡◌, sym}
+use mathlib.Core.Path.{sym}
 use mathlib.Core.List.{List}
-use lib.ListN.{length, take}
+use lib.ListN.{length}
 use lib.Seq.{length-take-le}
 use Rattle.console.specs.Counts.{IsPrefixLen}
 
