@@ -1,5 +1,6 @@
 // The check of any tables, whoever filled them: faithful, or the lowest word that is not.
 #![tactic(auto)]
+
 ghost use Rattle.std.specs.Prelude.{◌≡◌, List, ℕ, ◌^◌, ◌≤◌, length, get_or};
 ghost use Rattle.design.specs.Cut as Cut;
 ghost use Rattle.design.specs.Cut.{initial_word};

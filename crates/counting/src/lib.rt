@@ -1,5 +1,6 @@
 // How many of a set's words are nearest, only just faithful, or neither, over any tables, whoever filled them (document 02, A1).
 #![tactic(auto)]
+
 ghost use Rattle.std.specs.Prelude.{◌≡◌, ◌+◌, ◌*◌, ◌-◌, ◌^◌, ◌<◌, length, get_or};
 ghost use Rattle.design.specs.Cut as Cut;
 ghost use Rattle.design.specs.Stored.{initial_count};

@@ -1,5 +1,6 @@
 // Evaluation of one word or of a batch, from any tables that are long enough for the design.
 #![tactic(auto)]
+
 ghost use Rattle.std.specs.Prelude.{◌≡◌, ◌++◌, map, ℕ, ◌<◌, ◌≤◌, length, drop};
 ghost use Rattle.refusal.specs.Checks.{verdict};
 ghost use Rattle.tables.specs.Inputs.{Usable};

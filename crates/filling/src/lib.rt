@@ -1,5 +1,6 @@
 // The fill: both tables of an admitted design, entry by entry.
 #![tactic(auto)]
+
 ghost use Rattle.std.specs.Prelude.{◌≡◌, ◌+◌, ◌^◌, ◌≤◌, length};
 ghost use Rattle.general.specs.Lists.{over};
 ghost use Rattle.refusal.specs.Numbers.{verdict_number};

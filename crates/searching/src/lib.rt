@@ -1,5 +1,6 @@
 // The search for the design with the fewest bits, for a function and its widths.
 #![tactic(auto)]
+
 ghost use Rattle.std.specs.Prelude.{◌≡◌};
 ghost use Rattle.searching.specs.Best.{refused_with, smallest_answer, told_by, smallest_told};
 

@@ -1,0 +1,32 @@
+-- `searching::numbers::each_table_count` meets its contract: before the turn of m, the best is that of all m before it.
+use mathlib.Core.Path.{◌≡◌, sym, ◌∙◌}
+use mathlib.Core.Logic.{⊎_elim}
+use mathlib.Core.List.{List}
+use Prim.Native.Nat.{ℕ, ◌+◌, ◌-◌, ◌≤◌, ◌<◌}
+use borrow.Author.Count.{falls}
+use borrow.Author.Tests.{ltb-true, ltb-false, leb-true, leb-false}
+use native.Mathlib.Nat.{le_of_suc-le-suc, not-le_of_lt}
+use native.Mathlib.Omega.{arith}
+use Rattle.general.specs.Below.{joined}
+use Rattle.values.proofs.WidthLaws.{widths-of}
+use Rattle.design.specs.declared.Design.{Design}
+use Rattle.design.specs.Limits.{most_tables}
+use Rattle.searching.specs.declared.SizedDesign.{SizedDesign}
+use Rattle.searching.specs.declared.prefix.Prefix.{Prefix}
+use Rattle.searching.specs.Designs.{bare, continued}
+use Rattle.searching.specs.Best.{best_of}
+use Rattle.searching.specs.Search.{prefix_of, Started, SlopesFor, Least, LeastOf, with_tables}
+use Rattle.searching.proofs.BestLaws.{best-first, best-one}
+use Rattle.searching.proofs.BeginLaws.{first_next, not-shared, turn-skipped, over-limit}
+use Rattle.searching.proofs.numbers.each_table_count.Given as goal
+
+pub record Inv (d : Design) (best found : SizedDesign) (m : ℕ) : Type 0 where
+  pub low : 1 ≤ m
+  pub high : m ≤ most_tables + 1
+  pub so_far : best_of best (joined 1 (m - 1) (λ m. continued m (with_tables d m) 0)) ≡ found
+
+abbrev pub invariant-loop-m : goal.invariant-loop-m
+invariant-loop-m l = Inv l.d l.initial.found l.found l.m
+
+abbrev pub decreases-loop-m : goal.decreases-loop-m
+decreases-loop-m l = most_tables + 1 - l.m

@@ -1,0 +1,8 @@
+-- `searching::refused` meets its contract.
+use borrow.Author.Rules.{rules}
+use Rattle.searching.specs.Best.{refused_with}
+use Rattle.searching.proofs.refused.Goals as goal
+
+pub returns : goal.returns
+unfolding refused_with
+returns c = rw c.no_design.ensures
