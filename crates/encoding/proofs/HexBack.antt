@@ -5,6 +5,7 @@ use mathlib.Core.List.{List, [], ◌∷◌, ◌++◌}
 use Prim.Native.Nat.{ℕ, zero, suc, ◌+◌, ◌-◌, ◌*◌, ◌/◌, ◌%◌, ◌≤◌, ◌<◌}
 use native.Mathlib.Omega.{arith}
 use native.Mathlib.Decide.{dec_lt}
+use lib.Dec.{ltb}
 use lib.ListN.{length}
 use borrow.Author.Tests.{ltb-true, lt-ltb, le-ltb}
 use Rattle.general.proofs.Tests.{both}
@@ -105,8 +106,8 @@ unfolding all_digits bytes_of
 bytes_small [] e = tt
 bytes_small (c ∷ []) e = tt
 bytes_small (high ∷ low ∷ rest) e =
-    let first = both _ _ e in
-    let second = both _ _ first.1 in (
+    let first = both (ltb (digit_value high) 16) _ e in
+    let second = both (ltb (digit_value low) 16) _ first.1 in (
       omega (arith, ltb-true (digit_value high) 16 first.0, ltb-true (digit_value low) 16 second.0),
       bytes_small rest second.1,
     )

@@ -1,5 +1,6 @@
 // Frames and lines as they are written: numbers as bytes, the sum byte, hexadecimal digits, and the frame that holds a design.
 #![tactic(auto)]
+
 ghost use Rattle.std.specs.Prelude.{◌≡◌, [], ◌∷◌, ◌++◌, ◌+◌, ◌≤◌, ◌<◌, length};
 ghost use Rattle.general.specs.Lists.{over};
 ghost use Rattle.design.specs.Legal.{Legal};

@@ -1,5 +1,6 @@
 // The lines of a set: which line holds what, the bytes before its entry, and which initial entries no line carries.
 #![tactic(auto)]
+
 ghost use Rattle.std.specs.Prelude.{◌≡◌, ◌≤◌, ◌<◌, length};
 ghost use Rattle.design.specs.Stored.{initial_count};
 ghost use Rattle.design.specs.Legal.{Legal};

@@ -1,5 +1,6 @@
 // The writer: one line of a set a call, by its number.
 #![tactic(auto)]
+
 ghost use Rattle.std.specs.Prelude.{◌≡◌, true, length};
 ghost use Rattle.refusal.specs.Checks.{verdict};
 ghost use Rattle.design.specs.Legal.{Legal};

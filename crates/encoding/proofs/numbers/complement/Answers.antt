@@ -13,8 +13,7 @@ use Rattle.encoding.specs.Bytes.{entry_bytes, fits_signed}
 use Rattle.encoding.specs.Bytes as Bytes
 use Rattle.encoding.proofs.ComplementBack.{complement-lt}
 use Rattle.encoding.proofs.SignedBytes.{half, added, negative-complement, positive-complement}
-use Rattle.encoding.proofs.numbers.complement.Statement.{statement}
-use Rattle.encoding.proofs.numbers.complement.Tie as tie
+use Rattle.encoding.proofs.numbers.complement.Goals as goal
 
 module _ (v : ℤ) (held : SFits w32 v) where
   read : to_z w32 (of_z w32 v) ≡ v
@@ -35,27 +34,21 @@ module _ (v : ℤ) (held : SFits w32 v) where
     sum-read : to_z w32 (of_z w32 (to_z w32 (of_z w32 v) +ℤ pos more)) ≡ pos (more - 1 - mag v)
     sum-read = to_z-of_z w32 _ sum_fits ∙ sum
 
-add-result : tie.Need-overflow-add-result
-add-result c = let s = c.before in sum_fits _ s.ranges.v c.if1.true s.requires _ (lit≤ tt) (lit< tt)
+pub overflow_add-result : goal.overflow_add-result
+overflow_add-result c = sum_fits _ c.ranges.v c.if-v-lt0.true c.requires _ (lit≤ tt) (lit< tt)
 
-cast-result : tie.Need-overflow-cast-result
-cast-result c =
-    let s = c.before in
-    rw (sum-read _ s.ranges.v c.if1.true s.requires _ (lit≤ tt) (lit< tt)) (tt, omega arith)
+pub overflow_cast-result : goal.overflow_cast-result
+overflow_cast-result c =
+    rw (sum-read _ c.ranges.v c.if-v-lt0.true c.requires _ (lit≤ tt) (lit< tt)) (tt, omega arith)
 
-returns : tie.Need-returns
-returns c =
-    let s = c.before in
-    rw (sum-read _ s.ranges.v c.if1.true s.requires _ (lit≤ tt) (lit< tt))
-    (negative-complement _ (rw (read _ s.ranges.v) at c.if1.true))
+pub returns-then-v-lt0 : goal.returns-then-v-lt0
+returns-then-v-lt0 c =
+    rw (sum-read _ c.ranges.v c.if-v-lt0.true c.requires _ (lit≤ tt) (lit< tt))
+    (negative-complement _ (rw (read _ c.ranges.v) at c.if-v-lt0.true))
 
-cast-result-2 : tie.Need-overflow-cast-result-2
-cast-result-2 c =
-    let s = c.before in
-    rw (as-it-is _ s.ranges.v c.if1.false) (tt, omega (arith, complement-lt entry_bytes _ (omega arith) s.requires))
+pub overflow_cast-result-2 : goal.overflow_cast-result-2
+overflow_cast-result-2 c =
+    rw (as-it-is _ c.ranges.v c.if-v-lt0.false) (tt, omega (arith, complement-lt entry_bytes _ (omega arith) c.requires))
 
-returns-2 : tie.Need-returns-2
-returns-2 c = let s = c.before in rw (as-it-is _ s.ranges.v c.if1.false)
-
-pub complement-spec : {M : Type 1} → statement M
-complement-spec = tie.close (tie.spec add-result cast-result returns cast-result-2 returns-2)
+pub returns : goal.returns
+returns c = rw (as-it-is _ c.ranges.v c.if-v-lt0.false)
