@@ -1,5 +1,6 @@
 // The Intel HEX records of a set: how many there are, what each of them begins with, and what a record that is read holds.
 #![tactic(auto)]
+
 ghost use Rattle.std.specs.Prelude.{◌≡◌, ◌≤◌};
 ghost use Rattle.design.specs.Legal.{Legal};
 ghost use Rattle.design.specs.Stored.{initial_count};
