@@ -1,5 +1,4 @@
 -- `searching::refused` meets its contract.
-use borrow.Author.Rules.{rules}
 use Rattle.searching.specs.Best.{refused_with}
 use Rattle.searching.proofs.refused.Goals as goal
 

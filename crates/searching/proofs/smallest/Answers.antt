@@ -1,7 +1,6 @@
 -- `searching::smallest` meets its contract: a refusal of kind, w or q stands, and then the best design tells whether there is one.
 use mathlib.Core.Path.{◌≡◌, sym, ◌∙◌}
 use Prim.Native.Nat.{ℕ, ◌≤◌, ◌<◌}
-use borrow.Author.Rules.{rules}
 use Rattle.refusal.specs.declared.Cause.{Cause}
 use Rattle.refusal.specs.declared.Verdict.{Verdict}
 use Rattle.refusal.specs.Checks.{verdict}
@@ -16,13 +15,10 @@ use Rattle.searching.specs.Best.{
   smallest_answer,
   told_by,
   smallest_told,
-use Rattle.searching.proofs.smallest.Goals as goal
-use Rattle.searching.proofs.smallest.Goals.{After-function_verdict, In_default}
-
 }
 use Rattle.searching.proofs.VerdictLaws.{first-refused, none-admitted, some-admitted}
-use Rattle.searching.proofs.smallest.Statement.{statement}
-use Rattle.searching.proofs.smallest.Tie as tie
+use Rattle.searching.proofs.smallest.Goals as goal
+use Rattle.searching.proofs.smallest.Goals.{After-function_verdict, In_default}
 
 module _ (kind w q : ℕ) where
   abbrev Promised : Found → Type 0
@@ -56,17 +52,17 @@ passed c = sym (judged c.before) ∙ c.in_default.is
 
 pub returns-in-Refused : goal.returns-in-Refused
 returns-in-Refused c =
-    let f = c.before.before in let p = refuses _ _ _ _ _ (first-refused _ _ _ _ (sym (judged c.before.before) ∙ c.in-Refused.is)) c.refused.ensures in record { answer = p.0; told = p.1; }
+    let f = c.before.before in let p = refuses _ _ _ _ _ (first-refused _ _ _ _ (sym (judged c.before.before) ∙ c.in-Refused.is)) c.refused.ensures in record { answer = p.0; told = p.1 }
 
 pub returns-then-best-ge-NO_BITS : goal.returns-then-best-ge-NO_BITS
 returns-then-best-ge-NO_BITS c =
     let best = c.before.before.before in let p = refuses _ _ _ _ _ (none-admitted _ _ _ (passed c.before.before.before.before) (no-fewer best.best_design-best.ensures c.if-best-ge-NO_BITS.true))
-    c.refused-then-best-ge-NO_BITS.ensures in record { answer = p.0; told = p.1; }
+    c.refused-then-best-ge-NO_BITS.ensures in record { answer = p.0; told = p.1 }
 
 pub returns : goal.returns
 returns c =
     let best = c.before.before in let p = finds _ _ _ _ (some-admitted _ _ _ (passed c.before.before.before) (fewer best.best_design-best.ensures c.if-best-ge-NO_BITS.false)) (rw
-    best.best_design-best.ensures) in record { answer = p.0; told = p.1; }
+    best.best_design-best.ensures) in record { answer = p.0; told = p.1 }
 
 pub best_design-best-requires : goal.best_design-best-requires
 best_design-best-requires c = passed c

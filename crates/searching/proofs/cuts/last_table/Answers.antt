@@ -2,7 +2,6 @@
 use mathlib.Core.Path.{◌≡◌, refl, sym, ◌∙◌}
 use Prim.Native.Nat.{ℕ, ◌+◌, ◌-◌, ◌*◌, ◌≤◌, ◌<◌, min}
 use borrow.Author.Count.{falls}
-use borrow.Author.Rules.{rules}
 use native.Mathlib.Nat.{le_refl, le_trans, lt_of_lt_of_le, le-add_right}
 use native.Mathlib.Omega.{arith}
 use mir.Syntax.{w32}
@@ -231,12 +230,12 @@ next_fits c =
     (e.0, fits _ e.0 e.1 _ refl _ ((let end_is' : (let d = c.args.prefix in c.smaller-end.result ≡ min (d.design.alpha + 1) (most_table_bits + 1 - (d.design.w - d.design.alpha - d.position))) = c.smaller-end.ensures in end_is')) _ c.loop-a.invariant.low c.loop-a-test.true)
 
 pub size_with-bits-requires : goal.size_with-bits-requires
-size_with-bits-requires c = record { slopes_for = c.requires.slopes_for; next = next_fits c; }
+size_with-bits-requires c = record { slopes_for = c.requires.slopes_for; next = next_fits c }
 
 pub budget_with-requires : goal.budget_with-requires
 budget_with-requires c =
     let loop = c.before.before.before.before in
-    record { slopes_for = loop.requires.slopes_for; next = (let next_fits' : (let a = c.args in let prefix = a.prefix in Next prefix × Fitting prefix.design prefix.tables c.loop-a.a (prefix.design.w - prefix.design.alpha - prefix.position)) = let smaller = c.before.before.before in let e = asked c.before.before.before.before.before.before.before.before.before.before.before.before.before in (e.0, fits _ e.0 e.1 _ refl _ ((let end_is' : (let d = c.args.prefix in c.smaller-end.result ≡ min (d.design.alpha + 1) (most_table_bits + 1 - (d.design.w - d.design.alpha - d.position))) = c.smaller-end.ensures in end_is')) _ c.loop-a.invariant.low c.loop-a-test.true) in next_fits'); }
+    record { slopes_for = loop.requires.slopes_for; next = (let next_fits' : (let a = c.args in let prefix = a.prefix in Next prefix × Fitting prefix.design prefix.tables c.loop-a.a (prefix.design.w - prefix.design.alpha - prefix.position)) = let smaller = c.before.before.before in let e = asked c.before.before.before.before.before.before.before.before.before.before.before.before.before in (e.0, fits _ e.0 e.1 _ refl _ ((let end_is' : (let d = c.args.prefix in c.smaller-end.result ≡ min (d.design.alpha + 1) (most_table_bits + 1 - (d.design.w - d.design.alpha - d.position))) = c.smaller-end.ensures in end_is')) _ c.loop-a.invariant.low c.loop-a-test.true) in next_fits') }
 
 pub with_pair-requires : goal.with_pair-requires
 with_pair-requires c =

@@ -1,29 +1,12 @@
 -- `searching::cuts::last_table` meets its contract: after the turn of a, the best is that of all a so far.
-use mathlib.Core.Path.{◌≡◌, refl, sym, ◌∙◌}
-use Prim.Native.Nat.{ℕ, ◌+◌, ◌-◌, ◌*◌, ◌≤◌, ◌<◌, min}
-use borrow.Author.Count.{falls}
-use borrow.Author.Rules.{rules}
-use native.Mathlib.Nat.{le_refl, le_trans, lt_of_lt_of_le, le-add_right}
-use native.Mathlib.Omega.{arith}
-use mir.Syntax.{w32}
-use mir.Val.{Fits}
+use mathlib.Core.Path.{◌≡◌}
+use Prim.Native.Nat.{ℕ, ◌+◌, ◌-◌, ◌≤◌}
 use Rattle.general.specs.Below.{joined, for_each}
 use Rattle.design.specs.declared.Design.{Design}
-use Rattle.design.specs.Limits.{most_initial_bits, most_offset_bits, most_table_bits}
-use Rattle.design.specs.Cut.{position}
-use Rattle.design.specs.Budget.{limit, Admitted}
-use Rattle.sizing.specs.Size.{size}
+use Rattle.design.specs.Limits.{most_offset_bits}
 use Rattle.searching.specs.declared.SizedDesign.{SizedDesign}
-use Rattle.searching.specs.declared.prefix.Prefix.{Prefix}
 use Rattle.searching.specs.Designs.{with_pair, continued}
-use Rattle.searching.specs.Best.{better, best_of}
-use Rattle.searching.specs.Search.{size_before, budget_before, Open, Fitting, Next}
-use Rattle.searching.proofs.BestLaws.{best-first, best-one}
-use Rattle.searching.proofs.PrefixLaws.{Agrees}
-use Rattle.searching.proofs.OpenLaws.{position-kept}
-use Rattle.searching.proofs.SmallLaws.{guard-few}
-use Rattle.searching.proofs.TableLaws.{last-a, still-many, last-by-b, last_taken, last-left}
-use Rattle.searching.proofs.TableLaws as tables
+use Rattle.searching.specs.Best.{best_of}
 use Rattle.searching.proofs.cuts.last_table.Given as goal
 
 -- before the turn of a: no a before it is better

@@ -1,26 +1,21 @@
 -- `searching::numbers::best_design` meets its contract: before the turn of g, the best is that of all g before it.
 use mathlib.Core.Path.{◌≡◌, sym, ◌∙◌}
-use mathlib.Core.Logic.{⊎_elim}
-use mathlib.Core.List.{List}
-use Prim.Native.Nat.{ℕ, ◌+◌, ◌-◌, ◌≤◌, ◌<◌}
+use Prim.Native.Nat.{ℕ, ◌+◌, ◌≤◌, ◌<◌}
 use borrow.Author.Count.{falls}
-use borrow.Author.Rules.{rules}
 use native.Mathlib.Nat.{le_of_suc-le-suc}
 use native.Mathlib.Numerals.{add-one}
 use native.Mathlib.Omega.{arith}
-use Rattle.general.specs.Below.{joined, for_each}
 use Rattle.refusal.specs.declared.Verdict.{Verdict}
 use Rattle.refusal.specs.Checks.{verdict}
 use Rattle.values.specs.declared.widths.Limits.{Limits}
 use Rattle.values.specs.Widths.{limits_of, function_checks}
 use Rattle.values.proofs.WidthLaws.{guard-passes, function-within}
 use Rattle.design.specs.declared.Design.{Design}
-use Rattle.design.specs.Limits.{least_initial_bits, most_initial_bits}
 use Rattle.searching.specs.declared.SizedDesign.{SizedDesign}
 use Rattle.searching.specs.Designs.{no_design, designs}
 use Rattle.searching.specs.Best.{no_bits, nothing, best_of, smallest_of}
 use Rattle.searching.proofs.BestLaws.{best_none, best-first, best-one}
-use Rattle.searching.proofs.BeginLaws.{by-alpha, no-guard}
+use Rattle.searching.proofs.BeginLaws.{no-guard}
 use Rattle.searching.proofs.numbers.best_design.Invariants.{by-g, Inv}
 use Rattle.searching.proofs.numbers.best_design.Goals as goal
 use Rattle.searching.proofs.numbers.best_design.Goals.{else-q-g, then-q-g}
@@ -83,8 +78,11 @@ loop-g-preserved c =
     let limits-is = loop.limits_of-limits.ensures in
     let inv = loop.loop-g.invariant in
     let below = below_end _ _ limits-is _ loop.loop-g-test.true in
-    elim c.if-q-g.branch [ then-q-g v ↦ rw v.2 (turn _ _ _ _ _ inv below _ v.1.ensures) | else-q-g v ↦ rw v.found-is (skipped _ _ _ _ _ inv below
-    (over _ _ limits-is _ v.if-q-g.false)) ]
+    elim c.if-q-g.branch [
+      | then-q-g v ↦ rw v.found-is (turn _ _ _ _ _ inv below _ v.each_initial_bits-found.ensures)
+      | else-q-g v ↦ rw v.found-is (skipped _ _ _ _ _ inv below
+          (over _ _ limits-is _ v.if-q-g.false))
+    ]
 
 pub overflow_add-g-end : goal.overflow_add-g-end
 overflow_add-g-end c = omega (arith, few-guards _ _ c.limits_of-limits.ensures)

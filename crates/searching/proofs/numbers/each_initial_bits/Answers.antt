@@ -1,11 +1,10 @@
 -- `searching::numbers::each_initial_bits` meets its contract: before the turn of alpha, the best is that of all alpha before it.
 use mathlib.Core.Path.{◌≡◌, sym, ◌∙◌}
 use mathlib.Core.List.{List}
-use Prim.Native.Nat.{ℕ, ◌+◌, ◌-◌, ◌≤◌, ◌<◌, min}
+use Prim.Native.Nat.{ℕ, ◌+◌, ◌≤◌, ◌<◌, min}
 use borrow.Author.Count.{falls}
-use borrow.Author.Rules.{rules}
 use native.Mathlib.Omega.{arith}
-use Rattle.general.specs.Below.{joined, for_each}
+use Rattle.general.specs.Below.{for_each}
 use Rattle.refusal.specs.declared.Verdict.{Verdict}
 use Rattle.refusal.specs.Checks.{verdict}
 use Rattle.values.specs.Widths.{limits_of, width_checks}

@@ -1,22 +1,13 @@
 -- `searching::numbers::each_initial_bits` meets its contract: before the turn of alpha, the best is that of all alpha before it.
-use mathlib.Core.Path.{◌≡◌, sym, ◌∙◌}
+use mathlib.Core.Path.{◌≡◌}
 use mathlib.Core.List.{List}
-use Prim.Native.Nat.{ℕ, ◌+◌, ◌-◌, ◌≤◌, ◌<◌, min}
-use borrow.Author.Count.{falls}
-use borrow.Author.Rules.{rules}
-use native.Mathlib.Omega.{arith}
-use Rattle.general.specs.Below.{joined, for_each}
-use Rattle.refusal.specs.declared.Verdict.{Verdict}
-use Rattle.refusal.specs.Checks.{verdict}
-use Rattle.values.specs.Widths.{limits_of, width_checks}
-use Rattle.design.specs.declared.Design.{Design}
-use Rattle.design.specs.Limits.{least_initial_bits, most_initial_bits, most_tables}
+use Prim.Native.Nat.{ℕ, ◌+◌, ◌-◌, ◌≤◌}
+use Rattle.general.specs.Below.{joined}
+use Rattle.design.specs.Limits.{least_initial_bits, most_initial_bits}
 use Rattle.searching.specs.declared.SizedDesign.{SizedDesign}
-use Rattle.searching.specs.Designs.{bare, continued}
 use Rattle.searching.specs.Best.{best_of}
-use Rattle.searching.specs.Search.{Started, SlopesFor, SlopesOf, with_tables}
-use Rattle.searching.proofs.BestLaws.{best-first, best-one, best-rest}
-use Rattle.searching.proofs.BeginLaws.{by-alpha, no-alpha}
+use Rattle.searching.specs.Search.{SlopesOf}
+use Rattle.searching.proofs.BeginLaws.{by-alpha}
 use Rattle.searching.proofs.numbers.each_initial_bits.Given as goal
 
 pub record Inv (kind w q g : ℕ) (slopes : List ℕ) (best found : SizedDesign) (alpha : ℕ) : Type 0 where

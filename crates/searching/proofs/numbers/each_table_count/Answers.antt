@@ -1,10 +1,8 @@
 -- `searching::numbers::each_table_count` meets its contract: before the turn of m, the best is that of all m before it.
 use mathlib.Core.Path.{◌≡◌, sym, ◌∙◌}
-use mathlib.Core.Logic.{⊎_elim}
 use mathlib.Core.List.{List}
-use Prim.Native.Nat.{ℕ, ◌+◌, ◌-◌, ◌≤◌, ◌<◌}
+use Prim.Native.Nat.{ℕ, ◌+◌, ◌-◌, ◌<◌}
 use borrow.Author.Count.{falls}
-use borrow.Author.Tests.{ltb-true, ltb-false, leb-true, leb-false}
 use native.Mathlib.Nat.{le_of_suc-le-suc, not-le_of_lt}
 use native.Mathlib.Omega.{arith}
 use Rattle.general.specs.Below.{joined}
@@ -20,7 +18,13 @@ use Rattle.searching.proofs.BestLaws.{best-first, best-one}
 use Rattle.searching.proofs.BeginLaws.{first_next, not-shared, turn-skipped, over-limit}
 use Rattle.searching.proofs.numbers.each_table_count.Invariants.{Inv}
 use Rattle.searching.proofs.numbers.each_table_count.Goals as goal
-use Rattle.searching.proofs.numbers.each_table_count.Goals.{else-m-left, then-m-left}
+use Rattle.searching.proofs.numbers.each_table_count.Goals.{
+  then-m-left+then-left-m+then-first-limit,
+  else-m-left,
+  else-m-left-via-then-m-left+else-left-m,
+  else-m-left-via-then-m-left+then-left-m+else-first-limit,
+  else-m-left-via-else-m-left,
+}
 
 -- what is known of the slopes is known of the design with its tables
 module _ (d : Design) (m : ℕ) (slopes : List ℕ) (known : SlopesFor d slopes) (first : Prefix) (is : first ≡ prefix_of
@@ -55,19 +59,21 @@ module _ (d : Design) (u : Started d) (best found : SizedDesign) (m : ℕ) (inv 
 
 pub loop-m-preserved : goal.loop-m-preserved
 loop-m-preserved c =
-    let first = c.before.before in
-    let loop = first.before in
-    let least = loop.before.before in
-    let u = least.requires.0 in
-    let found = loop.loop-m.found in
-    let inv = loop.loop-m.invariant in
-    let skip = skipped _ u _ _ _ inv loop.loop-m-test.true in
-    let limit_is = least.limit_of-limit.ensures in
-    elim c.if-m-left.branch [ then-m-left w ↦ rw w.5 (gone-through _ u _ _ _ inv loop.loop-m-test.true _ _ first.first_prefix-first.ensures w.4.ensures) | else-m-left w ↦ rw w.found-is (skip (turn-skipped _ u _ _ _ inv.low inv.so_far (⊎_elim
-    (λ v. over-limit _ u found _ _ _ first.first_prefix-first.ensures limit_is (ltb-false _ _ v.3.left))
-    (λ v. not-shared _ u found _ (λ enough few. ⊎_elim (λ x. not-le_of_lt (leb-false _ _ x.1.left) few) (λ x. not-le_of_lt
-    x.left enough) v))
-    w.0.came))) ]
+    let u = c.requires.0 in
+    let found = c.loop-m.found in
+    let inv = c.loop-m.invariant in
+    let skip = skipped _ u _ _ _ inv c.loop-m-test.true in
+    let limit_is = c.limit_of-limit.ensures in
+    elim c.if-m-left.branch [
+      | then-m-left+then-left-m+then-first-limit w ↦
+          rw w.found-is (gone-through _ u _ _ _ inv c.loop-m-test.true _ _ c.first_prefix-first.ensures w.each_segment_bits-found.ensures)
+      | else-m-left w ↦ rw w.found-is (skip (turn-skipped _ u _ _ _ inv.low inv.so_far (elim w.else-m-left.branch [
+        | else-m-left-via-then-m-left+else-left-m v ↦ not-shared _ u found _ (λ enough few. not-le_of_lt v.if-left-m.false few)
+        | else-m-left-via-then-m-left+then-left-m+else-first-limit v ↦
+            over-limit _ u found _ _ _ c.first_prefix-first.ensures limit_is v.if-first-limit.false
+        | else-m-left-via-else-m-left v ↦ not-shared _ u found _ (λ enough few. not-le_of_lt v.if-m-left.false enough)
+      ])))
+    ]
 
 pub returns : goal.returns
 returns c =
@@ -97,15 +103,14 @@ overflow_mul-m c = omega (arith, c.loop-m-test.true)
 
 pub each_segment_bits-found-requires : goal.each_segment_bits-found-requires
 each_segment_bits-found-requires c =
-    let first = c.before.before.before.before.before in
-    let loop = first.before in
-    let least = loop.before.before in
-    let start = least.before.before.before.before in
-    let e = start.requires in
-    let d = start.args.d in
-    let is = first.first_prefix-first.ensures in record { slopes_for = (slopes-kept d _ _ e.1 _ is, least_kept d _ _ e.1 _ is e.0 _ least.least_spread-least.ensures); next = first_next d e.0 _ _ is loop.loop-m.invariant.low (le_of_suc-le-suc loop.loop-m-test.true)
-          c.if-m-left.true
-          (leb-true _ _ c.if-left-m.true) (rw (← least.limit_of-limit.ensures) (ltb-true _ _ c.if-first-limit.true)); }
+    let e = c.requires in
+    let d = c.args.d in
+    let is = c.first_prefix-first.ensures in
+    record {
+      slopes_for = (slopes-kept d _ _ e.1 _ is, least_kept d _ _ e.1 _ is e.0 _ c.least_spread-least.ensures);
+      next = first_next d e.0 _ _ is c.loop-m.invariant.low (le_of_suc-le-suc c.loop-m-test.true) c.if-m-left.true c.if-left-m.true
+          (rw (← c.limit_of-limit.ensures) c.if-first-limit.true);
+    }
 
 pub loop-m-smaller : goal.loop-m-smaller
 loop-m-smaller c = falls _ _ c.loop-m-test.true

@@ -1,23 +1,13 @@
 -- `searching::numbers::each_table_count` meets its contract: before the turn of m, the best is that of all m before it.
-use mathlib.Core.Path.{◌≡◌, sym, ◌∙◌}
-use mathlib.Core.Logic.{⊎_elim}
-use mathlib.Core.List.{List}
-use Prim.Native.Nat.{ℕ, ◌+◌, ◌-◌, ◌≤◌, ◌<◌}
-use borrow.Author.Count.{falls}
-use borrow.Author.Tests.{ltb-true, ltb-false, leb-true, leb-false}
-use native.Mathlib.Nat.{le_of_suc-le-suc, not-le_of_lt}
-use native.Mathlib.Omega.{arith}
+use mathlib.Core.Path.{◌≡◌}
+use Prim.Native.Nat.{ℕ, ◌+◌, ◌-◌, ◌≤◌}
 use Rattle.general.specs.Below.{joined}
-use Rattle.values.proofs.WidthLaws.{widths-of}
 use Rattle.design.specs.declared.Design.{Design}
 use Rattle.design.specs.Limits.{most_tables}
 use Rattle.searching.specs.declared.SizedDesign.{SizedDesign}
-use Rattle.searching.specs.declared.prefix.Prefix.{Prefix}
-use Rattle.searching.specs.Designs.{bare, continued}
+use Rattle.searching.specs.Designs.{continued}
 use Rattle.searching.specs.Best.{best_of}
-use Rattle.searching.specs.Search.{prefix_of, Started, SlopesFor, Least, LeastOf, with_tables}
-use Rattle.searching.proofs.BestLaws.{best-first, best-one}
-use Rattle.searching.proofs.BeginLaws.{first_next, not-shared, turn-skipped, over-limit}
+use Rattle.searching.specs.Search.{with_tables}
 use Rattle.searching.proofs.numbers.each_table_count.Given as goal
 
 pub record Inv (d : Design) (best found : SizedDesign) (m : ℕ) : Type 0 where

@@ -1,7 +1,6 @@
 -- `searching::numbers::first_prefix` meets its contract: no table is counted yet.
 use mathlib.Core.Path.{◌≡◌}
 use Prim.Native.Nat.{ℕ, ◌+◌, ◌*◌, ◌^◌}
-use borrow.Author.Rules.{rules}
 use native.Mathlib.Omega.{arith}
 use Rattle.values.proofs.WidthLaws.{widths-of}
 use Rattle.design.specs.declared.Design.{Design}

@@ -1,5 +1,4 @@
 -- `searching::prefix::no_design` meets its contract.
-use borrow.Author.Rules.{rules}
 use Rattle.searching.specs.Designs.{no_design}
 use Rattle.searching.proofs.prefix.no_design.Goals as goal
 

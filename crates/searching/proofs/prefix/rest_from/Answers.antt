@@ -1,5 +1,4 @@
 -- `searching::prefix::rest_from` meets its contract.
-use borrow.Author.Rules.{rules}
 use native.Mathlib.Nat.{lt_of_le_of_lt}
 use native.Mathlib.Omega.{arith}
 use lib.Dec.{lit<}

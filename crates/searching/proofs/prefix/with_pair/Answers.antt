@@ -1,6 +1,5 @@
 -- `searching::prefix::with_pair` meets its contract.
 use mathlib.Core.Path.{refl}
-use borrow.Author.Rules.{rules}
 use Rattle.searching.specs.Designs.{with_pair}
 use Rattle.searching.proofs.prefix.with_pair.Goals as goal
 

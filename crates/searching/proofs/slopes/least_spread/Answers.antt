@@ -1,10 +1,8 @@
 -- `searching::slopes::least_spread` meets its contract: before the turn of a, no spread before it is below the least.
 use mathlib.Core.Path.{◌≡◌}
 use mathlib.Core.List.{List}
-use mathlib.Core.Logic.{⊎_elim}
-use Prim.Native.Nat.{ℕ, ◌+◌, ◌-◌, ◌≤◌, ◌<◌}
+use Prim.Native.Nat.{ℕ, ◌+◌, ◌≤◌, ◌<◌}
 use borrow.Author.Count.{falls}
-use borrow.Author.Tests.{ltb-true, ltb-false}
 use native.Mathlib.Nat.{le_of_lt, le_refl, le_trans, lt_of_lt_of_le}
 use native.Mathlib.Numerals.{add-one}
 use native.Mathlib.Omega.{arith}
@@ -13,7 +11,12 @@ use Rattle.general.proofs.Sums.{below_suc}
 use Rattle.design.specs.Limits.{most_table_bits}
 use Rattle.searching.proofs.slopes.least_spread.Invariants.{Inv}
 use Rattle.searching.proofs.slopes.least_spread.Goals as goal
-use Rattle.searching.proofs.slopes.least_spread.Goals.{else-a-alpha, then-a-alpha}
+use Rattle.searching.proofs.slopes.least_spread.Goals.{
+  then-a-alpha+then-here-least,
+  else-a-alpha,
+  else-a-alpha-via-then-a-alpha+else-here-least,
+  else-a-alpha-via-else-a-alpha,
+}
 
 -- one more: the least of those before is kept, or a smaller one
 module _ {slopes : List ℕ} {alpha least a : ℕ} (inv : Inv slopes alpha least a) (below : a < most_table_bits) (now : ℕ)
@@ -32,8 +35,14 @@ pub loop-a-preserved : goal.loop-a-preserved
 loop-a-preserved c =
     let inv = c.loop-a.invariant in
     let below = c.loop-a-test.true in
-    elim c.if-a-alpha.branch [ then-a-alpha w ↦ rw w.2 (one_more inv below _ (le_of_lt (ltb-true _ _ w.1.taken)) (λ asked. le_refl _)) | else-a-alpha w ↦ rw w.least-is (one_more inv below _ (le_refl _)
-    (λ asked. ⊎_elim (λ v. ltb-false _ _ v.1.left) (λ v. absurd (omega (arith, v.left, asked))) w.0.came)) ]
+    elim c.if-a-alpha.branch [
+      | then-a-alpha+then-here-least w ↦ rw w.least-is (one_more inv below _ (le_of_lt w.if-here-least.true) (λ asked. le_refl _))
+      | else-a-alpha w ↦ rw w.least-is (one_more inv below _ (le_refl _)
+          (λ asked. elim w.else-a-alpha.branch [
+            | else-a-alpha-via-then-a-alpha+else-here-least v ↦ v.if-here-least.false
+            | else-a-alpha-via-else-a-alpha v ↦ absurd (omega (arith, v.if-a-alpha.false, asked))
+          ]))
+    ]
 
 pub returns : goal.returns
 returns c = λ a one asked few. c.loop-a.invariant.least-so-far a one (le_trans few c.loop-a-test.false) asked

@@ -1,15 +1,7 @@
 -- `searching::slopes::least_spread` meets its contract: before the turn of a, no spread before it is below the least.
-use mathlib.Core.Path.{◌≡◌}
 use mathlib.Core.List.{List}
-use mathlib.Core.Logic.{⊎_elim}
-use Prim.Native.Nat.{ℕ, ◌+◌, ◌-◌, ◌≤◌, ◌<◌}
-use borrow.Author.Count.{falls}
-use borrow.Author.Tests.{ltb-true, ltb-false}
-use native.Mathlib.Nat.{le_of_lt, le_refl, le_trans, lt_of_lt_of_le}
-use native.Mathlib.Numerals.{add-one}
-use native.Mathlib.Omega.{arith}
+use Prim.Native.Nat.{ℕ, ◌-◌, ◌≤◌, ◌<◌}
 use lib.ListN.{get_or}
-use Rattle.general.proofs.Sums.{below_suc}
 use Rattle.design.specs.Limits.{most_table_bits}
 use Rattle.searching.proofs.slopes.least_spread.Given as goal
 

@@ -1,17 +1,15 @@
 -- `searching::slopes::slopes_by_a` meets its contract: after the turn of a, both numbers of each up to a are known.
 use mathlib.Core.Path.{◌≡◌, refl, ◌∙◌}
 use mathlib.Core.List.{List}
-use mathlib.Core.Logic.{⊎_elim}
-use Prim.Native.Nat.{ℕ, ◌+◌, ◌-◌, ◌≤◌, ◌<◌}
+use Prim.Native.Nat.{ℕ, ◌+◌, ◌≤◌, ◌<◌}
 use native.Mathlib.Numerals.{add-one}
 use native.Mathlib.Omega.{arith}
-use lib.ListN.{length, get_or, set, length-set}
+use lib.ListN.{length, set, length-set}
 use lib.Seq.{get_or-set_same, get_or-set_other}
 use Rattle.general.proofs.Sums.{below_suc}
-use Rattle.values.specs.Rows.{row_of}
 use Rattle.values.specs.declared.rows.Row.{Row}
 use Rattle.values.specs.declared.slopes.LargestSlopes.{LargestSlopes}
-use Rattle.values.specs.Slopes.{largest_spread, largest_sum, largest_slopes}
+use Rattle.values.specs.Slopes.{largest_slopes}
 use Rattle.values.proofs.WidthLaws.{Widths, widths-of}
 use Rattle.design.specs.Limits.{most_table_bits}
 use Rattle.searching.proofs.slopes.slopes_by_a.Invariants.{Known}
@@ -60,7 +58,7 @@ passed c = let a = c.args in widths-of a.kind a.w a.q a.g c.requires
 pub loop-a-preserved : goal.loop-a-preserved
 loop-a-preserved c =
     let known = c.loop-a.invariant in
-    elim c.if-a-w.branch [ then-a-w w ↦ rw w.2 (one_more known (omega arith) _ w.1.ensures) | else-a-w w ↦ rw w.slopes-is (none_more known (omega arith) w.if-a-w.false) ]
+    elim c.if-a-w.branch [ then-a-w w ↦ rw w.slopes-is (one_more known (omega arith) _ w.largest_slopes-largest.ensures) | else-a-w w ↦ rw w.slopes-is (none_more known (omega arith) w.if-a-w.false) ]
 
 pub returns : goal.returns
 returns c =

@@ -1,18 +1,11 @@
 -- `searching::slopes::slopes_by_a` meets its contract: after the turn of a, both numbers of each up to a are known.
-use mathlib.Core.Path.{◌≡◌, refl, ◌∙◌}
+use mathlib.Core.Path.{◌≡◌}
 use mathlib.Core.List.{List}
-use mathlib.Core.Logic.{⊎_elim}
 use Prim.Native.Nat.{ℕ, ◌+◌, ◌-◌, ◌≤◌, ◌<◌}
-use native.Mathlib.Numerals.{add-one}
-use native.Mathlib.Omega.{arith}
-use lib.ListN.{length, get_or, set, length-set}
-use lib.Seq.{get_or-set_same, get_or-set_other}
-use Rattle.general.proofs.Sums.{below_suc}
+use lib.ListN.{length, get_or}
 use Rattle.values.specs.Rows.{row_of}
 use Rattle.values.specs.declared.rows.Row.{Row}
-use Rattle.values.specs.declared.slopes.LargestSlopes.{LargestSlopes}
-use Rattle.values.specs.Slopes.{largest_spread, largest_sum, largest_slopes}
-use Rattle.values.proofs.WidthLaws.{Widths, widths-of}
+use Rattle.values.specs.Slopes.{largest_spread, largest_sum}
 use Rattle.design.specs.Limits.{most_table_bits}
 use Rattle.searching.proofs.slopes.slopes_by_a.Given as goal
 

@@ -1,7 +1,6 @@
 -- `searching::prefix::Prefix::budget_with` meets its contract: a table more adds its reach times the largest spread by its a.
 use mathlib.Core.Path.{◌≡◌, sym}
 use Prim.Native.Nat.{ℕ, ◌+◌, ◌-◌, ◌*◌, ◌^◌}
-use borrow.Author.Rules.{rules}
 use native.Mathlib.Nat.{lt_trans, lt_of_le_of_lt}
 use native.Mathlib.Omega.{arith}
 use lib.Dec.{lit<}

@@ -2,13 +2,12 @@
 use mathlib.Core.Path.{◌≡◌, sym}
 use mathlib.Core.List.{List}
 use Prim.Native.Nat.{ℕ, ◌+◌, ◌*◌, ◌^◌, ◌≤◌}
-use borrow.Author.Rules.{rules}
 use native.Mathlib.Omega.{arith}
 use lib.ListN.{get_or}
 use Rattle.values.specs.Slopes.{largest_sum}
 use Rattle.design.specs.declared.Design.{Design}
 use Rattle.design.specs.Limits.{most_table_bits}
-use Rattle.design.specs.Cut.{row, fraction_bits, position}
+use Rattle.design.specs.Cut.{row, fraction_bits}
 use Rattle.entries.specs.Inputs.{OffsetInput}
 use Rattle.sizing.specs.Widest.{widest_offset, bits_for}
 use Rattle.sizing.proofs.SizeLaws.{table_bound, size-by-small}
