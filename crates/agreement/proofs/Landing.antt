@@ -8,7 +8,7 @@ use lib.IntN.{ℤ}
 use Rattle.values.specs.declared.rows.Row.{Row}
 use Rattle.values.specs.Rows.{Lawful}
 use Rattle.values.specs.Inputs.{InRange}
-use Rattle.values.specs.Faithful.{Faithful, is_faithful, is_nearest, is_too_low}
+use Rattle.values.specs.Faithful.{is_faithful, is_nearest, is_too_low}
 use Rattle.values.proofs.FaithfulLaws.{
   faithful-test,
   faithful-tested,

@@ -1,5 +1,6 @@
 // The reader: one line a call, into lent tables.
 #![tactic(auto)]
+
 ghost use Rattle.std.specs.Prelude.{◌≡◌, ◌+◌, ◌*◌, ◌^◌, ◌≤◌, ◌<◌, length, take};
 ghost use Rattle.refusal.specs.Numbers.{verdict_number};
 ghost use Rattle.frames.specs.Line.{capacity};

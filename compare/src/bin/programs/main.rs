@@ -1,5 +1,5 @@
 //! Runs the programs on good and damaged input and compares what they print with what the
-//! reference says they should. Its argument is the directory of the programs.
+//! reference says they should. Its argument is the directory of the crates.
 
 mod answers;
 mod block_inputs;
@@ -62,8 +62,13 @@ impl Runs {
         let programs = programs.chain([&WORDS_PROGRAM, &RECORDS_PROGRAM, &WIDTHS_PROGRAM]);
         programs
             .map(|program| program.0)
-            .filter(|name| !self.directory.join(name).is_file())
+            .filter(|name| !self.program(name).is_file())
             .collect()
+    }
+
+    /// Where a program stands when it has been built.
+    fn program(&self, name: &str) -> PathBuf {
+        self.directory.join(name).join("out").join(name)
     }
 
     /// Every program on the same input.
@@ -116,7 +121,7 @@ impl Runs {
     }
 
     fn compare_run(&mut self, run: Run, (name, expected): Program, input: &[u8]) -> String {
-        let output = run(&self.directory.join(name), input);
+        let output = run(&self.program(name), input);
         let expected = expected(input);
         if output.stdout != expected.as_bytes() || !output.status.success() {
             print_difference(name, input, &output, &expected);
@@ -130,7 +135,7 @@ impl Runs {
     /// Ends everything if a program does not read exactly what it is asked to.
     fn reads_only(&mut self, name: &str, asked: &str, behind: &str) {
         let input = [asked, behind].concat();
-        let read = bytes_read(&self.directory.join(name), input.as_bytes());
+        let read = bytes_read(&self.program(name), input.as_bytes());
         let read = read.unwrap_or_else(|error| panic!("{name} on a file: {error}"));
         if read != asked.len() as u64 {
             let input = shortened(&input);
@@ -237,7 +242,7 @@ fn main() -> ExitCode {
     let missing = runs.missing();
     if !missing.is_empty() {
         let (names, directory) = (missing.join(" "), runs.directory.display());
-        println!("not in {directory}: {names}; 'rt check {names}' builds them in target/bin");
+        println!("not built in {directory}: {names}; 'rt run' in the folder of each builds it");
         return ExitCode::FAILURE;
     }
     runs.inputs();

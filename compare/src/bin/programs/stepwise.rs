@@ -164,7 +164,7 @@ impl Runs {
     /// Writes the steps, and after each that ends a set or a word waits for what should be printed by
     /// then.
     fn in_steps(&mut self, (name, expected): Program, steps: &[&str]) {
-        let mut open = Open::start(&self.directory.join(name));
+        let mut open = Open::start(&self.program(name));
         let (mut input, mut text) = (String::new(), String::new());
         for step in steps {
             open.write(step);
@@ -232,7 +232,7 @@ impl Runs {
     }
 
     fn ends(&mut self, (name, expected): Program, input: &str) {
-        let mut open = Open::start(&self.directory.join(name));
+        let mut open = Open::start(&self.program(name));
         open.write(input);
         let in_time = open.wait_for_end();
         let text = expected(input.as_bytes());

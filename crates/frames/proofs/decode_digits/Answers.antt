@@ -7,7 +7,7 @@ use borrow.Author.Tests.{leb-false}
 use Rattle.frames.proofs.HexLaws.{Digits}
 use Rattle.frames.proofs.Decoding.{start, step, step-full, broken, sum-wrong, finished}
 use Rattle.frames.proofs.decode_digits.Goals as goal
-use Rattle.frames.proofs.decode_digits.Goals.{After-digit-low, else-i-lt-CAPACITY, then-high-ge16-via-else-high-ge16+then-low-ge16, then-high-ge16-via-then-high-ge16, then-i-lt-CAPACITY}
+use Rattle.frames.proofs.decode_digits.Goals.{else-i-lt-CAPACITY, then-high-ge16-via-else-high-ge16+then-low-ge16, then-high-ge16-via-then-high-ge16, then-i-lt-CAPACITY}
 
 pub loop-i-init : goal.loop-i-init
 loop-i-init c = start _ (search rules)
@@ -33,11 +33,6 @@ bounds-digits-i-in-loop-i c = omega arith
 
 pub digit-low-requires : goal.digit-low-requires
 digit-low-requires c = refl
-
-two_digits : (c : After-digit-low)
-    → Digits c.args.digits.now
-    c.loop-i.i c.digit-high.result c.digit-low.result
-two_digits c = record { more = omega arith; first = c.digit-high.ensures; second = c.digit-low.ensures }
 
 pub returns-then-high-ge16 : goal.returns-then-high-ge16
 returns-then-high-ge16 c =

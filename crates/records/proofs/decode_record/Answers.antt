@@ -17,7 +17,7 @@ use Rattle.records.proofs.RecordLaws.{
   sound,
 }
 use Rattle.records.proofs.decode_record.Goals as goal
-use Rattle.records.proofs.decode_record.Goals.{After-decode_digits-decoded, Else-text-ne58, then-text-eq0-via-else-text-eq0+then-text-gt-LONGEST_RECORD, then-text-eq0-via-then-text-eq0}
+use Rattle.records.proofs.decode_record.Goals.{then-text-eq0-via-else-text-eq0+then-text-gt-LONGEST_RECORD, then-text-eq0-via-then-text-eq0}
 
 pub returns-then-text-eq0 : goal.returns-then-text-eq0
 returns-then-text-eq0 c =
@@ -27,25 +27,10 @@ returns-then-text-eq0 c =
 pub returns-then-text-ne58 : goal.returns-then-text-ne58
 returns-then-text-ne58 c = c.unsound-then-text-ne58.ensures ∙ colon-refused _ c.if-text-ne58.true
 
--- the text has an even number of digits behind its first character, and not too many
-odd : (c : Else-text-ne58) → length c.args.text.now % 2 ≡ 1
-odd c = omega (arith, c.if-text-eq0.false)
-
-short : (c : Else-text-ne58) → length c.args.text.now ≤ longest_record
-short c = c.if-text-gt-LONGEST_RECORD.false
-
 pub decode_digits-decoded-requires : goal.decode_digits-decoded-requires
 decode_digits-decoded-requires c =
     let text = c.args.text.now in
     rw (lent-digits text) (digits-even text (omega (arith, c.if-text-eq0.false)) c.if-text-gt-LONGEST_RECORD.false)
-
--- what is read from the digits
-read : (c : After-decode_digits-decoded) →
-    let text = c.args.text.now in
-    c.decode_digits-decoded.result ≡ decoded_if (text_fails (digits_in text)) Cause.Record (digits_in text)
-read c =
-    let text = c.args.text.now in
-    rw (lent-digits text) at c.decode_digits-decoded.ensures
 
 pub overflow_add-bytes : goal.overflow_add-bytes
 overflow_add-bytes c =

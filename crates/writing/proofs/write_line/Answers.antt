@@ -28,7 +28,7 @@ use Rattle.writing.proofs.WriteLaws.{
   writes,
 }
 use Rattle.writing.proofs.write_line.Goals as goal
-use Rattle.writing.proofs.write_line.Goals.{After-entry_width-width, Else-line_count-number, In_default, In_default-asked_verdict}
+use Rattle.writing.proofs.write_line.Goals.{Else-line_count-number, In_default}
 
 pub returns-in-Refused : goal.returns-in-Refused
 returns-in-Refused c =
@@ -64,28 +64,8 @@ returns-in-Refused-asked_verdict c =
     let both = refuses _ _ _ _ _ (entry-refused _ _ _ _ _ (usable _ _ _ (sym c.set_verdict.ensures ∙ c.in_default.is)) (omega (arith, c.line_count.ensures, c.if-line_count-number.false))
     (rw (← c.slot_of-slot.ensures) (sym c.asked_verdict.ensures ∙ c.in-Refused-asked_verdict.is))) in record { answer = both.0; told = both.1.0; line_buffer = both.1.1 }
 
--- where the entry's verdict passed
-entry-passed : (c : In_default-asked_verdict) →
-    let a = c.args in
-    verdict (asked_checks a.d c.slot_of-slot.result a.initial.now a.offsets.now) ≡ Verdict.Passed
-entry-passed c = sym c.asked_verdict.ensures ∙ c.in_default-asked_verdict.is
-
 pub head_of-head-requires : goal.head_of-head-requires
 head_of-head-requires c = (usable _ _ _ (sym c.set_verdict.ensures ∙ c.in_default.is)).legal
-
--- what is known of the asked line
-asked : (c : After-entry_width-width) →
-    let a = c.args in
-    Asked a.d a.initial.now a.offsets.now a.number c.slot_of-slot.result c.head_of-head.result c.entry_width-width.result
-asked c =
-    record {
-      set = (usable _ _ _ (sym c.set_verdict.ensures ∙ c.in_default.is));
-      within = (omega (arith, c.line_count.ensures, c.if-line_count-number.false));
-      slot_is = c.slot_of-slot.ensures;
-      head-is = c.head_of-head.ensures.result_value;
-      count-is = c.head_of-head.ensures.count_value;
-      width_is = c.entry_width-width.ensures;
-    }
 
 pub overflow_add-digits : goal.overflow_add-digits
 overflow_add-digits c = omega (arith, asked-short (record { set = (usable _ _ _ (sym c.set_verdict.ensures ∙ c.in_default.is)); within = (omega (arith, c.line_count.ensures, c.if-line_count-number.false)); slot_is = c.slot_of-slot.ensures; head-is = c.head_of-head.ensures.result_value; count-is = c.head_of-head.ensures.count_value; width_is = c.entry_width-width.ensures }))

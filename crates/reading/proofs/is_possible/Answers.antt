@@ -2,7 +2,6 @@
 use mathlib.Core.Path.{◌≡◌, sym, ◌∙◌}
 use mathlib.Core.Bool.{false, ◌&&◌}
 use native.Mathlib.Omega.{arith}
-use borrow.Author.Rules.{rules}
 use lib.Dec.{leb}
 use Rattle.refusal.specs.declared.Cause.{Cause}
 use Rattle.refusal.specs.declared.Verdict.{Verdict}
@@ -12,8 +11,7 @@ use Rattle.lines.specs.Slots.{line_count}
 use Rattle.reading.specs.declared.Reading.{Reading}
 use Rattle.reading.specs.ReadLine.{possible}
 use Rattle.reading.proofs.ReadLaws.{first-possible, later-possible}
-use Rattle.reading.proofs.is_possible.Statement.{statement}
-use Rattle.reading.proofs.is_possible.Tie as tie
+use Rattle.reading.proofs.is_possible.Goals as goal
 
 -- A line is taken: the design is tried,
 module _ (state : Reading) (some : state.taken ≡ 0 → ⊥) where
@@ -27,37 +25,17 @@ module _ (state : Reading) (some : state.taken ≡ 0 → ⊥) where
   lines-tried : Legal state.design → leb state.taken (line_count state.design) ≡ possible state
   lines-tried e = rw (tried, e)
 
-returns : tie.Need-returns
-returns c = sym (first-possible _ c.if1.true)
+pub returns-then-state-eq0 : goal.returns-then-state-eq0
+returns-then-state-eq0 c = sym (first-possible _ c.if-state-eq0.true)
 
-enum_told : tie.Need-enum-told
-enum_told c = search rules
+pub returns-in-Refused : goal.returns-in-Refused
+returns-in-Refused c =
+    illegal _ c.if-state-eq0.false _ (sym c.design_verdict.ensures ∙ c.in-Refused.is)
 
-returns-2 : tie.Need-returns-2
-returns-2 c =
-    let a = c.before.before in
-    illegal _ a.before.if1.false _ (sym a.design-verdict.ensures ∙ c.enum_told.given.1)
+pub line_count-requires : goal.line_count-requires
+line_count-requires c = (sym c.design_verdict.ensures ∙ c.in_default.is)
 
-legal : (c : tie.After-enum-told2) → Legal c.before.before.before.before.before.args.state.design
-legal c = sym c.before.before.design-verdict.ensures ∙ c.enum-told2.given.1
-
-line-count-requires : tie.Need-line-count-requires
-line-count-requires c κs = legal c
-
-returns-3 : tie.Need-returns-3
-returns-3 c =
-    let b = c.before in
-    rw c.line-count.ensures
-    (lines-tried b.before.before.before.before.before.args.state b.before.before.before.if1.false (legal b))
-
-pub is-possible-spec : {M : Type 1} → statement M
-is-possible-spec =
-    tie.close
-    (tie.spec
-    returns
-    (λ c κs. search rules)
-    enum_told
-    returns-2
-    (λ c. search rules)
-    line-count-requires
-    returns-3)
+pub returns : goal.returns
+returns c =
+    rw c.line_count.ensures
+    (lines-tried c.args.state c.if-state-eq0.false (sym c.design_verdict.ensures ∙ c.in_default.is))

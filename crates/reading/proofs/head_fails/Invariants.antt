@@ -1,0 +1,13 @@
+-- `reading::head_fails` meets its contract: after i turns the first i bytes are those that are due.
+use mathlib.Core.Path.{◌≡◌}
+use mathlib.Core.Bool.{true}
+use Prim.Native.Nat.{◌-◌}
+use lib.ListN.{take}
+use Rattle.reading.specs.ReadLine.{begins}
+use Rattle.reading.proofs.head_fails.Given as goal
+
+abbrev pub invariant-loop-i : goal.invariant-loop-i
+invariant-loop-i l = begins l.bytes (take l.i l.due) ≡ true
+
+abbrev pub decreases-loop-i : goal.decreases-loop-i
+decreases-loop-i l = l.i-end - l.i
