@@ -1,5 +1,6 @@
 // The reader of Intel HEX: one record a call, into lent tables, for a design that the caller gives.
 #![tactic(auto)]
+
 ghost use Rattle.std.specs.Prelude.{◌≡◌, [], ◌∷◌, ◌++◌, ◌+◌, ◌-◌, ◌*◌, ◌^◌, ◌≤◌, ◌<◌, length, take, drop};
 ghost use Rattle.encoding.specs.Bytes.{entry_bytes};
 ghost use Rattle.frames.specs.Line.{capacity};
@@ -47,6 +48,7 @@ pub struct HexRead {
 }
 
 // Whether a byte that is not used is not 0, where the first k are used.
+#[tactic(auto, unfolding(crate::specs::ReadRecord::unused_fail))]
 fn unused_fail(k: usize, state: HexReading) -> bool
     ensures { result ≡ unused_fail k state }
 {

@@ -1,5 +1,6 @@
 // The writer of Intel HEX: one record of a set a call, by its number.
 #![tactic(auto)]
+
 ghost use Rattle.std.specs.Prelude.{◌≡◌, true, ◌∷◌, ◌+◌, ◌*◌, ◌≤◌, length};
 ghost use Rattle.general.specs.Lists.{over};
 ghost use Rattle.frames.specs.Line.{capacity};
