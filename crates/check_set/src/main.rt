@@ -1,7 +1,8 @@
 // Reads sets from standard input, line by line, and says of each whether it is faithful.
 #![tactic(auto)]
+
 use set_files::{Task, answer_sets};
 
-fn main() {
-    answer_sets(Task::Check);
+fn main(rt: HostRuntime) {
+    answer_sets(&rt, Task::Check);
 }

@@ -1,4 +1,5 @@
 -- Laws of what is read and written through blocks.
+pub mod CountLaws
 pub mod LineLaws
 pub mod BlockLaws
 pub mod PutLaws

@@ -15,7 +15,7 @@ use Rattle.console.specs.declared.Console.{Console}
 use Rattle.console.specs.declared.LineEnd.{LineEnd}
 use Rattle.console.specs.declared.LineStart.{LineStart}
 use Rattle.console.specs.Reading.{NoNewline, last_end, by_input, StartRead, LineRead}
-use Rattle.io.proofs.Counting.{prefix_len_of_le}
+use Rattle.console.proofs.CountLaws.{prefix_len_of_le}
 
 pub one_more : (bytes : List ℕ) (n byte : ℕ) → n < length bytes → NoNewline bytes n → (byte ≡ 10 → ⊥)
     → NoNewline (set bytes n byte) (n + 1)

@@ -1,3 +1,4 @@
 -- What a reader has to believe of what programs read and write.
+pub mod Counts
 pub mod Reading
 pub mod Writing

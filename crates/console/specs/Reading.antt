@@ -6,7 +6,7 @@ use Rattle.console.specs.declared.Next.{Next}
 use Rattle.console.specs.declared.LineEnd.{LineEnd}
 use Rattle.console.specs.declared.LineStart.{LineStart}
 use Rattle.console.specs.declared.Line.{Line}
-use Rattle.io.specs.Counts.{IsPrefixLen}
+use Rattle.console.specs.Counts.{IsPrefixLen}
 
 -- The next byte that is left in a block of the input
 unfoldable pub in_block : Console → List ℕ → Next

@@ -2,9 +2,11 @@
 // lends. No contract can say which bytes come in or go out; what can be said of a line, whatever the input is, `read_start` and `read_line`
 // promise.
 #![tactic(auto)]
+
 mod output;
 
 ghost use Rattle.std.specs.Prelude.{◌≡◌, false, ◌≤◌, length, take};
+ghost use Rattle.console.specs.Counts.{came_count};
 ghost use Rattle.console.specs.Reading.{
   in_block,
   with_block,
@@ -17,14 +19,14 @@ ghost use Rattle.console.specs.Reading.{
   StartRead,
   LineRead,
 };
-ghost use Rattle.io.specs.Counts.{clamp_len};
 
 use frames::LONGEST_LINE;
-use libc::STDIN_FILENO;
+use std::io;
+use std::io::Read;
 
 // Where a program is in its input and output. Of the input's block, the bytes from `at` up to `count` are still to be read, and `ended` says
 // whether no other comes; of the output's, the first `pending` are still to be written, and `failed` says whether something could not be.
-#[derive(Drop)]
+#[derive(Clone, Copy)]
 pub struct Console {
     pub at: usize,
     pub count: usize,
@@ -34,7 +36,7 @@ pub struct Console {
 }
 
 // The next byte of the input, unless it has ended.
-#[derive(Drop)]
+#[derive(Clone, Copy)]
 pub struct Next {
     pub console: Console,
     pub byte: u8,
@@ -50,7 +52,7 @@ pub const BLOCK: usize = 4096;
 
 // Why no more of a line is read: its newline came, the input ended, or it is cut off, as there is no room for more of it. A line is absent
 // where the input ended before a byte of it came.
-#[derive(Drop)]
+#[derive(Clone, Copy)]
 pub enum LineEnd {
     Newline,
     Input,
@@ -59,7 +61,7 @@ pub enum LineEnd {
 }
 
 // How many bytes of a line were read, and why no more.
-#[derive(Drop)]
+#[derive(Clone, Copy)]
 pub struct LineStart {
     pub console: Console,
     pub count: usize,
@@ -70,7 +72,7 @@ pub struct LineStart {
 pub const KEPT: usize = LONGEST_LINE + 1;
 
 // The start of a line, so many bytes at most: a line that has them is refused whatever follows, so no more of it is needed.
-#[derive(Drop)]
+#[derive(Clone, Copy)]
 pub struct Line {
     pub console: Console,
     pub bytes: [u8; KEPT],
@@ -113,12 +115,13 @@ impl Console {
         }
     }
 
-    // A block of which so many bytes came is to be read from its start; -1 says that none could be read. Where none came, the input has ended.
-    fn filled(self, got: isize, input: &[u8]) -> Console
-        ensures value { result ≡ with_block self (clamp_len got (length input.now)) }
+    // A block of which so many bytes came is to be read from its start; an error says that none could be read. Where none came, the input has
+    // ended.
+    fn filled(self, got: io::Result<usize>, input: &[u8]) -> Console
+        ensures value { result ≡ with_block self (came_count got (length input.now)) }
         ensures count_in_bounds { result.count ≤ length input.now }
     {
-        let count = io::count(got, input);
+        let count = came_count(got, input);
         let mut console = self;
         console.at = 0;
         console.count = count;
@@ -128,16 +131,16 @@ impl Console {
 
     // Reads the next block, as much as one call gives, so that nothing that is there is held up. The block may have to be waited for, so what
     // is pending goes out before. An input that cannot be read counts as ended.
-    fn next_block(self, input: &mut [u8], output: &[u8]) -> Console
+    fn next_block(self, rt: &(impl Input + Print), input: &mut [u8], output: &[u8]) -> Console
         ensures { Fresh result input.new }
     {
-        let console = self.flush(output);
-        let got = libc::read(STDIN_FILENO, input);
+        let console = self.flush(rt, output);
+        let got = rt.reader().read(input);
         console.filled(got, input)
     }
 
     // The next byte of the input, whose end is not asked for again.
-    pub fn next_byte(self, input: &mut [u8], output: &[u8]) -> Next
+    pub fn next_byte(self, rt: &(impl Input + Print), input: &mut [u8], output: &[u8]) -> Next
         ensures { NextRead self input.old input.new result }
     {
         let next = self.in_block(input);
@@ -147,20 +150,26 @@ impl Console {
         if self.ended {
             return next;
         }
-        let console = self.next_block(input, output);
+        let console = self.next_block(rt, input, output);
         console.in_block(input)
     }
 
     // inner: the start of a line, up to the newline, the end of the input, or so many bytes as the lent ones are; they stand at the start of
     // these. No more of the line is looked at, so endless input does no harm.
-    pub fn read_start(self, input: &mut [u8], output: &[u8], bytes: &mut [u8]) -> LineStart
+    pub fn read_start(
+        self,
+        rt: &(impl Input + Print),
+        input: &mut [u8],
+        output: &[u8],
+        bytes: &mut [u8],
+    ) -> LineStart
         ensures start { StartRead bytes.new result }
         ensures taken { Takes self input.old (spelled result.end (take result.count bytes.new)) result.console input.new }
     {
         let mut console = self;
         let mut count: usize = 0;
         while count < bytes.len() {
-            let next = console.next_byte(input, output);
+            let next = console.next_byte(rt, input, output);
             console = next.console;
             if next.ended {
                 return LineStart {
@@ -187,12 +196,12 @@ impl Console {
         }
     }
 
-    pub fn read_line(self, input: &mut [u8], output: &[u8]) -> Line
+    pub fn read_line(self, rt: &(impl Input + Print), input: &mut [u8], output: &[u8]) -> Line
         ensures line { LineRead result }
         ensures taken { Takes self input.old (spelled result.end (take result.count result.bytes)) result.console input.new }
     {
         let mut bytes = [0u8; KEPT];
-        let start = self.read_start(input, output, &mut bytes);
+        let start = self.read_start(rt, input, output, &mut bytes);
         let console = start.console;
         let end = start.end;
         Line {
@@ -201,6 +210,17 @@ impl Console {
             count: start.count,
             end,
         }
+    }
+}
+
+// How many bytes of a block came, by what the read of it returned, and never more than the block holds: none, where it could not be read.
+fn came_count(got: io::Result<usize>, input: &[u8]) -> usize
+    ensures value { result ≡ came_count got (length input.now) }
+    ensures upper_bound { result ≤ length input.now }
+{
+    match got {
+        Ok(count) => count.min(input.len()),
+        Err(_) => 0,
     }
 }
 

@@ -1,5 +1,6 @@
 // Reads a set from standard input, then an input word in decimal on each further line, and writes each word's output word.
 #![tactic(auto)]
+
 ghost use Rattle.std.specs.Prelude.{length};
 ghost use Rattle.set_console.specs.Reading.{HoldsEverySet};
 
@@ -19,12 +20,17 @@ struct WordLine {
 }
 
 // A character at a time, so that a line may be of any length.
-fn read_word(before: Console, input: &mut [u8], output: &[u8]) -> WordLine {
+fn read_word(
+    rt: &(impl Input + Print),
+    before: Console,
+    input: &mut [u8],
+    output: &[u8],
+) -> WordLine {
     let mut console = before;
     let mut text = WordText::new();
     let mut turns = TURNS;
     while 0 < turns {
-        let next = console.next_byte(input, output);
+        let next = console.next_byte(rt, input, output);
         console = next.console;
         if next.ended {
             return WordLine {
@@ -52,17 +58,23 @@ fn read_word(before: Console, input: &mut [u8], output: &[u8]) -> WordLine {
 }
 
 // Puts an output word or the refusal.
-fn put_evaluated(console: Console, output: &mut [u8], evaluated: Evaluated) -> Console {
+fn put_evaluated(
+    rt: &impl Print,
+    console: Console,
+    output: &mut [u8],
+    evaluated: Evaluated,
+) -> Console {
     match evaluated {
         Evaluated::Word(word) => {
-            let number = console.put_decimal(output, word.0 as u64);
-            number.put(output, b"\n")
+            let number = console.put_decimal(rt, output, word.0 as u64);
+            number.put(rt, output, b"\n")
         }
-        Evaluated::Refused(cause) => console.put_refused(output, cause),
+        Evaluated::Refused(cause) => console.put_refused(rt, output, cause),
     }
 }
 
 fn answer(
+    rt: &impl Print,
     console: Console,
     output: &mut [u8],
     d: Design,
@@ -71,8 +83,8 @@ fn answer(
     word: ReadWord,
 ) -> Console {
     match word {
-        ReadWord::Word(x) => put_evaluated(console, output, evaluate(d, initial, offsets, x)),
-        ReadWord::NotAWord => console.put(output, b"NOT A WORD\n"),
+        ReadWord::Word(x) => put_evaluated(rt, console, output, evaluate(d, initial, offsets, x)),
+        ReadWord::NotAWord => console.put(rt, output, b"NOT A WORD\n"),
     }
 }
 
@@ -85,6 +97,7 @@ struct Answered {
 
 // Answers the next line.
 fn answer_line(
+    rt: &(impl Input + Print),
     before: Console,
     input: &mut [u8],
     output: &mut [u8],
@@ -92,7 +105,7 @@ fn answer_line(
     initial: &[u32],
     offsets: &[i32],
 ) -> Answered {
-    let line = read_word(before, input, output);
+    let line = read_word(rt, before, input, output);
     let console = line.console;
     if line.missing {
         return Answered {
@@ -101,7 +114,7 @@ fn answer_line(
         };
     }
     let word = line.word;
-    let next = answer(console, output, d, initial, offsets, word);
+    let next = answer(rt, console, output, d, initial, offsets, word);
     Answered {
         console: next,
         more: !next.failed,
@@ -109,6 +122,7 @@ fn answer_line(
 }
 
 fn answer_words(
+    rt: &(impl Input + Print),
     before: Console,
     input: &mut [u8],
     output: &mut [u8],
@@ -120,7 +134,7 @@ fn answer_words(
     let mut turns = TURNS;
     let mut more = true;
     while 0 < turns && more {
-        let answered = answer_line(console, input, output, d, initial, offsets);
+        let answered = answer_line(rt, console, input, output, d, initial, offsets);
         console = answered.console;
         more = answered.more;
         turns -= 1;
@@ -129,6 +143,7 @@ fn answer_words(
 }
 
 fn read_and_answer(
+    rt: &(impl Input + Print),
     input: &mut [u8],
     output: &mut [u8],
     initial: &mut [u32],
@@ -136,21 +151,21 @@ fn read_and_answer(
 ) -> Console
     requires { HoldsEverySet (length initial.old) (length offsets.old) }
 {
-    let set = read_set(start(), input, output, initial, offsets);
+    let set = read_set(rt, start(), input, output, initial, offsets);
     let state = set.state;
     let console = set.console;
     let came = set.came;
     if is_set(came) {
-        return answer_words(console, input, output, state.design, initial, offsets);
+        return answer_words(rt, console, input, output, state.design, initial, offsets);
     }
-    put_end(console, output, came, set.lines)
+    put_end(rt, console, output, came, set.lines)
 }
 
-fn main() {
+fn main(rt: HostRuntime) {
     let mut input = [0u8; BLOCK];
     let mut output = [0u8; BLOCK];
     let mut initial = [0u32; MOST_INITIAL];
     let mut offsets = [0i32; MOST_OFFSETS];
-    let console = read_and_answer(&mut input, &mut output, &mut initial, &mut offsets);
-    console.flush(&output);
+    let console = read_and_answer(&rt, &mut input, &mut output, &mut initial, &mut offsets);
+    console.flush(&rt, &output);
 }

@@ -16,7 +16,7 @@ use Rattle.console.specs.declared.LineEnd.{LineEnd}
 use Rattle.console.specs.declared.LineStart.{LineStart}
 use Rattle.console.specs.Reading.{Takes, spelled, StartRead}
 use Rattle.hex_console.specs.LineTexts.{without_return, line_text, TextFails, TextRead}
-use Rattle.io.proofs.Counting.{prefix_len_of_le}
+use Rattle.console.proofs.CountLaws.{prefix_len_of_le}
 
 -- Of no bytes none are left.
 pub none_left : (bytes : List ℕ) → take 0 bytes ≡ without_return (take 0 bytes)

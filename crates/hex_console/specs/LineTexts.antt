@@ -6,7 +6,7 @@ use Rattle.console.specs.declared.Console.{Console}
 use Rattle.console.specs.declared.LineEnd.{LineEnd}
 use Rattle.console.specs.declared.LineStart.{LineStart}
 use Rattle.console.specs.Reading.{Takes, NoNewline, spelled}
-use Rattle.io.specs.Counts.{IsPrefixLen}
+use Rattle.console.specs.Counts.{IsPrefixLen}
 
 -- Bytes without one carriage return at their end, if there is one. 13 is the carriage return.
 unfoldable pub without_return : List ℕ → List ℕ

@@ -1,6 +1,7 @@
 // What the programs over Intel HEX share: reading a design and the records of its set from standard input, and writing the records of a
 // set to standard output. No contract can say which bytes come in or go out; what can be said of a set that is read is promised.
 #![tactic(auto)]
+
 ghost use Rattle.std.specs.Prelude.{◌≡◌, true, false, not, ◌&&◌, ◌+◌, ◌≤◌, length, take};
 ghost use Rattle.refusal.specs.Checks.{passes};
 ghost use Rattle.tables.specs.Inputs.{Usable};
@@ -60,11 +61,17 @@ fn text_length(bytes: &[u8], count: usize, end: LineEnd) -> usize
 }
 
 // Reads a line of the input; its text stands at the start of the lent bytes.
-fn read_text(console: Console, input: &mut [u8], output: &[u8], bytes: &mut [u8]) -> LineStart
+fn read_text(
+    rt: &(impl Input + Print),
+    console: Console,
+    input: &mut [u8],
+    output: &[u8],
+    bytes: &mut [u8],
+) -> LineStart
     requires { longest_record + 2 ≤ length bytes.old }
     ensures { TextRead bytes.new result console input.old input.new }
 {
-    let start = console.read_start(input, output, bytes);
+    let start = console.read_start(rt, input, output, bytes);
     let next = start.console;
     let end = start.end;
     LineStart {
@@ -105,11 +112,16 @@ fn take_design(console: Console, line: &[u8]) -> DesignRead
 }
 
 // Reads a design's line from the input.
-pub fn read_design(console: Console, input: &mut [u8], output: &[u8]) -> DesignRead
+pub fn read_design(
+    rt: &(impl Input + Print),
+    console: Console,
+    input: &mut [u8],
+    output: &[u8],
+) -> DesignRead
     ensures { is_line result.came ≡ true → DesignCame result.design }
 {
     let mut bytes = [0u8; KEPT];
-    let line = read_text(console, input, output, &mut bytes);
+    let line = read_text(rt, console, input, output, &mut bytes);
     let next = line.console;
     let count = line.count;
     let end = line.end;
@@ -165,6 +177,7 @@ fn take_text(
 
 // Takes the next line of the input as a record, if there is one.
 fn take_record(
+    rt: &(impl Input + Print),
     d: Design,
     step: HexStep,
     input: &mut [u8],
@@ -178,7 +191,7 @@ fn take_record(
     let mut bytes = [0u8; KEPT];
     let state = step.state;
     let console = step.console;
-    let line = read_text(console, input, output, &mut bytes);
+    let line = read_text(rt, console, input, output, &mut bytes);
     let next = line.console;
     let count = line.count;
     let end = line.end;
@@ -206,6 +219,7 @@ pub struct RecordsRead {
 
 // inner: reads the records of a design's set from the input into tables that hold the set.
 pub fn read_records(
+    rt: &(impl Input + Print),
     d: Design,
     console: Console,
     input: &mut [u8],
@@ -229,7 +243,7 @@ pub fn read_records(
     };
     let mut more = true;
     while more {
-        step = take_record(d, step, input, output, initial, offsets);
+        step = take_record(rt, d, step, input, output, initial, offsets);
         let came = step.came;
         more = is_line(came);
     }
@@ -250,6 +264,7 @@ const PRINTED: usize = LONGEST_RECORD + 1;
 
 // Puts a record of a set, if the writer gives it.
 fn put_record(
+    rt: &impl Print,
     console: Console,
     output: &mut [u8],
     d: Design,
@@ -266,7 +281,7 @@ fn put_record(
 {
     let mut buffer = [0u8; PRINTED];
     match write_record(d, initial, offsets, number, &mut buffer) {
-        Written::Length(length) => put_text(console, output, &mut buffer, length),
+        Written::Length(length) => put_text(rt, console, output, &mut buffer, length),
         Written::Refused(_) => Put {
             console,
             more: false,
@@ -276,6 +291,7 @@ fn put_record(
 
 // inner: puts the records of a set, one after another, until the writer gives no more. The writer gives all of them.
 pub fn put_records(
+    rt: &impl Print,
     console: Console,
     output: &mut [u8],
     d: Design,
@@ -293,7 +309,7 @@ pub fn put_records(
     };
     let mut number = 0;
     while put.more {
-        put = put_record(put.console, output, d, initial, offsets, number);
+        put = put_record(rt, put.console, output, d, initial, offsets, number);
         number += 1;
     }
     put.console

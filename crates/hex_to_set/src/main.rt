@@ -1,5 +1,6 @@
 // Reads a design's line and the Intel HEX records of its set from standard input, and writes the set's lines, or the refusal.
 #![tactic(auto)]
+
 ghost use Rattle.std.specs.Prelude.{length};
 ghost use Rattle.tables.specs.Inputs.{Usable};
 ghost use Rattle.record_storage.specs.RecordStorage.{Recordable};
@@ -15,6 +16,7 @@ use set_console::{is_line, put_end, put_set};
 
 // Puts the lines of a set that records hold. Records carry initial entries that lines do not: of such a set no line is put.
 fn put_loaded(
+    rt: &impl Print,
     console: Console,
     output: &mut [u8],
     design: Design,
@@ -24,12 +26,13 @@ fn put_loaded(
     requires { Recordable (record { design = design; initial = initial.now; offsets = offsets.now }) }
 {
     if some_over(design, initial) {
-        return console.put_refused(output, Cause::InitialRange);
+        return console.put_refused(rt, output, Cause::InitialRange);
     }
-    put_set(console, output, design, initial, offsets)
+    put_set(rt, console, output, design, initial, offsets)
 }
 
 fn load_and_write(
+    rt: &(impl Input + Print),
     design: Design,
     console: Console,
     input: &mut [u8],
@@ -39,16 +42,17 @@ fn load_and_write(
 ) -> Console
     requires { Usable design (length initial.old) (length offsets.old) }
 {
-    let set = read_records(design, console, input, output, initial, offsets);
+    let set = read_records(rt, design, console, input, output, initial, offsets);
     let next = set.console;
     let came = set.came;
     if !set.finished {
-        return put_end(next, output, came, set.lines);
+        return put_end(rt, next, output, came, set.lines);
     }
-    put_loaded(next, output, design, initial, offsets)
+    put_loaded(rt, next, output, design, initial, offsets)
 }
 
 fn read_and_write(
+    rt: &(impl Input + Print),
     input: &mut [u8],
     output: &mut [u8],
     initial: &mut [u32],
@@ -56,21 +60,21 @@ fn read_and_write(
 ) -> Console
     requires { HoldsEverySet (length initial.old) (length offsets.old) }
 {
-    let first = read_design(Console::new(), input, output);
+    let first = read_design(rt, Console::new(), input, output);
     let design = first.design;
     let came = first.came;
     let console = first.console;
     if !is_line(came) {
-        return put_end(console, output, came, 0);
+        return put_end(rt, console, output, came, 0);
     }
-    load_and_write(design, console, input, output, initial, offsets)
+    load_and_write(rt, design, console, input, output, initial, offsets)
 }
 
-fn main() {
+fn main(rt: HostRuntime) {
     let mut input = [0u8; BLOCK];
     let mut output = [0u8; BLOCK];
     let mut initial = [0u32; MOST_INITIAL];
     let mut offsets = [0i32; MOST_OFFSETS];
-    let console = read_and_write(&mut input, &mut output, &mut initial, &mut offsets);
-    console.flush(&output);
+    let console = read_and_write(&rt, &mut input, &mut output, &mut initial, &mut offsets);
+    console.flush(&rt, &output);
 }

@@ -1,5 +1,6 @@
 // Reads one design's line from standard input and writes the lines of its filled set, or the refusal.
 #![tactic(auto)]
+
 ghost use Rattle.std.specs.Prelude.{length};
 ghost use Rattle.set_console.specs.Reading.{HoldsEverySet};
 
@@ -12,6 +13,7 @@ use set_console::put_set;
 
 // The line's refusals are the report's; then the fill's, of which 10 never comes.
 fn make(
+    rt: &impl Print,
     console: Console,
     output: &mut [u8],
     line: &[u8],
@@ -23,31 +25,32 @@ fn make(
     let read = design_line(line);
     let verdict = read.verdict;
     if let Verdict::Refused(cause) = verdict {
-        return console.put_refused(output, cause);
+        return console.put_refused(rt, output, cause);
     }
     let d = read.design;
     if let Verdict::Refused(cause) = fill(d, initial, offsets) {
-        return console.put_refused(output, cause);
+        return console.put_refused(rt, output, cause);
     }
-    put_set(console, output, d, initial, offsets)
+    put_set(rt, console, output, d, initial, offsets)
 }
 
-fn main() {
+fn main(rt: HostRuntime) {
     // A byte at a time, so that nothing behind the line is taken from the input.
     let mut input = [0u8; 1];
     let mut output = [0u8; BLOCK];
     let mut initial = [0u32; MOST_INITIAL];
     let mut offsets = [0i32; MOST_OFFSETS];
-    let line = Console::new().read_line(&mut input, &output);
+    let line = Console::new().read_line(&rt, &mut input, &output);
     let bytes = line.bytes;
     let count = line.count;
     let console = line.console;
     let made = make(
+        &rt,
         console,
         &mut output,
         &bytes[..count],
         &mut initial,
         &mut offsets,
     );
-    made.flush(&output);
+    made.flush(&rt, &output);
 }

@@ -1,6 +1,7 @@
 // What the programs over whole sets share: reading a set from standard input, and writing the lines of a set, the answer of a check or
 // the counts to standard output. No contract can say which bytes come in or go out; what can be said of a set that is read is promised.
 #![tactic(auto)]
+
 ghost use Rattle.std.specs.Prelude.{◌≡◌, true, false, not, ◌&&◌, [], ◌∷◌, ◌++◌, ◌+◌, ◌-◌, ◌^◌, ◌<◌, length, take};
 ghost use Rattle.refusal.specs.declared.Cause.{Cause};
 ghost use Rattle.refusal.specs.Checks.{passes};
@@ -138,6 +139,7 @@ fn feed_line(set: SetRead, initial: &mut [u32], offsets: &mut [i32], line: &[u8]
 
 // Takes the next line of the input, if there is one. Where the number of lines has no room for another, there is none.
 fn take_line(
+    rt: &(impl Input + Print),
     set: SetRead,
     input: &mut [u8],
     output: &[u8],
@@ -161,7 +163,7 @@ fn take_line(
             came: Came::Nothing,
         };
     }
-    let line = before.read_line(input, output);
+    let line = before.read_line(rt, input, output);
     let console = line.console;
     let end = line.end;
     let here = SetRead {
@@ -181,6 +183,7 @@ fn take_line(
 // inner: reads on, from the reading as it came, until a line finishes a set, is refused, or does not come. The tables hold every legal set, so
 // no line is refused for them; and a set that is read is one that can be stored.
 pub fn read_set(
+    rt: &(impl Input + Print),
     set: SetRead,
     input: &mut [u8],
     output: &[u8],
@@ -203,7 +206,7 @@ pub fn read_set(
     let mut next = set;
     let mut more = true;
     while more {
-        next = take_line(next, input, output, initial, offsets);
+        next = take_line(rt, next, input, output, initial, offsets);
         let came = next.came;
         more = is_line(came);
     }
@@ -218,14 +221,20 @@ pub struct Put {
 }
 
 // inner: puts a text that stands at the start of a buffer, and a newline, for which the buffer has room.
-pub fn put_text(console: Console, output: &mut [u8], buffer: &mut [u8], count: usize) -> Put
+pub fn put_text(
+    rt: &impl Print,
+    console: Console,
+    output: &mut [u8],
+    buffer: &mut [u8],
+    count: usize,
+) -> Put
     requires { count < length buffer.old }
     ensures text { Puts (length output.old) (pending_in console output.old) (take count buffer.old ++ 10 ∷ [])
         (pending_in result.console output.new) }
     ensures more { result.more ≡ not result.console.failed }
 {
     buffer[count] = b'\n';
-    let next = console.put(output, &buffer[..count + 1]);
+    let next = console.put(rt, output, &buffer[..count + 1]);
     Put {
         console: next,
         more: !next.failed,
@@ -234,6 +243,7 @@ pub fn put_text(console: Console, output: &mut [u8], buffer: &mut [u8], count: u
 
 // Puts a line of a set, if the writer gives it.
 pub fn put_line(
+    rt: &impl Print,
     console: Console,
     output: &mut [u8],
     d: Design,
@@ -250,7 +260,7 @@ pub fn put_line(
 {
     let mut buffer = [0u8; KEPT];
     match write_line(d, initial, offsets, number, &mut buffer) {
-        Written::Length(length) => put_text(console, output, &mut buffer, length),
+        Written::Length(length) => put_text(rt, console, output, &mut buffer, length),
         Written::Refused(_) => Put {
             console,
             more: false,
@@ -261,6 +271,7 @@ pub fn put_line(
 // inner: puts the lines of a set, one after another, until the writer gives no more. The writer gives all of them: no program begins with
 // the lines of a set of which one is refused.
 pub fn put_set(
+    rt: &impl Print,
     console: Console,
     output: &mut [u8],
     d: Design,
@@ -278,66 +289,88 @@ pub fn put_set(
     };
     let mut number = 0;
     while put.more {
-        put = put_line(put.console, output, d, initial, offsets, number);
+        put = put_line(rt, put.console, output, d, initial, offsets, number);
         number += 1;
     }
     put.console
 }
 
 // Puts a number behind its label.
-fn put_number(console: Console, output: &mut [u8], label: &[u8], n: u64) -> Console {
-    let labelled = console.put(output, label);
-    labelled.put_decimal(output, n)
+fn put_number(
+    rt: &impl Print,
+    console: Console,
+    output: &mut [u8],
+    label: &[u8],
+    n: u64,
+) -> Console {
+    let labelled = console.put(rt, output, label);
+    labelled.put_decimal(rt, output, n)
 }
 
 // Puts why there is no more of a set, by the lines that were taken before.
-pub fn put_end(console: Console, output: &mut [u8], came: Came, lines: u64) -> Console {
+pub fn put_end(
+    rt: &impl Print,
+    console: Console,
+    output: &mut [u8],
+    came: Came,
+    lines: u64,
+) -> Console {
     match came {
         Came::Line => console,
         Came::Set => console,
         Came::Nothing => {
-            let numbered = put_number(console, output, b"UNFINISHED ", lines);
-            numbered.put(output, b"\n")
+            let numbered = put_number(rt, console, output, b"UNFINISHED ", lines);
+            numbered.put(rt, output, b"\n")
         }
         Came::Refused(cause) => {
-            let numbered = put_number(console, output, b"LINE ", lines);
-            let spaced = numbered.put(output, b" ");
-            spaced.put_refused(output, cause)
+            let numbered = put_number(rt, console, output, b"LINE ", lines);
+            let spaced = numbered.put(rt, output, b" ");
+            spaced.put_refused(rt, output, cause)
         }
     }
 }
 
 // Puts the answer of a check.
-pub fn put_checked(console: Console, output: &mut [u8], checked: Checked) -> Console {
+pub fn put_checked(
+    rt: &impl Print,
+    console: Console,
+    output: &mut [u8],
+    checked: Checked,
+) -> Console {
     match checked {
-        Checked::Faithful => console.put(output, b"FAITHFUL\n"),
+        Checked::Faithful => console.put(rt, output, b"FAITHFUL\n"),
         Checked::Unfaithful(x) => {
-            let numbered = put_number(console, output, b"UNFAITHFUL ", x as u64);
-            numbered.put(output, b"\n")
+            let numbered = put_number(rt, console, output, b"UNFAITHFUL ", x as u64);
+            numbered.put(rt, output, b"\n")
         }
-        Checked::Refused(cause) => console.put_refused(output, cause),
+        Checked::Refused(cause) => console.put_refused(rt, output, cause),
     }
 }
 
 // Puts the counts of words that are neither nearest nor faithful, the last two of the five.
-fn put_wrong(console: Console, output: &mut [u8], counts: Counts) -> Console {
-    let low = put_number(console, output, b" LOW ", counts.low as u64);
-    let high = put_number(low, output, b" HIGH ", counts.high as u64);
-    high.put(output, b"\n")
+fn put_wrong(rt: &impl Print, console: Console, output: &mut [u8], counts: Counts) -> Console {
+    let low = put_number(rt, console, output, b" LOW ", counts.low as u64);
+    let high = put_number(rt, low, output, b" HIGH ", counts.high as u64);
+    high.put(rt, output, b"\n")
 }
 
 // Puts the five counts.
-fn put_counts(console: Console, output: &mut [u8], counts: Counts) -> Console {
-    let outside = put_number(console, output, b"OUTSIDE ", counts.outside as u64);
-    let nearest = put_number(outside, output, b" NEAREST ", counts.nearest as u64);
-    let faithful = put_number(nearest, output, b" FAITHFUL ", counts.faithful as u64);
-    put_wrong(faithful, output, counts)
+fn put_counts(rt: &impl Print, console: Console, output: &mut [u8], counts: Counts) -> Console {
+    let outside = put_number(rt, console, output, b"OUTSIDE ", counts.outside as u64);
+    let nearest = put_number(rt, outside, output, b" NEAREST ", counts.nearest as u64);
+    let faithful = put_number(rt, nearest, output, b" FAITHFUL ", counts.faithful as u64);
+    put_wrong(rt, faithful, output, counts)
 }
 
 // Puts the answer of a count.
-pub fn put_counted(console: Console, output: &mut [u8], counted: Counted) -> Console {
+pub fn put_counted(
+    rt: &impl Print,
+    console: Console,
+    output: &mut [u8],
+    counted: Counted,
+) -> Console {
     match counted {
-        Counted::Counts(counts) => put_counts(console, output, counts),
-        Counted::Refused(cause) => console.put_refused(output, cause),
+        Counted::Counts(counts) => put_counts(rt, console, output, counts),
+        Counted::Refused(cause) => console.put_refused(rt, output, cause),
     }
 }

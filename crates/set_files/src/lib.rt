@@ -1,5 +1,6 @@
 // Going through a file of sets: what `check_set`, `count_set` and `set_to_hex` share. They differ in what they write of each set.
 #![tactic(auto)]
+
 ghost use Rattle.std.specs.Prelude.{◌≡◌, true, ◌^◌, ◌<◌, length};
 ghost use Rattle.refusal.specs.declared.Cause.{Cause};
 ghost use Rattle.reading.specs.ReadLine.{session};
@@ -39,13 +40,19 @@ fn is_whole(set: SetRead, any: bool) -> bool
 }
 
 // An empty line keeps a HEX file apart from the one before it, and from what is said where a later set breaks off.
-fn put_between(task: Task, any: bool, console: Console, output: &mut [u8]) -> Console {
+fn put_between(
+    rt: &impl Print,
+    task: Task,
+    any: bool,
+    console: Console,
+    output: &mut [u8],
+) -> Console {
     match task {
         Task::Check => console,
         Task::Count => console,
         Task::Records => {
             if any {
-                return console.put(output, b"\n");
+                return console.put(rt, output, b"\n");
             }
             console
         }
@@ -54,6 +61,7 @@ fn put_between(task: Task, any: bool, console: Console, output: &mut [u8]) -> Co
 
 // Writes what there is to say of a set, which is one that can be stored.
 fn put_answer(
+    rt: &impl Print,
     task: Task,
     console: Console,
     output: &mut [u8],
@@ -64,14 +72,15 @@ fn put_answer(
     requires { Storable (record { design = d; initial = initial.now; offsets = offsets.now }) }
 {
     match task {
-        Task::Check => put_checked(console, output, check(d, initial, offsets)),
-        Task::Count => put_counted(console, output, count(d, initial, offsets)),
-        Task::Records => put_records(console, output, d, initial, offsets),
+        Task::Check => put_checked(rt, console, output, check(d, initial, offsets)),
+        Task::Count => put_counted(rt, console, output, count(d, initial, offsets)),
+        Task::Records => put_records(rt, console, output, d, initial, offsets),
     }
 }
 
 // Writes what there is to say of what came: of a set its answer, of the end of a whole file nothing, else why there is no set.
 fn put_came(
+    rt: &impl Print,
     task: Task,
     any: bool,
     set: SetRead,
@@ -87,11 +96,11 @@ fn put_came(
     if is_whole(set, any) {
         return before;
     }
-    let console = put_between(task, any, before, output);
+    let console = put_between(rt, task, any, before, output);
     if is_set(came) {
-        return put_answer(task, console, output, state.design, initial, offsets);
+        return put_answer(rt, task, console, output, state.design, initial, offsets);
     }
-    put_end(console, output, came, set.lines)
+    put_end(rt, console, output, came, set.lines)
 }
 
 // What came of the next set: whether to look for another.
@@ -102,6 +111,7 @@ struct Answered {
 }
 
 fn answer_next(
+    rt: &(impl Input + Print),
     task: Task,
     any: bool,
     set: SetRead,
@@ -120,10 +130,10 @@ fn answer_next(
     ensures held { result.set.came ≡ Came.Refused Cause.TablesShort → ⊥ }
     ensures reached { Reached (session result.set.state initial.new offsets.new) }
 {
-    let read = read_set(set, input, output, initial, offsets);
+    let read = read_set(rt, set, input, output, initial, offsets);
     let state = read.state;
     let came = read.came;
-    let console = put_came(task, any, read, output, initial, offsets);
+    let console = put_came(rt, task, any, read, output, initial, offsets);
     let more = is_set(came) && !console.failed;
     Answered {
         set: SetRead {
@@ -138,6 +148,7 @@ fn answer_next(
 
 // Answers each set of the input, until it ends, a line is refused, or nothing more can be written.
 fn answer_all(
+    rt: &(impl Input + Print),
     task: Task,
     input: &mut [u8],
     output: &mut [u8],
@@ -150,19 +161,26 @@ fn answer_all(
     let mut any = false;
     let mut more = true;
     while more {
-        let answered = answer_next(task, any, set, input, output, initial, offsets);
+        let answered = answer_next(rt, task, any, set, input, output, initial, offsets);
         set = answered.set;
         more = answered.more;
         any = true;
     }
     let console = set.console;
-    console.flush(output);
+    console.flush(rt, output);
 }
 
-pub fn answer_sets(task: Task) {
+pub fn answer_sets(rt: &(impl Input + Print), task: Task) {
     let mut input = [0u8; BLOCK];
     let mut output = [0u8; BLOCK];
     let mut initial = [0u32; MOST_INITIAL];
     let mut offsets = [0i32; MOST_OFFSETS];
-    answer_all(task, &mut input, &mut output, &mut initial, &mut offsets);
+    answer_all(
+        rt,
+        task,
+        &mut input,
+        &mut output,
+        &mut initial,
+        &mut offsets,
+    );
 }

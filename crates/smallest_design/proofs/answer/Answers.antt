@@ -1,15 +1,13 @@
 -- `smallest_design::answer` is safe: a design that is found is legal.
 use mathlib.Core.Path.{◌≡◌, refl}
 use Prim.Native.Nat.{ℕ}
-use borrow.Author.Rules.{rules}
 use native.Mathlib.Omega.{arith}
 use Rattle.refusal.specs.declared.Verdict.{Verdict}
 use Rattle.design.specs.Legal.{Legal}
 use Rattle.searching.specs.declared.Found.{Found}
 use Rattle.searching.specs.Best.{smallest_verdict, refused_with, smallest_answer}
 use Rattle.optimum.proofs.Optimal.{optimum}
-use Rattle.smallest_design.proofs.answer.Statement.{statement}
-use Rattle.smallest_design.proofs.answer.Tie as tie
+use Rattle.smallest_design.proofs.answer.Goals as goal
 
 -- the answer's verdict is that of the search, and then it has the design that was found
 answered : (kind w q : ℕ) (v : Verdict) → smallest_verdict kind w q ≡ v → (smallest_answer kind w q).verdict ≡ Verdict.Passed
@@ -23,19 +21,5 @@ legal-found : (kind w q : ℕ) (found : Found) → found ≡ smallest_answer kin
     → Legal found.best.design
 legal-found kind w q found is passed = rw is (answered kind w q (smallest_verdict kind w q) refl (rw is at passed))
 
-put-design-requires : tie.Need-put-design-requires
-put-design-requires c κs = legal-found _ _ _ _ c.before.before.before.before.smallest.ensures.0 c.before.enum_told.given.1
-
-pub answer-spec : {M : Type 1} → statement M
-answer-spec =
-    tie.close
-    (tie.spec
-    (λ c κs. search rules)
-    (λ c. search rules)
-    put-design-requires
-    (λ c. search rules)
-    (λ c κs. search rules)
-    (λ c. search rules)
-    (λ c. search rules)
-    (λ c. search rules)
-    (λ c. search rules))
+pub put_design-requires : goal.put_design-requires
+put_design-requires g c = legal-found _ _ _ _ c.smallest-found.ensures.answer c.in-Passed.is
