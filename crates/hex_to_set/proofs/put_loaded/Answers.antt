@@ -1,6 +1,7 @@
 -- `hex_to_set::put_loaded` meets its contract: lines hold a set that records hold where no initial entry is over.
 use mathlib.Core.Bool.{false}
 use mathlib.Core.Path.{◌≡◌}
+use borrow.Author.Rules.{rules}
 use borrow.Author.Tests.{leb-false}
 use Rattle.general.proofs.Sums.{none_below}
 use Rattle.general.proofs.Tests.{tested}
@@ -15,4 +16,4 @@ unfolding some_over
 none_over t ok none = recordable-storable t ok (λ index h. leb-false _ _ (none_below _ _ none index h))
 
 pub put_set-requires : goal.put_set-requires
-put_set-requires g c = none_over _ c.requires (tested c.some_over.ensures c.if-some_over.false)
+put_set-requires g c = none_over _ c.requires (tested c.some_over.ensures (search rules))
