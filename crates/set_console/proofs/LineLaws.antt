@@ -14,7 +14,6 @@ use Rattle.design.specs.Legal.{Legal}
 use Rattle.design.specs.Limits.{most_initial, most_offsets}
 use Rattle.design.proofs.StoredLaws.{initial-count-small, offset-total-small}
 use Rattle.design.proofs.LegalLaws.{limits}
-use Rattle.tables.proofs.SetLaws.{usable}
 use Rattle.frames.specs.Line.{longest_line}
 use Rattle.encoding.proofs.LineBack.{line-length}
 use Rattle.lines.specs.Slots.{line_count, slot_of}

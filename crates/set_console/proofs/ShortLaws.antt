@@ -14,7 +14,6 @@ use Rattle.refusal.specs.Numbers.{number_of, verdict_number}
 use Rattle.refusal.specs.Checks.{Check, verdict, refuses}
 use Rattle.refusal.proofs.Checks.{after, verdict-append, none-fails, passed-append}
 use Rattle.values.specs.Widths.{width_checks}
-use Rattle.design.specs.declared.Design.{Design}
 use Rattle.design.specs.Legal.{Legal, cut_checks, design_checks}
 use Rattle.tables.specs.Set.{tables_check}
 use Rattle.tables.proofs.SetLaws.{tables-long}
@@ -23,7 +22,7 @@ use Rattle.frames.specs.Line.{is_empty, line_checks}
 use Rattle.frames.specs.DesignFrame.{frame_checks, first_checks}
 use Rattle.frames.proofs.FrameLaws.{first_frame}
 use Rattle.reading.specs.declared.Reading.{Reading}
-use Rattle.reading.specs.ReadLine.{possible, state_check, empty_check, design_after, later_checks, due_checks, read_verdict, Session, verdict_on}
+use Rattle.reading.specs.ReadLine.{possible, state_check, empty_check, design_after, later_checks, due_checks, Session, verdict_on}
 use Rattle.reading.proofs.ReadLaws.{first-design, later-design, begun, empty-verdict, some-verdict}
 use Rattle.set_console.specs.Reading.{HoldsEverySet}
 

@@ -1,0 +1,19 @@
+-- `hex_console::text_length` meets its contract: a carriage return is dropped only before a newline.
+use Rattle.hex_console.specs.LineTexts.{line_text}
+use Rattle.hex_console.proofs.text_length.Goals as goal
+
+pub returns-in-Newline-clause-bytes_value : goal.returns-in-Newline-clause-bytes_value
+unfolding line_text
+returns-in-Newline-clause-bytes_value c = rw c.in-Newline.is c.without_return.ensures.bytes_value
+
+pub returns-in-Input-clause-bytes_value : goal.returns-in-Input-clause-bytes_value
+unfolding line_text
+returns-in-Input-clause-bytes_value c = rw c.in-Input.is
+
+pub returns-in-Cut-clause-bytes_value : goal.returns-in-Cut-clause-bytes_value
+unfolding line_text
+returns-in-Cut-clause-bytes_value c = rw c.in-Cut.is
+
+pub returns-in-Absent-clause-bytes_value : goal.returns-in-Absent-clause-bytes_value
+unfolding line_text
+returns-in-Absent-clause-bytes_value c = rw c.in-Absent.is
