@@ -1,0 +1,10 @@
+-- `evaluate_set::answer_words` ends: its turns are counted down.
+use mathlib.Core.Path.{◌≡◌}
+use lib.ListN.{length}
+use Rattle.evaluate_set.proofs.answer_words.Given as goal
+
+abbrev pub invariant-loop-turns : goal.invariant-loop-turns
+invariant-loop-turns g l = (length l.input ≡ length l.initial.input) × (length l.output ≡ length l.initial.output)
+
+abbrev pub decreases-loop-turns : goal.decreases-loop-turns
+decreases-loop-turns g l = l.turns

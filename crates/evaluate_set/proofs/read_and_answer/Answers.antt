@@ -1,0 +1,6 @@
+-- `evaluate_set::read_and_answer` is safe and ends: the set is read from the start of the input, where no line is taken.
+use Rattle.set_console.proofs.FeedLaws.{reached-begin}
+use Rattle.evaluate_set.proofs.read_and_answer.Goals as goal
+
+pub read_set-set-requires : goal.read_set-set-requires
+read_set-set-requires g c = record { holds_every_set = c.requires; reached_2 = reached-begin _ c.start.ensures.0 }
