@@ -2,6 +2,7 @@
 // the answer behind a pointer; where it is refused, what is behind the pointer stands, but for a batch's place. Here are those on designs
 // and tables.
 #![tactic(auto)]
+
 ghost use Rattle.std.specs.Prelude.{◌≡◌, length};
 ghost use Rattle.refusal.specs.Numbers.{verdict_number};
 ghost use Rattle.refusal.specs.Told.{number_told};

@@ -1,5 +1,6 @@
 // The report's one line of text.
 #![tactic(auto)]
+
 ghost use Rattle.std.specs.Prelude.{◌≡◌, cond, List, [], ◌++◌, ℕ, ◌+◌, ◌≤◌, length};
 ghost use Rattle.design.specs.Legal.{Legal};
 ghost use Rattle.sizing.specs.Size.{size};

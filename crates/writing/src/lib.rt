@@ -23,6 +23,7 @@ pub enum Written {
 }
 
 // 18, then 23, by whether an entry fits its 3 bytes and whether it is an initial entry at the limit on sums or beyond it.
+#[tactic(auto, unfolding(crate::specs::Write::entry_checks))]
 fn entry_verdict(fits: bool, over: bool) -> Verdict
     ensures { result ≡ verdict (entry_checks fits over) }
 {

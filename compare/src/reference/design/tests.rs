@@ -6,7 +6,7 @@ use crate::types::G;
 
 #[test]
 fn refused_designs() {
-    let twelve = |a, b| Design::cut([0, 16, 8, 4, 12], &[[a, b]]);
+    let twelve = |a, b| Design::new([0, 16, 8, 4, 12, 1], [[a, b]; 4]);
     assert_eq!(legal(&Design { q: 16, g: 4, ..G }), Ok(()));
     assert_eq!(legal(&twelve(8, 4)), Ok(()));
     for (d, refusal) in [

@@ -275,7 +275,7 @@ fn order_of_checks_on_records() {
 /// "never so within 01's limits, where a set takes at most 61,440": 20 needs 21,846 entries.
 #[test]
 fn addresses_of_two_bytes() {
-    let d = Design::cut([0, 16, 16, 4, 13], &[[11, 1]; 3]);
+    let d = Design::new([0, 16, 16, 4, 13, 3], [[11, 1]; 4]);
     let mut legal = Legal::new(&d).unwrap();
     for (entries, answer) in [
         (20480, Ok(())),

@@ -38,11 +38,12 @@ fn budgets() {
 /// Trap: D_i without 2^(p_i). Each table's share of the budget is D_i times a whole number.
 #[test]
 fn budget_shares_grow_with_p() {
-    let of_tables = |pairs: &[[u32; 2]]| {
-        let budget = budget(&Design::cut([0, 7, 8, 4, 5], pairs)).unwrap();
-        budget - ((pairs.len() as u64 + 2) << 17)
+    let of_tables = |m: u32, pairs| {
+        let budget = budget(&Design::new([0, 7, 8, 4, 5, m], pairs)).unwrap();
+        budget - ((u64::from(m) + 2) << 17)
     };
     // The same segments (w 7, a 3), once as the only table and once above another. D is 3 for the
     // table of 2 bits, and 1 + 2 for the two of one bit.
-    assert_eq!(of_tables(&[[3, 1], [3, 1]]), of_tables(&[[3, 2]]));
+    let both = of_tables(2, [[3, 1], [3, 1], [0, 0], [0, 0]]);
+    assert_eq!(both, of_tables(1, [[3, 2]; 4]));
 }

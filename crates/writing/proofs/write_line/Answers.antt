@@ -1,17 +1,14 @@
 -- `writing::write_line` meets its contract: the verdict of the set, then the number, the entry, the room, the line.
-use mathlib.Core.Path.{◌≡◌, sym, ap, ◌∙◌}
+use mathlib.Core.Path.{sym, ap, ◌∙◌}
 use Prim.Native.Nat.{◌<◌}
 use native.Mathlib.Omega.{arith}
 use borrow.Author.Tests.{lt-ltb, le-ltb}
 use lib.ListN.{length}
 use Rattle.general.specs.Lists.{over}
-use Rattle.refusal.specs.declared.Verdict.{Verdict}
-use Rattle.refusal.specs.Checks.{verdict}
 use Rattle.tables.specs.Inputs.{Usable}
 use Rattle.tables.proofs.SetLaws.{usable}
 use Rattle.lines.specs.Slots.{line_count}
 use Rattle.lines.proofs.SlotLaws.{slot-in}
-use Rattle.writing.specs.Write.{asked_checks}
 use Rattle.writing.proofs.WriteLaws.{
   carried,
   refused-before,
