@@ -110,7 +110,7 @@ pub returns-then-short : goal.returns-then-short
 returns-then-short c =
     let both = refused-outcome _ c.args.initial.now c.args.offsets.now _ _ _ c.refused-then-short.ensures
     (later-short _ _ (search rules) c.requires.sound _ c.requires.begun _ _ (rw c.line_count.ensures at c.if-line_count-state.false) (due-told _ _ _ _ c.slot_of-slot.ensures c.head_of-head.ensures.result_value c.head_of-head.ensures.count_value _ _ _ _ _ c.entry_width-width.ensures c.head_fails.ensures c.if-head_fails.false)
-    (over-told _ _ _ _ _ c.slot_of-slot.ensures (number_is _ _ _ _ c.slot_of-slot.ensures c.head_of-head.ensures.result_value c.head_of-head.ensures.count_value _ _ _ c.entry_width-width.ensures c.number_in-number.ensures.value) _ _ c.entry_over-over.ensures c.if-over.false) (tested c.tables_short-short.ensures c.if-short.true)) in record { value = both.0; initial_after = both.1.0; offsets_after = both.1.1 }
+    (over-told _ _ _ _ _ c.slot_of-slot.ensures (number_is _ _ _ _ c.slot_of-slot.ensures c.head_of-head.ensures.result_value c.head_of-head.ensures.count_value _ _ _ c.entry_width-width.ensures c.number_in-number.ensures.value) _ _ c.entry_over-over.ensures (search rules)) (tested c.tables_short-short.ensures c.if-short.true)) in record { value = both.0; initial_after = both.1.0; offsets_after = both.1.1 }
 
 pub store-requires : goal.store-requires
 store-requires c =

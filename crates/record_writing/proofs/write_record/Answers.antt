@@ -173,7 +173,7 @@ returns-then-record-characters c =
     rw (fits, ← length-is) (within-records _ _ _ _ (length a.«record».now) (set) (few) (within)) in
     let no_room : c.put_entries-fits.result ≡ true → (let a = c.args in length a.«record».now) < (11 + 2 * (c.bytes_before.result - c.bytes_before-2.result)) → (let a = c.args in hex_write_verdict a.d a.initial.now a.offsets.now a.number (length a.«record».now)) ≡ Verdict.Refused Cause.OutputShort =
     λ narrow short. settles ∙ rw (narrow, lt-ltb _ _ short) in
-    let both = refuses _ _ _ _ _ (no_room c.if-not-fits.false c.if-record-characters.true) in record { answer = both.0; told = both.1.0; record_buffer = both.1.1 }
+    let both = refuses _ _ _ _ _ (no_room (search rules) c.if-record-characters.true) in record { answer = both.0; told = both.1.0; record_buffer = both.1.1 }
 
 pub overflow_add-window : goal.overflow_add-window
 overflow_add-window c =
