@@ -29,7 +29,7 @@ pub const SMALLEST: Design = Design::cut([0, 6, 6, 2, 2], &[[1, 1]; 4]);
 pub const SHORT: Design = Design::cut([2, 6, 6, 3, 3], &[[1, 1], [1, 2]]);
 
 /// A design with few entries and the most words.
-pub const FEW_ENTRIES: Design = Design::cut([1, 16, 14, 6, 2], &[[1, 7]; 2]);
+pub const FEW_ENTRIES: Design = Design::new([1, 16, 14, 6, 2, 2], [[1, 7]; 4]);
 
 /// What may stand behind a line that is well-formed without it: a character, two, and so many that no
 /// program should wait for the last.
