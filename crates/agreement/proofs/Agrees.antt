@@ -1,4 +1,5 @@
 -- Counts and check agree.
+use Rattle.std.specs.Prelude.{Ok, Err}
 use mathlib.Core.Path.{◌≡◌, refl}
 use mathlib.Core.List.{List}
 use mathlib.Core.Logic.{◌↔◌}
@@ -7,7 +8,7 @@ use native.Mathlib.Omega.{arith}
 use borrow.Author.Tests.{eqb-false, ne_eqb}
 use lib.IntN.{ℤ}
 use Rattle.general.proofs.Sums.{none-counted, count_none}
-use Rattle.refusal.specs.declared.Verdict.{Verdict}
+use Rattle.refusal.specs.Verdict.{Verdict}
 use Rattle.refusal.specs.Checks.{if_passed}
 use Rattle.refusal.specs.Told.{told, number_told}
 use Rattle.design.specs.declared.Design.{Design}
@@ -18,7 +19,6 @@ use Rattle.checking.specs.Check.{check_verdict, check_answer, check_told, Faithf
 use Rattle.checking.proofs.CheckLaws.{check-means}
 use Rattle.counting.specs.declared.Class.{Class}
 use Rattle.counting.specs.declared.Counts.{Counts}
-use Rattle.counting.specs.declared.Counted.{Counted}
 use Rattle.counting.specs.Count.{rank_of, is_class, class_at, count_of, counts_below, count_verdict, count_answer, count_told}
 use Rattle.counting.proofs.CountLaws as CountLaws
 use Rattle.agreement.specs.Agreement.{Agreement}
@@ -26,14 +26,14 @@ use Rattle.agreement.proofs.Landing.{up-to-high, lands, zero-low, faithful-class
 
 -- The number that is told goes by the verdict alone.
 same_number : {A B : Type 0} (v : Verdict) (a : A) (b : B) → number_told (told v a) ≡ number_told (told v b)
-same_number Verdict.Passed a b = refl
-same_number (Verdict.Refused cause) a b = refl
+same_number (Ok tt) a b = refl
+same_number (Err cause) a b = refl
 
 -- Counts are given only where the verdict passes.
-given : (v : Verdict) {found counts : Counts} → if_passed v (Counted.Counts found) Counted.Refused ≡ Counted.Counts counts
-    → (v ≡ Verdict.Passed) × (found ≡ counts)
-given Verdict.Passed e = (refl, cc)
-given (Verdict.Refused cause) e = let z : ◌≡◌ {A = ℕ} 0 1 = cc in absurd (omega arith)
+given : (v : Verdict) {found counts : Counts} → if_passed v (Ok found) Err ≡ Ok counts
+    → (v ≡ (Ok tt)) × (found ≡ counts)
+given (Ok tt) e = (refl, cc)
+given (Err cause) e = let z : ◌≡◌ {A = ℕ} 0 1 = cc in absurd (omega arith)
 
 -- No input is in a class exactly where its count is 0.
 module _ (class : Class) (n : ℕ) (classes : ℕ → Class) where
@@ -66,7 +66,7 @@ module _ (d : Design) (initial : List ℕ) (offsets : List ℤ) where
   unfolding counts_below
   adds-up = CountLaws.adds-up classes (2 ^ d.w)
 
-  all-faithful : check_verdict d initial offsets ≡ Verdict.Passed → (counts.outside ≡ 0) × (counts.low ≡ 0) × (counts.high ≡ 0)
+  all-faithful : check_verdict d initial offsets ≡ (Ok tt) → (counts.outside ≡ 0) × (counts.low ≡ 0) × (counts.high ≡ 0)
       → (x : ℕ) → x < 2 ^ d.w → FaithfulWord d initial offsets x
   unfolding counts_below check_verdict
   all-faithful passed zero x h =
@@ -76,7 +76,7 @@ module _ (d : Design) (initial : List ℕ) (offsets : List ℤ) where
       class-faithful d initial offsets x (lawful d (limits d (usable d _ _ passed).legal)) h
       (omega (arith, not-outside)) (omega (arith, up-to-high (classes x), not_low, not-high))
 
-  exactly : check_verdict d initial offsets ≡ Verdict.Passed
+  exactly : check_verdict d initial offsets ≡ (Ok tt)
       → (check_answer d initial offsets ≡ Checked.Faithful) ↔ ((counts.outside ≡ 0) × (counts.low ≡ 0) × (counts.high ≡ 0))
   exactly passed =
       let means = check-means d initial offsets passed in

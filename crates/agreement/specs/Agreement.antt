@@ -1,5 +1,5 @@
 -- Document 02, A1, over the calls `count` and `check`.
-use Rattle.std.specs.Prelude.{◌≡◌, true, false, ◌↔◌, List, ℕ, ◌+◌, ◌^◌, ◌≤◌, ℤ}
+use Rattle.std.specs.Prelude.{◌≡◌, true, false, ◌↔◌, List, ℕ, ◌+◌, ◌^◌, ◌≤◌, ℤ, Ok}
 use Rattle.refusal.specs.Told.{number_told}
 use Rattle.values.specs.declared.rows.Row.{Row}
 use Rattle.values.specs.Faithful.{Faithful, Nearest, TooLow, TooHigh}
@@ -10,7 +10,6 @@ use Rattle.checking.specs.declared.Checked.{Checked}
 use Rattle.checking.specs.Check.{check_answer, check_told}
 use Rattle.counting.specs.declared.Class.{Class}
 use Rattle.counting.specs.declared.Counts.{Counts}
-use Rattle.counting.specs.declared.Counted.{Counted}
 use Rattle.counting.specs.Count.{rank_of, class_at, count_answer, count_told}
 
 -- An input has a word, since its sum is in range, and the word stands so to the exact value.
@@ -40,10 +39,10 @@ pub record Agrees (d : Design) (initial : List ℕ) (offsets : List ℤ) : Type 
   -- "The call refuses as the check does."
   pub refuses : number_told (count_told d initial offsets) ≡ number_told (check_told d initial offsets)
   -- "The five add up to 2^w,
-  pub adds-up : (counts : Counts) → count_answer d initial offsets ≡ Counted.Counts counts
+  pub adds-up : (counts : Counts) → count_answer d initial offsets ≡ Ok counts
       → counts.outside + counts.nearest + counts.faithful + counts.low + counts.high ≡ 2 ^ d.w
   -- and the check says faithful exactly when the first and the last two are zero."
-  pub exactly : (counts : Counts) → count_answer d initial offsets ≡ Counted.Counts counts
+  pub exactly : (counts : Counts) → count_answer d initial offsets ≡ Ok counts
       → (check_answer d initial offsets ≡ Checked.Faithful) ↔ ((counts.outside ≡ 0) × (counts.low ≡ 0) × (counts.high ≡ 0))
 
 -- "For any set": any design and any tables

@@ -4,12 +4,11 @@
 
 use checking::{Checked, check};
 use console::Console;
-use design::{Design, Measured, NO_PAIR, Pair};
+use design::{Design, NO_PAIR, Pair};
 use filling::fill;
-use refusal::{Cause, Verdict};
+use refusal::Cause;
 use searching::smallest;
 use set_console::{put_checked, put_line};
-use values::Valued;
 
 // A design of one table, of kind 0 with q 8 and g 4.
 fn of_one_table(w: u32, alpha: u32, a: u32, b: u32) -> Design {
@@ -115,8 +114,8 @@ fn print_refused(rt: &impl Print, cause: Cause) {
 fn show_value(rt: &impl Print, label: &[u8], kind: u32, w: u32, q: u32, g: u32, x: u32) {
     show(rt, label);
     match values::value(kind, w, q, g, x) {
-        Valued::Value(_) => print_passed(rt),
-        Valued::Refused(cause) => print_refused(rt, cause),
+        Ok(_) => print_passed(rt),
+        Err(cause) => print_refused(rt, cause),
     }
 }
 
@@ -124,8 +123,8 @@ fn show_value(rt: &impl Print, label: &[u8], kind: u32, w: u32, q: u32, g: u32, 
 fn show_legal(rt: &impl Print, label: &[u8], a: u32, b: u32) {
     show(rt, label);
     match design::budget(of_one_table(16, 8, a, b)) {
-        Measured::Is(_) => print_passed(rt),
-        Measured::Refused(cause) => print_refused(rt, cause),
+        Ok(_) => print_passed(rt),
+        Err(cause) => print_refused(rt, cause),
     }
 }
 
@@ -150,7 +149,7 @@ fn show_smallest(rt: &impl Print, label: &[u8], kind: u32, w: u32, q: u32) {
     let best = found.best;
     let d = best.design;
     show(rt, label);
-    if let Verdict::Refused(cause) = verdict {
+    if let Err(cause) = verdict {
         print_refused(rt, cause);
         return;
     }

@@ -1,4 +1,5 @@
 -- Laws of the check's search, and what its answer means.
+use Rattle.std.specs.Prelude.{Ok}
 use mathlib.Core.Path.{◌≡◌, refl, sym, ap, ◌∙◌}
 use mathlib.Core.Bool.{Bool, true, false, not, true≢false}
 use mathlib.Core.List.{List}
@@ -10,7 +11,6 @@ use lib.IntN.{ℤ}
 use borrow.Author.Tests.{not-true}
 use Rattle.general.proofs.Tests.{both, both_so}
 use Rattle.general.proofs.Sums.{below_suc}
-use Rattle.refusal.specs.declared.Verdict.{Verdict}
 use Rattle.refusal.specs.Told.{accepted}
 use Rattle.values.proofs.FaithfulLaws.{faithful-test, faithful-tested}
 use Rattle.design.specs.declared.Design.{Design}
@@ -115,7 +115,7 @@ module _ (d : Design) (initial : List ℕ) (offsets : List ℤ) (x : ℕ) where
   word-failed e f = true≢false (sym (word-tested f) ∙ e)
 
 -- Where the refusals pass, the answer is that of the search.
-pub check-searches : (d : Design) (initial : List ℕ) (offsets : List ℤ) → check_verdict d initial offsets ≡ Verdict.Passed
+pub check-searches : (d : Design) (initial : List ℕ) (offsets : List ℤ) → check_verdict d initial offsets ≡ (Ok tt)
     → check_answer d initial offsets ≡ found (finding_below (2 ^ d.w) (faithful_at d initial offsets))
 unfolding check_answer
 check-searches d initial offsets passed = rw passed refl
@@ -124,7 +124,7 @@ test-fails : (t : Bool) → (t ≡ true → ⊥) → t ≡ false
 test-fails true h = absurd (h refl)
 test-fails false h = refl
 
-pub check-means : (d : Design) (initial : List ℕ) (offsets : List ℤ) → check_verdict d initial offsets ≡ Verdict.Passed
+pub check-means : (d : Design) (initial : List ℕ) (offsets : List ℤ) → check_verdict d initial offsets ≡ (Ok tt)
     → CheckMeans d initial offsets
 check-means d initial offsets passed =
     record {

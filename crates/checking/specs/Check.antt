@@ -1,6 +1,6 @@
 -- What the call `check` answers: "check 1 to 10", else faithful or the lowest unfaithful word.
 use Rattle.std.specs.Prelude.{◌≡◌, Bool, true, false, not, ◌&&◌, ◌⊎◌, List, ℕ, zero, suc, ◌+◌, ◌^◌, ◌<◌, length, ℤ}
-use Rattle.refusal.specs.declared.Verdict.{Verdict}
+use Rattle.refusal.specs.Verdict.{Verdict}
 use Rattle.refusal.specs.Numbers.{number_of}
 use Rattle.refusal.specs.Checks.{verdict, if_passed}
 use Rattle.refusal.specs.Told.{Told, accepted, refused, told}

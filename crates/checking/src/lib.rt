@@ -12,7 +12,7 @@ ghost use Rattle.checking.specs.Check.{faithful_at, finding_below, found, check_
 
 use design::Design;
 use general::pow2;
-use refusal::{Cause, Verdict};
+use refusal::Cause;
 use tables::lookups::{Lookups, lookups_of};
 use tables::set_verdict;
 use tables::sums::{sum_from, sum_outside, word_of};
@@ -80,8 +80,6 @@ pub fn check(d: Design, initial: &[u32], offsets: &[i32]) -> Checked
     ensures answer { result ≡ check_answer d initial.now offsets.now }
     ensures told { told_by result ≡ check_told d initial.now offsets.now }
 {
-    if let Verdict::Refused(cause) = set_verdict(d, initial.len(), offsets.len()) {
-        return Checked::Refused(cause);
-    }
+    set_verdict(d, initial.len(), offsets.len())?;
     search(d, lookups_of(d), row_of(d.kind), initial, offsets)
 }

@@ -1,7 +1,8 @@
 -- Document 02, A1: what the call `count` answers. "The call refuses as the check does", 1 to 10, and else gives "five counts over all 2^w
 -- inputs".
-use Rattle.std.specs.Prelude.{Bool, cond, List, ℕ, ◌+◌, ◌^◌, eqb, length, ℤ}
-use Rattle.refusal.specs.declared.Verdict.{Verdict}
+use Rattle.refusal.specs.declared.Cause.{Cause}
+use Rattle.std.specs.Prelude.{Bool, cond, List, ℕ, ◌+◌, ◌^◌, eqb, length, ℤ, Result, Ok, Err}
+use Rattle.refusal.specs.Verdict.{Verdict}
 use Rattle.refusal.specs.Numbers.{number_of}
 use Rattle.refusal.specs.Checks.{verdict, if_passed}
 use Rattle.refusal.specs.Told.{Told, accepted, refused, told}
@@ -13,7 +14,6 @@ use Rattle.tables.specs.Sum.{sum_at, sum_outside, word_of}
 use Rattle.tables.specs.Set.{set_checks}
 use Rattle.counting.specs.declared.Class.{Class}
 use Rattle.counting.specs.declared.Counts.{Counts}
-use Rattle.counting.specs.declared.Counted.{Counted}
 
 -- "sum out of range; nearest ..; faithful but not nearest; too low; too high", "in that order": the rank of each
 abbrev pub rank_of : Class → ℕ
@@ -58,14 +58,14 @@ counts_below n classes =
 unfoldable pub count_verdict : Design → List ℕ → List ℤ → Verdict
 count_verdict d initial offsets = verdict (set_checks d (length initial) (length offsets))
 
-unfoldable pub count_answer : Design → List ℕ → List ℤ → Counted
+unfoldable pub count_answer : Design → List ℕ → List ℤ → Result Counts Cause
 count_answer d initial offsets =
-    if_passed (count_verdict d initial offsets) (Counted.Counts (counts_below (2 ^ d.w) (class_at d initial offsets))) Counted.Refused
+    if_passed (count_verdict d initial offsets) (Ok (counts_below (2 ^ d.w) (class_at d initial offsets))) Err
 
 -- What each answer tells: the five counts, or the refusal's number
-abbrev pub told_by : Counted → Told Counts
-told_by (Counted.Counts counts) = accepted counts
-told_by (Counted.Refused cause) = refused (number_of cause) 0
+abbrev pub told_by : (Result Counts Cause) → Told Counts
+told_by (Ok counts) = accepted counts
+told_by (Err cause) = refused (number_of cause) 0
 
 -- What is to be told: 1 to 10, else the counts over all inputs
 unfoldable pub count_told : Design → List ℕ → List ℤ → Told Counts

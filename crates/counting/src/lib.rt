@@ -12,7 +12,7 @@ ghost use Rattle.counting.specs.Inputs.{Few, with_class};
 
 use design::Design;
 use general::pow2;
-use refusal::{Cause, Verdict};
+use refusal::Cause;
 use tables::lookups::{Lookups, lookups_of};
 use tables::runs::{Run, run_of, sum_in};
 use tables::set_verdict;
@@ -39,13 +39,6 @@ pub struct Counts {
     pub faithful: u32,
     pub low: u32,
     pub high: u32,
-}
-
-// What `count` answers.
-#[derive(Clone, Copy)]
-pub enum Counted {
-    Counts(Counts),
-    Refused(Cause),
 }
 
 impl Counts {
@@ -162,12 +155,10 @@ fn count_words(d: Design, lookups: Lookups, row: Row, initial: &[u32], offsets: 
 }
 
 // Refusals 1 to 10 first, then the counts.
-pub fn count(d: Design, initial: &[u32], offsets: &[i32]) -> Counted
+pub fn count(d: Design, initial: &[u32], offsets: &[i32]) -> Result<Counts, Cause>
     ensures answer { result ≡ count_answer d initial.now offsets.now }
     ensures told { told_by result ≡ count_told d initial.now offsets.now }
 {
-    if let Verdict::Refused(cause) = set_verdict(d, initial.len(), offsets.len()) {
-        return Counted::Refused(cause);
-    }
-    Counted::Counts(count_words(d, lookups_of(d), row_of(d.kind), initial, offsets))
+    set_verdict(d, initial.len(), offsets.len())?;
+    Ok(count_words(d, lookups_of(d), row_of(d.kind), initial, offsets))
 }

@@ -1,4 +1,5 @@
 -- What legality tells of a design.
+use Rattle.std.specs.Prelude.{Ok}
 use mathlib.Core.Path.{◌≡◌, ◌∙◌}
 use mathlib.Core.Bool.{false}
 use Prim.Native.Nat.{ℕ, ◌+◌, ◌-◌, ◌≤◌, ◌<◌}
@@ -8,7 +9,6 @@ use borrow.Author.Tests.{ltb-false, leb-false, le-ltb, lt-leb, eqb-true, eq-eqb,
 use Rattle.general.proofs.Tests.{neither}
 use Rattle.general.proofs.Sums.{none_below, none_of, sum_step}
 use Rattle.refusal.proofs.Checks.{verdict-append, passed-append, none-fails, inside, not-outside}
-use Rattle.refusal.specs.declared.Verdict.{Verdict}
 use Rattle.refusal.specs.Checks.{verdict}
 use Rattle.values.specs.Rows.{Lawful}
 use Rattle.values.specs.Room.{Room, finest_unit, entry_bound}
@@ -80,7 +80,7 @@ module _ (d : Design) where
     rw (not-outside 1 most_offset_bits (b_of d i) t.b-low t.b-high, le-ltb most_table_bits (a_of d i + b_of d i) t.sum-high),
   )
 
-  cut-passes : Limits d → verdict (cut_checks d) ≡ Verdict.Passed
+  cut-passes : Limits d → verdict (cut_checks d) ≡ (Ok tt)
   unfolding cut_checks
   cut-passes l =
       rw (

@@ -1,8 +1,8 @@
 -- Document 01, "What is turned down, by place", 1 to 9, in the order in which they are tried.
-use Rattle.std.specs.Prelude.{Bool, not, ◌||◌, List, [], ◌∷◌, ◌++◌, ◌≡◌, ℕ, ◌+◌, ◌-◌, leb, ltb, eqb}
+use Rattle.std.specs.Prelude.{Bool, not, ◌||◌, List, [], ◌∷◌, ◌++◌, ◌≡◌, ℕ, ◌+◌, ◌-◌, leb, ltb, eqb, Ok}
 use Rattle.general.specs.Below.{some_below}
 use Rattle.refusal.specs.declared.Cause.{Cause}
-use Rattle.refusal.specs.declared.Verdict.{Verdict}
+use Rattle.refusal.specs.Verdict.{Verdict}
 use Rattle.refusal.specs.Checks.{Check, ◌↝◌, outside, verdict}
 use Rattle.values.specs.Widths.{width_checks, limits_of}
 use Rattle.design.specs.declared.Pair.{Pair}
@@ -36,4 +36,4 @@ design_verdict d = verdict (design_checks d)
 
 -- "A design is legal when none of 1 to 9 .. turns it down."
 abbrev pub Legal : Design → Type 0
-Legal d = design_verdict d ≡ Verdict.Passed
+Legal d = design_verdict d ≡ (Ok tt)

@@ -11,7 +11,7 @@ use crate::limits::{
     LEAST_INITIAL_BITS, MOST_INITIAL_BITS, MOST_OFFSET_BITS, MOST_TABLE_BITS, MOST_TABLES,
 };
 use crate::{Design, Pair};
-use refusal::{Cause, Verdict, outside};
+use refusal::{Cause, outside};
 use values::widths::{limits_of, width_verdict};
 
 // inner: the pair of a table that is read.
@@ -72,36 +72,34 @@ fn offset_bits(d: Design) -> u64
     bits
 }
 
-fn cut_verdict(d: Design) -> Verdict
+fn cut_verdict(d: Design) -> Result<(), Cause>
     ensures { result ≡ verdict (cut_checks d) }
 {
     if outside(LEAST_INITIAL_BITS, MOST_INITIAL_BITS, d.alpha) {
-        return Verdict::Refused(Cause::InitialBits);
+        return Err(Cause::InitialBits);
     }
     if d.w <= d.alpha {
-        return Verdict::Refused(Cause::InitialBits);
+        return Err(Cause::InitialBits);
     }
     if outside(1, MOST_TABLES, d.m) {
-        return Verdict::Refused(Cause::TableCount);
+        return Err(Cause::TableCount);
     }
     if some_table_breaks(TableRule::SegmentBits, d) {
-        return Verdict::Refused(Cause::SegmentBits);
+        return Err(Cause::SegmentBits);
     }
     if some_table_breaks(TableRule::OffsetBits, d) {
-        return Verdict::Refused(Cause::OffsetBits);
+        return Err(Cause::OffsetBits);
     }
     if offset_bits(d) != (d.w - d.alpha) as u64 {
-        return Verdict::Refused(Cause::CutSum);
+        return Err(Cause::CutSum);
     }
-    Verdict::Passed
+    Ok(())
 }
 
 // Whether the design is legal, or the first refusal.
-pub fn design_verdict(d: Design) -> Verdict
+pub fn design_verdict(d: Design) -> Result<(), Cause>
     ensures { result ≡ design_verdict d }
 {
-    if let Verdict::Refused(cause) = width_verdict(limits_of(d.kind), d.kind, d.w, d.q, d.g) {
-        return Verdict::Refused(cause);
-    }
+    width_verdict(limits_of(d.kind), d.kind, d.w, d.q, d.g)?;
     cut_verdict(d)
 }

@@ -10,7 +10,7 @@ pub mod measure;
 
 use legal::design_verdict;
 use measure::budget_of;
-use refusal::{Cause, Verdict};
+use refusal::Cause;
 
 // One offset table: the top a bits of x choose the segment, b bits further down the place in it.
 #[derive(Clone, Copy)]
@@ -34,20 +34,11 @@ pub struct Design {
     pub pairs: [Pair; 4],
 }
 
-// What `budget` answers, and `sizing::size`.
-#[derive(Clone, Copy)]
-pub enum Measured {
-    Is(u64),
-    Refused(Cause),
-}
-
 // The budget of a legal design, or the refusal: 1 to 9.
-pub fn budget(d: Design) -> Measured
+pub fn budget(d: Design) -> Result<u64, Cause>
     ensures answer { result ≡ budget_answer d }
     ensures told { told_by result ≡ budget_told d }
 {
-    if let Verdict::Refused(cause) = design_verdict(d) {
-        return Measured::Refused(cause);
-    }
-    Measured::Is(budget_of(d))
+    design_verdict(d)?;
+    Ok(budget_of(d))
 }

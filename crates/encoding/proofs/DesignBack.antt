@@ -1,4 +1,5 @@
 -- A design and its frame 01: each is got back from the other.
+use Rattle.std.specs.Prelude.{Ok}
 use mathlib.Core.Path.{◌≡◌, refl, sym, ap, ◌∙◌}
 use mathlib.Core.Bool.{false}
 use mathlib.Core.List.{List, [], ◌∷◌}
@@ -8,7 +9,6 @@ use lib.ListN.{length, get_or, drop, length-drop, get_or-append}
 use lib.Seq.{ext_get_or, length-take-le, get_or-take, get_or-drop, drop-cons}
 use borrow.Author.Tests.{eqb-true, eq-eqb, lt-ltb, not-false}
 use Rattle.general.proofs.Tests.{neither}
-use Rattle.refusal.specs.declared.Verdict.{Verdict}
 use Rattle.refusal.specs.Checks.{verdict}
 use Rattle.design.specs.declared.Pair.{Pair}
 use Rattle.design.specs.declared.Design.{Design}
@@ -165,7 +165,7 @@ module _ (f : List ℕ) where
       )
 
 -- A frame that passes for the first of a set is the frame of the design that it holds.
-pub design-again : (f : List ℕ) → Short f → verdict (first_checks (with_sum f) (length (with_sum f))) ≡ Verdict.Passed
+pub design-again : (f : List ℕ) → Short f → verdict (first_checks (with_sum f) (length (with_sum f))) ≡ (Ok tt)
     → design_bytes (frame_design (with_sum f)) ≡ f
 unfolding design_bytes frame_design
 design-again f short passes =
@@ -203,7 +203,7 @@ module _ (d : Design) (legal : Legal d) where
       rw (eq-eqb _ _ count)
 
   pub design-passes : let bytes = with_sum (design_bytes d) in
-      Legal (frame_design bytes) → verdict (first_checks bytes (length bytes)) ≡ Verdict.Passed
+      Legal (frame_design bytes) → verdict (first_checks bytes (length bytes)) ≡ (Ok tt)
   design-passes read = first-frame-passes _ _ (record { due = design-due; legal = read })
 
   -- and the design is read from it again.

@@ -1,4 +1,5 @@
 -- Demand 3, whole: every admitted design, all filled tables, every input word.
+use Rattle.std.specs.Prelude.{Ok}
 use mathlib.Core.Path.{◌≡◌, refl, sym, ◌∙◌}
 use mathlib.Core.Bool.{false}
 use mathlib.Core.List.{List, [], ◌∷◌, ◌++◌, map}
@@ -11,7 +12,6 @@ use lib.Pow.{pow-add}
 use borrow.Author.Tests.{le-ltb, lt-leb}
 use Rattle.general.specs.Below.{sum_below}
 use Rattle.general.proofs.Sums.{signed-congruence}
-use Rattle.refusal.specs.declared.Verdict.{Verdict}
 use Rattle.refusal.specs.Checks.{verdict}
 use Rattle.refusal.proofs.Checks.{verdict-append}
 use Rattle.values.specs.Inputs.{InRange}
@@ -33,7 +33,6 @@ use Rattle.tables.specs.Set.{set_checks}
 use Rattle.tables.proofs.SetLaws.{set-passed}
 use Rattle.filling.specs.Fill.{Filled, stored_offset}
 use Rattle.filling.proofs.EntryLaws as EntryLaws
-use Rattle.evaluating.specs.declared.Evaluated.{Evaluated}
 use Rattle.evaluating.specs.declared.Batched.{Batched}
 use Rattle.evaluating.specs.Evaluate.{word_checks, evaluate_verdict, evaluate_answer}
 use Rattle.evaluating.specs.Batch.{output_check, room_verdict, place_verdict, batch_answer, output_after}
@@ -126,11 +125,11 @@ module _ (d : Design) (admitted : Admitted d) (x : ℕ) (x_lt : x < 2 ^ d.w) whe
     unfolding sum_outside
     not-outside = rw (sum_is, le-ltb (plus - minus) 0 (omega arith), lt-leb _ _ in-range)
 
-    pub passes : verdict (word_checks d initial offsets x) ≡ Verdict.Passed
+    pub passes : verdict (word_checks d initial offsets x) ≡ (Ok tt)
     unfolding word_checks word_check
     passes = rw (lt-leb _ _ x_lt, not-outside)
 
-    alone : evaluate_answer d initial offsets x ≡ Evaluated.Word (record { 0 = word_at d initial offsets x })
+    alone : evaluate_answer d initial offsets x ≡ Ok (record { 0 = word_at d initial offsets x })
     unfolding evaluate_answer evaluate_verdict
     alone = rw (verdict-append, set-passed d _ _ (usable-set d admitted initial offsets filled), passes)
 
@@ -156,7 +155,7 @@ module _ (d : Design) (admitted : Admitted d) (x : ℕ) (x_lt : x < 2 ^ d.w) whe
         }
 
 module _ (d : Design) (admitted : Admitted d) (initial : List ℕ) (offsets : List ℤ) (filled : Filled d initial offsets) where
-  set-passes : verdict (set_checks d (length initial) (length offsets)) ≡ Verdict.Passed
+  set-passes : verdict (set_checks d (length initial) (length offsets)) ≡ (Ok tt)
   set-passes = set-passed d _ _ (usable-set d admitted initial offsets filled)
 
   check-holds : check_answer d initial offsets ≡ Checked.Faithful
@@ -170,7 +169,7 @@ module _ (d : Design) (admitted : Admitted d) (initial : List ℕ) (offsets : Li
 
   module _ (words output : List ℕ) (in-range : (n : ℕ) → n < length words → get_or words n 0 < 2 ^ d.w)
       (room : length words ≤ length output) where
-    place-passes : (n : ℕ) → n < length words → place_verdict d initial offsets words n ≡ Verdict.Passed
+    place-passes : (n : ℕ) → n < length words → place_verdict d initial offsets words n ≡ (Ok tt)
     unfolding place_verdict
     place-passes n h = passes d admitted (get_or words n 0) (in-range n h) initial offsets filled
 

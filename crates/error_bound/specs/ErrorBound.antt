@@ -1,6 +1,5 @@
 -- Demand 3, as document 01 states it in "Evaluating and checking".
-use Rattle.std.specs.Prelude.{◌≡◌, List, ◌++◌, map, ℕ, ◌+◌, ◌-◌, ◌*◌, ◌/◌, ◌^◌, ◌≤◌, ◌<◌, length, get_or, drop, ℤ, pos}
-use Rattle.refusal.specs.declared.Verdict.{Verdict}
+use Rattle.std.specs.Prelude.{◌≡◌, List, ◌++◌, map, ℕ, ◌+◌, ◌-◌, ◌*◌, ◌/◌, ◌^◌, ◌≤◌, ◌<◌, length, get_or, drop, ℤ, pos, Ok}
 use Rattle.values.specs.Exact.{AtMost, AtLeast}
 use Rattle.values.specs.Faithful.{Faithful}
 use Rattle.values.specs.Document.{Between}
@@ -9,7 +8,6 @@ use Rattle.design.specs.Cut.{row, fraction_bits}
 use Rattle.design.specs.Budget.{budget, Admitted}
 use Rattle.tables.specs.Sum.{sum_at, word_at}
 use Rattle.filling.specs.Fill.{fill_verdict, initial_after, offsets_after, Filled}
-use Rattle.evaluating.specs.declared.Evaluated.{Evaluated}
 use Rattle.evaluating.specs.declared.Batched.{Batched}
 use Rattle.evaluating.specs.Evaluate.{evaluate_answer}
 use Rattle.evaluating.specs.Batch.{batch_answer, output_after}
@@ -37,7 +35,7 @@ pub record WordHolds (d : Design) (initial : List ℕ) (offsets : List ℤ) (x :
   pub in-range : Y < 2 ^ (fraction_bits d + 2)
   pub word : word_at d initial offsets x ≡ Y / 2 ^ d.g
   -- "evaluation accepts x", with this word
-  pub alone : evaluate_answer d initial offsets x ≡ Evaluated.Word (record { 0 = word_at d initial offsets x })
+  pub alone : evaluate_answer d initial offsets x ≡ Ok (record { 0 = word_at d initial offsets x })
   -- "this word is faithful and meets the second bound", in one form for all kinds
   pub faithful : Faithful (row d) d.w d.q (2 ^ d.w + x) (word_at d initial offsets x)
   pub bound : SecondBound d (2 ^ d.w + x) (word_at d initial offsets x)
@@ -62,7 +60,7 @@ pub record Holds (d : Design) : Type 0 where
       → ((n : ℕ) → n < length words → get_or words n 0 < 2 ^ d.w) → length words ≤ length output
       → BatchHolds d initial offsets words output
   pub check : (initial : List ℕ) (offsets : List ℤ) → Filled d initial offsets → check_answer d initial offsets ≡ Checked.Faithful
-  pub fill : (initial : List ℕ) (offsets : List ℤ) → fill_verdict d (length initial) (length offsets) ≡ Verdict.Passed
+  pub fill : (initial : List ℕ) (offsets : List ℤ) → fill_verdict d (length initial) (length offsets) ≡ (Ok tt)
       → Filled d (initial_after d initial offsets) (offsets_after d initial offsets)
 
 -- "Demand 3 is one statement: for every admitted design, all lent tables that begin with the entries the fill writes for it, and every

@@ -7,15 +7,15 @@ ghost use Rattle.set_console.specs.Reading.{HoldsEverySet};
 use console::{BLOCK, Console, TURNS};
 use design::Design;
 use design::limits::{MOST_INITIAL, MOST_OFFSETS};
-use evaluating::{Evaluated, evaluate};
+use evaluating::evaluate;
 use set_console::{is_set, put_end, read_set, start};
-use word_text::{ReadWord, WordText};
+use word_text::WordText;
 
 // What stands on the next line, if there is one. A last line without a newline counts.
 #[derive(Clone, Copy)]
 struct WordLine {
     console: Console,
-    word: ReadWord,
+    word: Option<u32>,
     missing: bool,
 }
 
@@ -62,14 +62,14 @@ fn put_evaluated(
     rt: &impl Print,
     console: Console,
     output: &mut [u8],
-    evaluated: Evaluated,
+    evaluated: Result<OutputUnits, Cause>,
 ) -> Console {
     match evaluated {
-        Evaluated::Word(word) => {
+        Ok(word) => {
             let number = console.put_decimal(rt, output, word.0 as u64);
             number.put(rt, output, b"\n")
         }
-        Evaluated::Refused(cause) => console.put_refused(rt, output, cause),
+        Err(cause) => console.put_refused(rt, output, cause),
     }
 }
 
@@ -80,11 +80,11 @@ fn answer(
     d: Design,
     initial: &[u32],
     offsets: &[i32],
-    word: ReadWord,
+    word: Option<u32>,
 ) -> Console {
     match word {
-        ReadWord::Word(x) => put_evaluated(rt, console, output, evaluate(d, initial, offsets, x)),
-        ReadWord::NotAWord => console.put(rt, output, b"NOT A WORD\n"),
+        Some(x) => put_evaluated(rt, console, output, evaluate(d, initial, offsets, x)),
+        None => console.put(rt, output, b"NOT A WORD\n"),
     }
 }
 

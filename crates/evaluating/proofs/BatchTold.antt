@@ -1,5 +1,6 @@
 -- What a batch's answer tells: the number of the first check, of all in their order, that fails, with the place of the lowest bad word, or
 -- how many words there are.
+use Rattle.std.specs.Prelude.{Ok, Err}
 use mathlib.Core.Path.{◌≡◌, refl, sym, ap, ◌∙◌}
 use mathlib.Core.Bool.{cond, ◌&&◌}
 use mathlib.Core.List.{List, [], ◌∷◌, ◌++◌}
@@ -10,7 +11,7 @@ use lib.Dec.{eqb}
 use borrow.Author.Tests.{eq-eqb, ne_eqb}
 use lib.IntN.{ℤ}
 use lib.ListN.{length, get_or}
-use Rattle.refusal.specs.declared.Verdict.{Verdict}
+use Rattle.refusal.specs.Verdict.{Verdict}
 use Rattle.refusal.specs.Numbers.{number_of}
 use Rattle.refusal.specs.Checks.{Check, verdict, passes}
 use Rattle.refusal.specs.Told.{accepted, refused, told_at}
@@ -37,12 +38,12 @@ use Rattle.evaluating.specs.Batch.{
 
 -- The refusal of a batch's answer, without its place
 abbrev refusal : Batched → Verdict
-refusal (Batched.Count count) = Verdict.Passed
-refusal (Batched.Refused cause place) = Verdict.Refused cause
+refusal (Batched.Count count) = (Ok tt)
+refusal (Batched.Refused cause place) = Err cause
 
 more-refusal : (before : Batched) (word : Verdict) (n : ℕ) → refusal (with_word before word n) ≡ after (refusal before) word
-more-refusal (Batched.Count count) Verdict.Passed n = refl
-more-refusal (Batched.Count count) (Verdict.Refused cause) n = refl
+more-refusal (Batched.Count count) (Ok tt) n = refl
+more-refusal (Batched.Count count) (Err cause) n = refl
 more-refusal (Batched.Refused cause place) word n = refl
 
 -- It is that of all checks in their order.
@@ -61,8 +62,8 @@ Placed n before (Batched.Refused cause place) = (place ≡ before) × (before < 
 
 more-placed : (n before : ℕ) (answer : Batched) (word : Verdict) → Placed n before answer
     → Placed (suc n) (cond (eqb before n && passes word) (suc n) before) (with_word answer word n)
-more-placed n before (Batched.Count count) Verdict.Passed p = rw (eq-eqb before n p.1) (refl, refl)
-more-placed n before (Batched.Count count) (Verdict.Refused cause) p = rw (eq-eqb before n p.1) (sym p.1, rw p.1 (le_refl _))
+more-placed n before (Batched.Count count) (Ok tt) p = rw (eq-eqb before n p.1) (refl, refl)
+more-placed n before (Batched.Count count) (Err cause) p = rw (eq-eqb before n p.1) (sym p.1, rw p.1 (le_refl _))
 more-placed n before (Batched.Refused cause place) word p = rw (ne_eqb before n (λ e. omega (arith, p.1))) (p.0, le_step p.1)
 
 words_placed : (n : ℕ) (word : ℕ → Verdict) → Placed n (passing n word) (batch_below n word)
@@ -72,9 +73,9 @@ words_placed (suc n) word = more-placed n (passing n word) (batch_below n word) 
 
 placed-told : (n before : ℕ) (room : Verdict) (answer : Batched) → Placed n before answer
     → told_by (after_room room answer) ≡ told_at (after room (refusal answer)) (place_if room before) n
-placed-told n before (Verdict.Refused cause) answer p = refl
-placed-told n before Verdict.Passed (Batched.Count count) p = ap accepted p.0
-placed-told n before Verdict.Passed (Batched.Refused cause place) p = ap (refused (number_of cause)) p.0
+placed-told n before (Err cause) answer p = refl
+placed-told n before (Ok tt) (Batched.Count count) p = ap accepted p.0
+placed-told n before (Ok tt) (Batched.Refused cause place) p = ap (refused (number_of cause)) p.0
 
 pub batch-told : (d : Design) (initial : List ℕ) (offsets : List ℤ) (words : List ℕ) (output : ℕ)
     → told_by (batch_answer d initial offsets words output) ≡ batch_told d initial offsets words output

@@ -1,4 +1,5 @@
 -- What refusals 12 and 13 of a word come to, and what a word that passes them tells.
+use Rattle.std.specs.Prelude.{Ok, Err}
 use mathlib.Core.Path.{◌≡◌, refl}
 use mathlib.Core.Bool.{true, false}
 use mathlib.Core.List.{List}
@@ -7,32 +8,31 @@ use native.Mathlib.Omega.{arith}
 use lib.IntN.{ℤ}
 use borrow.Author.Tests.{leb-false, le-leb, lt-leb}
 use Rattle.refusal.specs.declared.Cause.{Cause}
-use Rattle.refusal.specs.declared.Verdict.{Verdict}
+use Rattle.refusal.specs.Verdict.{Verdict}
 use Rattle.refusal.specs.Checks.{verdict}
 use Rattle.refusal.proofs.Checks.{none-fails}
 use Rattle.values.specs.declared.OutputUnits.{OutputUnits}
 use Rattle.values.specs.Value.{word_check}
 use Rattle.design.specs.declared.Design.{Design}
 use Rattle.tables.specs.Sum.{sum_at, sum_outside}
-use Rattle.evaluating.specs.declared.Evaluated.{Evaluated}
 use Rattle.evaluating.specs.Evaluate.{word_checks, evaluated}
 
 module _ (d : Design) (initial : List ℕ) (offsets : List ℤ) (x : ℕ) where
-  pub word-past : 2 ^ d.w ≤ x → verdict (word_checks d initial offsets x) ≡ Verdict.Refused Cause.WordRange
+  pub word-past : 2 ^ d.w ≤ x → verdict (word_checks d initial offsets x) ≡ Err Cause.WordRange
   unfolding word_checks word_check
   word-past h = rw (le-leb _ _ h)
 
   pub sum-refused : x < 2 ^ d.w → sum_outside d (sum_at d initial offsets x) ≡ true
-      → verdict (word_checks d initial offsets x) ≡ Verdict.Refused Cause.SumRange
+      → verdict (word_checks d initial offsets x) ≡ Err Cause.SumRange
   unfolding word_checks word_check
   sum-refused h e = rw (lt-leb _ _ h, e)
 
   pub word-passed : x < 2 ^ d.w → sum_outside d (sum_at d initial offsets x) ≡ false
-      → verdict (word_checks d initial offsets x) ≡ Verdict.Passed
+      → verdict (word_checks d initial offsets x) ≡ (Ok tt)
   unfolding word_checks word_check
   word-passed h e = rw (lt-leb _ _ h, e)
 
-  pub passed-word : verdict (word_checks d initial offsets x) ≡ Verdict.Passed
+  pub passed-word : verdict (word_checks d initial offsets x) ≡ (Ok tt)
       → (x < 2 ^ d.w) × (sum_outside d (sum_at d initial offsets x) ≡ false)
   unfolding word_checks word_check
   passed-word e =
@@ -40,10 +40,10 @@ module _ (d : Design) (initial : List ℕ) (offsets : List ℤ) (x : ℕ) where
       (leb-false _ _ none.0, none.1.0)
 
 -- The answer for a word tells its verdict.
-pub evaluated_refused : (v : Verdict) (word : ℕ) {cause : Cause} → evaluated v word ≡ Evaluated.Refused cause → v ≡ Verdict.Refused cause
-evaluated_refused Verdict.Passed word e = let z : ◌≡◌ {A = ℕ} 0 1 = cc in absurd (omega arith)
-evaluated_refused (Verdict.Refused cause) word e = cc
+pub evaluated_refused : (v : Verdict) (word : ℕ) {cause : Cause} → evaluated v word ≡ Err cause → v ≡ Err cause
+evaluated_refused (Ok tt) word e = let z : ◌≡◌ {A = ℕ} 0 1 = cc in absurd (omega arith)
+evaluated_refused (Err cause) word e = cc
 
-pub evaluated-word : (v : Verdict) (word : ℕ) {units : OutputUnits} → evaluated v word ≡ Evaluated.Word units → v ≡ Verdict.Passed
-evaluated-word Verdict.Passed word e = refl
-evaluated-word (Verdict.Refused cause) word e = let z : ◌≡◌ {A = ℕ} 0 1 = cc in absurd (omega arith)
+pub evaluated-word : (v : Verdict) (word : ℕ) {units : OutputUnits} → evaluated v word ≡ Ok units → v ≡ (Ok tt)
+evaluated-word (Ok tt) word e = refl
+evaluated-word (Err cause) word e = let z : ◌≡◌ {A = ℕ} 0 1 = cc in absurd (omega arith)

@@ -1,7 +1,7 @@
 -- What the call `evaluate_batch` answers, "for a batch 14, then 12 and 13 word by word", and what it leaves in the output.
-use Rattle.std.specs.Prelude.{cond, ◌&&◌, List, [], ◌∷◌, ◌++◌, map, ℕ, zero, suc, eqb, ltb, length, get_or, drop, ℤ}
+use Rattle.std.specs.Prelude.{cond, ◌&&◌, List, [], ◌∷◌, ◌++◌, map, ℕ, zero, suc, eqb, ltb, length, get_or, drop, ℤ, Ok, Err}
 use Rattle.refusal.specs.declared.Cause.{Cause}
-use Rattle.refusal.specs.declared.Verdict.{Verdict}
+use Rattle.refusal.specs.Verdict.{Verdict}
 use Rattle.refusal.specs.Numbers.{number_of}
 use Rattle.refusal.specs.Checks.{Check, ◌↝◌, verdict, if_passed, passes}
 use Rattle.refusal.specs.Told.{Told, accepted, refused, told_at}
@@ -23,8 +23,8 @@ room_verdict d initial offsets words output =
 -- "all evaluated or all refused, at its lowest bad place": the answer for n words, then for one more
 abbrev pub with_word : Batched → Verdict → ℕ → Batched
 with_word (Batched.Refused cause place) word n = Batched.Refused cause place
-with_word (Batched.Count count) (Verdict.Refused cause) n = Batched.Refused cause n
-with_word (Batched.Count count) Verdict.Passed n = Batched.Count (suc n)
+with_word (Batched.Count count) (Err cause) n = Batched.Refused cause n
+with_word (Batched.Count count) (Ok tt) n = Batched.Count (suc n)
 
 -- The answer for the first n words, by each word's verdict. ".. an accepted batch returns its number of words, 0 for an empty one."
 unfoldable pub batch_below : ℕ → (ℕ → Verdict) → Batched

@@ -17,18 +17,11 @@ use design::Design;
 use design::measure::offset_total;
 use general::pow2;
 use range::{sums_in_range, width_answer};
-use refusal::{Cause, Verdict};
+use refusal::Cause;
 use tables::lookups::{Lookups, lookups_of};
 use tables::set_verdict;
 use tables::sums::{sum_of, sum_outside, word_of};
 use values::OutputUnits;
-
-// What `evaluate` answers.
-#[derive(Clone, Copy)]
-pub enum Evaluated {
-    Word(OutputUnits),
-    Refused(Cause),
-}
 
 // What `evaluate_batch` answers: how many words, or the cause and the place of the lowest bad one (0 if no word is the cause).
 #[derive(Clone, Copy)]
@@ -38,44 +31,40 @@ pub enum Batched {
 }
 
 // Refusals 12 and 13 of a word, or the word itself: one sum, m + 1 lookups.
-fn word_answer(d: Design, lookups: Lookups, initial: &[u32], offsets: &[i32], x: u32) -> Evaluated
+fn word_answer(d: Design, lookups: Lookups, initial: &[u32], offsets: &[i32], x: u32) -> Result<OutputUnits, Cause>
     requires usable { Usable d (length initial.now) (length offsets.now) }
     requires lookups_value { lookups ≡ lookups_of d }
     ensures { result ≡ evaluated (verdict (word_checks d initial.now offsets.now x))
         (word_at d initial.now offsets.now x) }
 {
     if pow2(d.w) <= x as u64 {
-        return Evaluated::Refused(Cause::WordRange);
+        return Err(Cause::WordRange);
     }
     let sum = sum_of(d, lookups, initial, offsets, x);
     if sum_outside(d, sum) {
-        return Evaluated::Refused(Cause::SumRange);
+        return Err(Cause::SumRange);
     }
-    Evaluated::Word(word_of(d, sum))
+    Ok(word_of(d, sum))
 }
 
 // The word that x gets, or the first refusal.
-pub fn evaluate(d: Design, initial: &[u32], offsets: &[i32], x: u32) -> Evaluated
+pub fn evaluate(d: Design, initial: &[u32], offsets: &[i32], x: u32) -> Result<OutputUnits, Cause>
     ensures answer { result ≡ evaluate_answer d initial.now offsets.now x }
     ensures told { Evaluate.told_by result ≡ evaluate_told d initial.now offsets.now x }
 {
-    if let Verdict::Refused(cause) = set_verdict(d, initial.len(), offsets.len()) {
-        return Evaluated::Refused(cause);
-    }
+    set_verdict(d, initial.len(), offsets.len())?;
     word_answer(d, lookups_of(d), initial, offsets, x)
 }
 
 // Refusals 1 to 10 and 14 of a batch: what is tried once, before any of its words.
-fn room_verdict(d: Design, initial: &[u32], offsets: &[i32], words: usize, output: usize) -> Verdict
+fn room_verdict(d: Design, initial: &[u32], offsets: &[i32], words: usize, output: usize) -> Result<(), Cause>
     ensures { result ≡ room_verdict d initial.now offsets.now words output }
 {
-    if let Verdict::Refused(cause) = set_verdict(d, initial.len(), offsets.len()) {
-        return Verdict::Refused(cause);
-    }
+    set_verdict(d, initial.len(), offsets.len())?;
     if output < words {
-        return Verdict::Refused(Cause::OutputShort);
+        return Err(Cause::OutputShort);
     }
-    Verdict::Passed
+    Ok(())
 }
 
 // Each word in turn, with its sum: how many words there are, or the lowest that is refused.
@@ -92,7 +81,7 @@ fn summed_verdict(
         (place_verdict d initial.now offsets.now words.now) }
 {
     for i in 0..words.len() {
-        if let Evaluated::Refused(cause) = word_answer(d, lookups, initial, offsets, words[i]) {
+        if let Err(cause) = word_answer(d, lookups, initial, offsets, words[i]) {
             return Batched::Refused(cause, i);
         }
     }
@@ -124,7 +113,7 @@ fn words_verdict(
 fn word(d: Design, lookups: Lookups, initial: &[u32], offsets: &[i32], x: u32) -> OutputUnits
     requires usable { Usable d (length initial.now) (length offsets.now) }
     requires lookups_value { lookups ≡ lookups_of d }
-    requires x_value { verdict (word_checks d initial.now offsets.now x) ≡ Verdict.Passed }
+    requires x_value { verdict (word_checks d initial.now offsets.now x) ≡ Ok tt }
     ensures { result ≡ record { 0 = word_at d initial.now offsets.now x } }
 {
     word_of(d, sum_of(d, lookups, initial, offsets, x))
@@ -141,7 +130,7 @@ fn write_words(
 )
     requires usable { Usable d (length initial.now) (length offsets.now) }
     requires lookups_value { lookups ≡ lookups_of d }
-    requires by_index { (i : ℕ) → i < length words.now → place_verdict d initial.now offsets.now words.now i ≡ Verdict.Passed }
+    requires by_index { (i : ℕ) → i < length words.now → place_verdict d initial.now offsets.now words.now i ≡ Ok tt }
     requires words_in_bounds { length words.now ≤ length output.old }
     ensures { output.new ≡ map (word_at d initial.now offsets.now) words.now
         ++ drop (length words.now) output.old }
@@ -167,7 +156,7 @@ pub fn evaluate_batch(
     ensures told { Batch.told_by result
         ≡ batch_told d initial.now offsets.now words.now (length output.old) }
 {
-    if let Verdict::Refused(cause) = room_verdict(d, initial, offsets, words.len(), output.len()) {
+    if let Err(cause) = room_verdict(d, initial, offsets, words.len(), output.len()) {
         return Batched::Refused(cause, 0);
     }
     let lookups = lookups_of(d);

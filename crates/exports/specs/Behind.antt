@@ -1,7 +1,7 @@
 -- What stands behind the pointer of a call afterwards, by what the call tells: the answer, or where it was refused what stood there
 -- before; a batch's place is stored in either case.
 use Rattle.std.specs.Prelude.{Bool, List, [], ◌∷◌, ◌++◌, ℕ, ◌^◌, length, ℤ}
-use Rattle.refusal.specs.declared.Verdict.{Verdict}
+use Rattle.refusal.specs.Verdict.{Verdict}
 use Rattle.refusal.specs.Checks.{verdict}
 use Rattle.refusal.specs.Told.{Told, accepted, refused, told}
 use Rattle.values.specs.declared.FloorValue.{FloorValue}

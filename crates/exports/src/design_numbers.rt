@@ -55,7 +55,7 @@ pub fn verdict_number(verdict: Verdict) -> u8
     ensures { result ≡ verdict_number verdict }
 {
     match verdict {
-        Verdict::Passed => 0,
-        Verdict::Refused(cause) => number(cause),
+        Ok(()) => 0,
+        Err(cause) => number(cause),
     }
 }

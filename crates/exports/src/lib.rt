@@ -23,18 +23,17 @@ mod line_calls;
 mod record_calls;
 
 use checking::{Checked, check};
-use counting::{Counted, count};
-use design::Measured;
+use counting::count;
 use design_numbers::{design_of, put_design, verdict_number};
-use evaluating::{Batched, Evaluated, evaluate, evaluate_batch};
+use evaluating::{evaluate, evaluate_batch};
 use filling::fill;
 use general::pow2;
-use refusal::{Cause, Verdict, number};
+use refusal::{Cause, number};
 use searching::smallest;
 use tables::lookups::lookups_of;
 use tables::set_verdict;
 use tables::sums::sum_of;
-use values::{Valued, value};
+use values::value;
 
 // The value, in table units, and whether the exact value is that whole number.
 #[unsafe(no_mangle)]
@@ -52,27 +51,27 @@ pub extern "C" fn dorykleth_value(
     ensures whole { whole.new ≡ whole_after (value_told kind w q g x) whole.old }
 {
     match value(kind, w, q, g, x) {
-        Valued::Value(floor) => {
+        Ok(floor) => {
             let count = floor.units.0;
             *units = count;
             *whole = floor.whole;
             0
         }
-        Valued::Refused(cause) => number(cause),
+        Err(cause) => number(cause),
     }
 }
 
 // A budget or a size behind a pointer.
-fn put_measure(measured: Measured, place: &mut u64) -> u8
+fn put_measure(measured: Result<u64, Cause>, place: &mut u64) -> u8
     ensures value { result ≡ number_told (told_by measured) }
     ensures place_after { place.new ≡ behind (told_by measured) place.old }
 {
     match measured {
-        Measured::Is(measure) => {
+        Ok(measure) => {
             *place = measure;
             0
         }
-        Measured::Refused(cause) => number(cause),
+        Err(cause) => number(cause),
     }
 }
 
@@ -107,7 +106,7 @@ pub extern "C" fn dorykleth_smallest(
 {
     let found = smallest(kind, w, q);
     let verdict = found.verdict;
-    if let Verdict::Refused(cause) = verdict {
+    if let Err(cause) = verdict {
         return number(cause);
     }
     let best = found.best;
@@ -140,7 +139,7 @@ pub extern "C" fn dorykleth_sum(
         sum.old }
 {
     let d = design_of(design);
-    if let Verdict::Refused(cause) = set_verdict(d, initial.len(), offsets.len()) {
+    if let Err(cause) = set_verdict(d, initial.len(), offsets.len()) {
         return number(cause);
     }
     if pow2(d.w) <= x as u64 {
@@ -166,11 +165,11 @@ pub extern "C" fn dorykleth_evaluate(
         word.old }
 {
     match evaluate(design_of(design), initial, offsets, x) {
-        Evaluated::Word(units) => {
+        Ok(units) => {
             *word = units.0;
             0
         }
-        Evaluated::Refused(cause) => number(cause),
+        Err(cause) => number(cause),
     }
 }
 
@@ -229,7 +228,7 @@ pub extern "C" fn dorykleth_check(
             *first = x as u64;
             0
         }
-        Checked::Refused(cause) => number(cause),
+        Err(cause) => number(cause),
     }
 }
 
@@ -246,7 +245,7 @@ pub extern "C" fn dorykleth_count(
         counts.old }
 {
     match count(design_of(design), initial, offsets) {
-        Counted::Counts(found) => {
+        Ok(found) => {
             let five = [
                 found.outside,
                 found.nearest,
@@ -257,6 +256,6 @@ pub extern "C" fn dorykleth_count(
             *counts = five;
             0
         }
-        Counted::Refused(cause) => number(cause),
+        Err(cause) => number(cause),
     }
 }

@@ -12,7 +12,7 @@ use crate::design_numbers::{design_of, put_design, verdict_number};
 use reading::Reading;
 use refusal::number;
 use report_text::report;
-use writing::{Written, write_line};
+use writing::write_line;
 
 #[unsafe(no_mangle)]
 pub extern "C" fn dorykleth_write_line(
@@ -34,11 +34,11 @@ pub extern "C" fn dorykleth_write_line(
         digits.old }
 {
     match write_line(design_of(design), initial, offsets, line_number, line) {
-        Written::Length(count) => {
+        Ok(count) => {
             *digits = count;
             0
         }
-        Written::Refused(cause) => number(cause),
+        Err(cause) => number(cause),
     }
 }
 

@@ -11,7 +11,6 @@ use crate::design_numbers::{design_of, verdict_number};
 use record_reading::HexReading;
 use record_writing::write_record;
 use refusal::number;
-use writing::Written;
 
 #[unsafe(no_mangle)]
 pub extern "C" fn dorykleth_write_record(
@@ -33,11 +32,11 @@ pub extern "C" fn dorykleth_write_record(
         characters.old }
 {
     match write_record(design_of(design), initial, offsets, record_number, record) {
-        Written::Length(count) => {
+        Ok(count) => {
             *characters = count;
             0
         }
-        Written::Refused(cause) => number(cause),
+        Err(cause) => number(cause),
     }
 }
 

@@ -1,4 +1,5 @@
 -- The entries that the fill writes: how many there are, which stands where, and that an accepted fill leaves filled tables.
+use Rattle.std.specs.Prelude.{Ok}
 use mathlib.Core.Path.{◌≡◌, refl, sym, ◌∙◌}
 use mathlib.Core.List.{List, [], ◌∷◌}
 use Prim.Native.Nat.{ℕ, zero, suc, ◌+◌, ◌*◌, ◌≤◌, ◌<◌}
@@ -12,7 +13,6 @@ use Rattle.general.specs.Below.{sum_below}
 use Rattle.general.proofs.WritingLaws.{kept-length}
 use Rattle.general.proofs.ListLaws.{list_length, list_at}
 use Rattle.general.proofs.Sums.{below_suc}
-use Rattle.refusal.specs.declared.Verdict.{Verdict}
 use Rattle.refusal.proofs.Checks.{passed-append}
 use Rattle.design.specs.declared.Design.{Design}
 use Rattle.design.specs.Stored.{initial_count, offset_count, table_start, offset_total, stored_count, stored_place}
@@ -73,11 +73,11 @@ module _ (d : Design) where
 
 -- "an accepted fill leaves such tables"
 module _ (d : Design) (initial : List ℕ) (offsets : List ℤ) where
-  pub fill-usable : fill_verdict d (length initial) (length offsets) ≡ Verdict.Passed → Usable d (length initial) (length offsets)
+  pub fill-usable : fill_verdict d (length initial) (length offsets) ≡ (Ok tt) → Usable d (length initial) (length offsets)
   unfolding fill_verdict
   fill-usable e = usable d _ _ (passed-append (set_checks d _ _) (admitted_check d ∷ []) e).0
 
-  pub filled : fill_verdict d (length initial) (length offsets) ≡ Verdict.Passed
+  pub filled : fill_verdict d (length initial) (length offsets) ≡ (Ok tt)
       → Filled d (initial_after d initial offsets) (offsets_after d initial offsets)
   unfolding initial_after offsets_after offset_entries offset_total
   filled e =

@@ -1,4 +1,5 @@
 -- What the checks of the fill come to, and what its answer promises of the tables.
+use Rattle.std.specs.Prelude.{Ok, Err}
 use mathlib.Core.Path.{◌≡◌, refl, ◌∙◌}
 use mathlib.Core.List.{List}
 use Prim.Native.Nat.{ℕ, ◌≤◌, ◌<◌}
@@ -7,7 +8,7 @@ use lib.ListN.{length}
 use Rattle.general.specs.Lists.{over}
 use Rattle.general.proofs.WritingLaws.{over-start}
 use Rattle.refusal.specs.declared.Cause.{Cause}
-use Rattle.refusal.specs.declared.Verdict.{Verdict}
+use Rattle.refusal.specs.Verdict.{Verdict}
 use Rattle.refusal.specs.Numbers.{verdict_number}
 use Rattle.refusal.specs.Checks.{verdict}
 use Rattle.design.specs.declared.Design.{Design}
@@ -18,17 +19,17 @@ use Rattle.filling.specs.Fill.{fill_verdict, initial_entries, offset_entries, in
 
 -- "fill 1 to 11"
 module _ (d : Design) (initial offsets : ℕ) where
-  pub refused-before : {cause : Cause} → verdict (set_checks d initial offsets) ≡ Verdict.Refused cause
-      → fill_verdict d initial offsets ≡ Verdict.Refused cause
+  pub refused-before : {cause : Cause} → verdict (set_checks d initial offsets) ≡ Err cause
+      → fill_verdict d initial offsets ≡ Err cause
   unfolding fill_verdict
   refused-before e = AdmittedLaws.refused-before d (set_checks d initial offsets) _ e
 
-  module _ (passed : verdict (set_checks d initial offsets) ≡ Verdict.Passed) where
-    pub not-admitted : limit d ≤ budget d → fill_verdict d initial offsets ≡ Verdict.Refused Cause.NotAdmitted
+  module _ (passed : verdict (set_checks d initial offsets) ≡ (Ok tt)) where
+    pub not-admitted : limit d ≤ budget d → fill_verdict d initial offsets ≡ Err Cause.NotAdmitted
     unfolding fill_verdict
     not-admitted = AdmittedLaws.not-admitted d (set_checks d initial offsets) passed
 
-    pub admitted : budget d < limit d → fill_verdict d initial offsets ≡ Verdict.Passed
+    pub admitted : budget d < limit d → fill_verdict d initial offsets ≡ (Ok tt)
     unfolding fill_verdict
     admitted = AdmittedLaws.admitted d (set_checks d initial offsets) passed
 
@@ -41,14 +42,14 @@ module _ (d : Design) (initial : List ℕ) (offsets : List ℤ) where
       × ((verdict_number r ≡ verdict_number answer)
       × ((initial' ≡ initial_after d initial offsets) × (offsets' ≡ offsets_after d initial offsets)))
 
-  pub refuses : {cause : Cause} → fill_verdict d (length initial) (length offsets) ≡ Verdict.Refused cause
-      → Promised (Verdict.Refused cause) initial offsets
+  pub refuses : {cause : Cause} → fill_verdict d (length initial) (length offsets) ≡ Err cause
+      → Promised (Err cause) initial offsets
   unfolding initial_after offsets_after
   refuses e = rw e (refl, (refl, (refl, refl)))
 
-  pub fills : {initial' : List ℕ} {offsets' : List ℤ} → fill_verdict d (length initial) (length offsets) ≡ Verdict.Passed
+  pub fills : {initial' : List ℕ} {offsets' : List ℤ} → fill_verdict d (length initial) (length offsets) ≡ (Ok tt)
       → initial' ≡ over initial 0 (initial_entries d) → offsets' ≡ over offsets 0 (offset_entries d)
-      → Promised Verdict.Passed initial' offsets'
+      → Promised (Ok tt) initial' offsets'
   unfolding initial_after offsets_after
   fills e initial-is offsets-is =
       rw e (refl, (refl, (initial-is ∙ over-start initial (initial_entries d), offsets-is ∙ over-start offsets (offset_entries d))))

@@ -1,7 +1,7 @@
 -- What the call `fill` answers, "fill 1 to 11", and what it leaves in the tables, for any that are lent.
 use Rattle.std.specs.Prelude.{◌≡◌, List, [], ◌∷◌, ◌++◌, ℕ, zero, suc, ◌/◌, ◌%◌, ◌^◌, ◌≤◌, ◌<◌, length, get_or, ℤ, pos}
 use Rattle.general.specs.Below.{list_below}
-use Rattle.refusal.specs.declared.Verdict.{Verdict}
+use Rattle.refusal.specs.Verdict.{Verdict}
 use Rattle.refusal.specs.Checks.{verdict, leaves}
 use Rattle.design.specs.declared.Design.{Design}
 use Rattle.design.specs.Cut.{a_of}

@@ -16,7 +16,7 @@ use design::legal::pair_at;
 use design::measure::{budget_of, limit_of};
 use entries::{initial_at, offset_of, slope_sum};
 use general::{mirrored, pow2};
-use refusal::{Cause, Verdict};
+use refusal::Cause;
 use tables::set_verdict;
 use values::rows::row_of;
 
@@ -98,19 +98,17 @@ fn fill_offsets(d: Design, offsets: &mut [i32])
 }
 
 // Fills both tables for an admitted design (document 01, "Filling"). Nothing is written before every check has passed.
-pub fn fill(d: Design, initial: &mut [u32], offsets: &mut [i32]) -> Verdict
+pub fn fill(d: Design, initial: &mut [u32], offsets: &mut [i32]) -> Result<(), Cause>
     ensures answer { result ≡ fill_verdict d (length initial.old) (length offsets.old) }
     ensures number { verdict_number result ≡ verdict_number (fill_verdict d (length initial.old) (length offsets.old)) }
     ensures initial_table { initial.new ≡ initial_after d initial.old offsets.old }
     ensures offset_tables { offsets.new ≡ offsets_after d initial.old offsets.old }
 {
-    if let Verdict::Refused(cause) = set_verdict(d, initial.len(), offsets.len()) {
-        return Verdict::Refused(cause);
-    }
+    set_verdict(d, initial.len(), offsets.len())?;
     if limit_of(d) <= budget_of(d) {
-        return Verdict::Refused(Cause::NotAdmitted);
+        return Err(Cause::NotAdmitted);
     }
     fill_initial(d, initial);
     fill_offsets(d, offsets);
-    Verdict::Passed
+    Ok(())
 }

@@ -1,4 +1,5 @@
 -- What is read from digits, by whether they fail: nothing, or their bytes.
+use Rattle.std.specs.Prelude.{Ok}
 use mathlib.Core.Path.{◌≡◌, refl, sym, ap, ◌∙◌}
 use mathlib.Core.Bool.{Bool, true, false, or-true}
 use mathlib.Core.List.{List, [], ◌∷◌}
@@ -6,7 +7,7 @@ use Prim.Native.Nat.{ℕ, ◌≤◌}
 use lib.ListN.{length, take}
 use lib.Seq.{take_all}
 use Rattle.refusal.specs.declared.Cause.{Cause}
-use Rattle.refusal.specs.declared.Verdict.{Verdict}
+use Rattle.refusal.specs.Verdict.{Verdict}
 use Rattle.refusal.specs.Checks.{◌↝◌, verdict}
 use Rattle.refusal.proofs.Checks.{none-fails}
 use Rattle.frames.specs.declared.Decoded.{Decoded}
@@ -18,10 +19,10 @@ abbrev pub kept_bytes : List ℕ → List ℕ
 kept_bytes digits = take capacity (bytes_of digits)
 
 abbrev pub kept : List ℕ → Decoded
-kept digits = record { verdict = Verdict.Passed; bytes = padded (kept_bytes digits); count = length (bytes_of digits) }
+kept digits = record { verdict = (Ok tt); bytes = padded (kept_bytes digits); count = length (bytes_of digits) }
 
 abbrev pub whole : List ℕ → Decoded
-whole digits = record { verdict = Verdict.Passed; bytes = padded (bytes_of digits); count = length (bytes_of digits) }
+whole digits = record { verdict = (Ok tt); bytes = padded (bytes_of digits); count = length (bytes_of digits) }
 
 module _ (fails : Bool) (cause : Cause) (digits : List ℕ) where
   -- Of digits that fail nothing is read, whatever they are.
@@ -43,13 +44,13 @@ module _ (fails : Bool) (cause : Cause) (digits : List ℕ) (held : Decoded) (he
   pub if-told : (v : Verdict) → held.verdict ≡ v → verdict (fails ↝ cause ∷ []) ≡ v
   if-told v e = sym (if-verdict fails cause digits) ∙ ap (λ (h : Decoded). h.verdict) (sym held-is) ∙ e
 
-  pub if-passed : held.verdict ≡ Verdict.Passed → fails ≡ false
-  if-passed e = (none-fails (fails ↝ cause ∷ []) (if-told Verdict.Passed e)).0
+  pub if-passed : held.verdict ≡ (Ok tt) → fails ≡ false
+  if-passed e = (none-fails (fails ↝ cause ∷ []) (if-told (Ok tt) e)).0
 
-  pub if_kept : held.verdict ≡ Verdict.Passed → held ≡ kept digits
+  pub if_kept : held.verdict ≡ (Ok tt) → held ≡ kept digits
   if_kept e = held-is ∙ if-accepted fails cause digits (if-passed e)
 
-  pub if-whole : held.verdict ≡ Verdict.Passed → length (bytes_of digits) ≤ capacity → held ≡ whole digits
+  pub if-whole : held.verdict ≡ (Ok tt) → length (bytes_of digits) ≤ capacity → held ≡ whole digits
   if-whole e room = if_kept e ∙ rw (take_all capacity (bytes_of digits) room)
 
 -- The tests of digits that refuse them, and those that together accept them

@@ -1,4 +1,5 @@
 -- What is known of digits once their first i bytes have been read: how they start, go on and end.
+use Rattle.std.specs.Prelude.{Ok}
 use mathlib.Core.Path.{◌≡◌, refl, sym, ap, ◌∙◌}
 use mathlib.Core.Logic.{◌⊎◌, ⊎_elim}
 use mathlib.Core.Bool.{true, false}
@@ -12,7 +13,6 @@ use borrow.Author.Tests.{eq-eqb, ne_eqb}
 use Rattle.general.specs.Lists.{total, over}
 use Rattle.general.proofs.WritingLaws.{over-start, over-next}
 use Rattle.refusal.specs.declared.Cause.{Cause}
-use Rattle.refusal.specs.declared.Verdict.{Verdict}
 use Rattle.frames.specs.Hex.{all_digits, bytes_of}
 use Rattle.frames.specs.Inputs.{EvenDigits}
 use Rattle.frames.specs.Line.{sum_fails, text_fails, capacity, padded, decoded_if}
@@ -134,7 +134,7 @@ module _ {digits bytes : List ℕ} {sum i : ℕ} (so_far : BytesRead digits byte
     sum-wrong h cause = if-refused (text_fails digits) cause digits (wrong-sum digits (sum-fails h))
 
     pub finished : sum % 256 ≡ 0 → (cause : Cause)
-        → record { verdict = Verdict.Passed; bytes = bytes; count = length digits / 2 } ≡ decoded_if (text_fails digits) cause digits
+        → record { verdict = (Ok tt); bytes = bytes; count = length digits / 2 } ≡ decoded_if (text_fails digits) cause digits
     finished h cause =
         let sound = sound-text digits all_sound (sum-right h) in
         sym (if-accepted (text_fails digits) cause digits sound ∙ rw (all-stored, byte-count))

@@ -1,10 +1,10 @@
 -- Zeros behind a frame change nothing: past its end a frame reads as zero anyway. What passes for the first frame of a set.
+use Rattle.std.specs.Prelude.{Ok}
 use mathlib.Core.Path.{◌≡◌, refl}
 use mathlib.Core.Bool.{false}
 use mathlib.Core.List.{List, [], ◌∷◌, ◌++◌}
 use Prim.Native.Nat.{ℕ, zero, suc, ◌-◌}
 use lib.ListN.{length, get_or, replicate}
-use Rattle.refusal.specs.declared.Verdict.{Verdict}
 use Rattle.refusal.specs.Checks.{verdict}
 use Rattle.refusal.proofs.Checks.{verdict-append, passed-append, none-fails}
 use Rattle.design.specs.Legal.{design_checks, design_verdict, Legal}
@@ -52,12 +52,12 @@ module _ (bytes : List ℕ) (count : ℕ) where
     pub due : frame_fails bytes count ≡ false
     pub legal : Legal (frame_design bytes)
 
-  pub first_frame : verdict (first_checks bytes count) ≡ Verdict.Passed → FirstFrame
+  pub first_frame : verdict (first_checks bytes count) ≡ (Ok tt) → FirstFrame
   unfolding first_checks frame_checks design_verdict
   first_frame e =
       let parts = passed-append (frame_checks bytes count) (design_checks (frame_design bytes)) e in
       record { due = (none-fails (frame_checks bytes count) parts.0).0; legal = parts.1 }
 
-  pub first-frame-passes : FirstFrame → verdict (first_checks bytes count) ≡ Verdict.Passed
+  pub first-frame-passes : FirstFrame → verdict (first_checks bytes count) ≡ (Ok tt)
   unfolding first_checks frame_checks design_verdict
   first-frame-passes f = rw (verdict-append, f.due, f.legal)

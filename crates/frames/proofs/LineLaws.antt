@@ -1,4 +1,5 @@
 -- Which tests of a line refuse it, and what it decodes to then and otherwise.
+use Rattle.std.specs.Prelude.{Ok}
 use mathlib.Core.Path.{◌≡◌}
 use mathlib.Core.Bool.{true, false, or-true}
 use mathlib.Core.List.{List, []}
@@ -9,7 +10,7 @@ use lib.ListN.{length}
 use borrow.Author.Tests.{lt-ltb, ltb-false, eqb-false}
 use Rattle.general.proofs.Tests.{neither}
 use Rattle.refusal.specs.declared.Cause.{Cause}
-use Rattle.refusal.specs.declared.Verdict.{Verdict}
+use Rattle.refusal.specs.Verdict.{Verdict}
 use Rattle.refusal.specs.Checks.{verdict}
 use Rattle.frames.specs.declared.Decoded.{Decoded}
 use Rattle.frames.specs.Hex.{bytes_of}
@@ -91,7 +92,7 @@ module _ (line : List ℕ) (held : Decoded) (held-is : held ≡ decoded line) wh
   unfolding line_checks
   line-told v e = if-told (line_fails line) Cause.Line line held by_tests v e
 
-  pub held_whole : held.verdict ≡ Verdict.Passed → held ≡ whole line
+  pub held_whole : held.verdict ≡ (Ok tt) → held ≡ whole line
   held_whole e =
       let fails = line_fails line in
       if-whole fails Cause.Line line held by_tests e (bytes-short line (if-passed fails Cause.Line line held by_tests e))

@@ -1,7 +1,7 @@
 -- A line that has to hold a design and stands by itself, as the report's does: "report 15, 16, 1 to 9". Document 02, A8, of an empty line:
 -- "the report still refuses it with 15".
 use Rattle.std.specs.Prelude.{List, ◌++◌, ℕ, length}
-use Rattle.refusal.specs.declared.Verdict.{Verdict}
+use Rattle.refusal.specs.Verdict.{Verdict}
 use Rattle.refusal.specs.Checks.{verdict}
 use Rattle.frames.specs.declared.DesignLine.{DesignLine}
 use Rattle.frames.specs.Hex.{bytes_of}

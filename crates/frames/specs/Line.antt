@@ -1,8 +1,7 @@
 -- Document 01, refusal 15, "empty, odd length, over 32 digits, other character, wrong sum", and what a sound line holds.
-use Rattle.std.specs.Prelude.{Bool, cond, not, ◌||◌, List, [], ◌∷◌, ◌++◌, ℕ, ◌-◌, ◌%◌, ltb, eqb, length, take, replicate}
+use Rattle.std.specs.Prelude.{Bool, cond, not, ◌||◌, List, [], ◌∷◌, ◌++◌, ℕ, ◌-◌, ◌%◌, ltb, eqb, length, take, replicate, Ok, Err}
 use Rattle.general.specs.Lists.{total}
 use Rattle.refusal.specs.declared.Cause.{Cause}
-use Rattle.refusal.specs.declared.Verdict.{Verdict}
 use Rattle.refusal.specs.Checks.{Check, ◌↝◌}
 use Rattle.frames.specs.declared.Decoded.{Decoded}
 use Rattle.frames.specs.Hex.{all_digits, bytes_of}
@@ -51,8 +50,8 @@ padded bytes = bytes ++ replicate (capacity - length bytes) 0
 unfoldable pub decoded_if : Bool → Cause → List ℕ → Decoded
 decoded_if fails cause digits =
     cond fails
-    (record { verdict = Verdict.Refused cause; bytes = padded []; count = 0 })
-    (record { verdict = Verdict.Passed; bytes = padded (take capacity (bytes_of digits)); count = length (bytes_of digits) })
+    (record { verdict = Err cause; bytes = padded []; count = 0 })
+    (record { verdict = (Ok tt); bytes = padded (take capacity (bytes_of digits)); count = length (bytes_of digits) })
 
 -- What the call `decode` answers: the bytes of a sound line, nothing of any other.
 unfoldable pub decoded : List ℕ → Decoded

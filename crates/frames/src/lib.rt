@@ -11,7 +11,7 @@ ghost use Rattle.frames.specs.DesignText.{design_line};
 
 use design::legal::design_verdict;
 use design::{Design, NO_PAIR, Pair};
-use refusal::{Cause, Verdict};
+use refusal::Cause;
 
 // The longest line, in digits.
 pub const LONGEST_LINE: usize = 32;
@@ -57,7 +57,7 @@ pub fn unsound(cause: Cause) -> Decoded
     ensures { result ≡ decoded_if true cause [] }
 {
     Decoded {
-        verdict: Verdict::Refused(cause),
+        verdict: Err(cause),
         bytes: [0; CAPACITY],
         count: 0,
     }
@@ -91,7 +91,7 @@ pub fn decode_digits(digits: &[u8], cause: Cause) -> Decoded
         return unsound(cause);
     }
     Decoded {
-        verdict: Verdict::Passed,
+        verdict: Ok(()),
         bytes,
         count,
     }
@@ -111,14 +111,14 @@ pub fn decode(line: &[u8]) -> Decoded
 }
 
 // The refusal 16 of a line that has to hold a design. A frame too short for its m fails too: fewer than 8 bytes are never due.
-fn frame_verdict(bytes: [u8; CAPACITY], count: usize) -> Verdict
+fn frame_verdict(bytes: [u8; CAPACITY], count: usize) -> Result<(), Cause>
     ensures { result ≡ verdict (frame_checks bytes count) }
 {
     let due = 8 + 2 * (bytes[6] as usize);
     if bytes[0] != 1 || count != due {
-        return Verdict::Refused(Cause::Frame);
+        return Err(Cause::Frame);
     }
-    Verdict::Passed
+    Ok(())
 }
 
 // Pair i of a frame; zeros at m and beyond, where the sum byte and the padding lie.
@@ -156,12 +156,10 @@ pub fn frame_design(bytes: [u8; CAPACITY]) -> Design
 }
 
 // Everything that is tried on the first frame of a set before the tables' lengths are: the refusal 16, then 1 to 9 of the design in it.
-pub fn first_verdict(bytes: [u8; CAPACITY], count: usize) -> Verdict
+pub fn first_verdict(bytes: [u8; CAPACITY], count: usize) -> Result<(), Cause>
     ensures { result ≡ verdict (first_checks bytes count) }
 {
-    if let Verdict::Refused(cause) = frame_verdict(bytes, count) {
-        return Verdict::Refused(cause);
-    }
+    frame_verdict(bytes, count)?;
     design_verdict(frame_design(bytes))
 }
 
@@ -180,9 +178,9 @@ pub fn design_line(line: &[u8]) -> DesignLine
     let sound = held.verdict;
     let bytes = held.bytes;
     let design = frame_design(bytes);
-    if let Verdict::Refused(cause) = sound {
+    if let Err(cause) = sound {
         return DesignLine {
-            verdict: Verdict::Refused(cause),
+            verdict: Err(cause),
             design,
         };
     }

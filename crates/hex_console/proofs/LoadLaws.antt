@@ -1,4 +1,5 @@
 -- Records that are fed to a reading keep its state possible and its tables' lengths; so a set that is read is where its records led.
+use Rattle.std.specs.Prelude.{Ok, Err}
 use mathlib.Core.Path.{◌≡◌, refl, ap, ◌∙◌}
 use mathlib.Core.Bool.{Bool, true, false}
 use mathlib.Core.List.{List, [], ◌∷◌, ◌++◌}
@@ -8,7 +9,7 @@ use lib.ListN.{length, take, length-append}
 use lib.Seq.{length-take-le}
 use lib.IntN.{ℤ}
 use borrow.Author.Tests.{le-leb}
-use Rattle.refusal.specs.declared.Verdict.{Verdict}
+use Rattle.refusal.specs.Verdict.{Verdict}
 use Rattle.design.specs.declared.Design.{Design}
 use Rattle.design.specs.Legal.{Legal}
 use Rattle.design.specs.Stored.{initial_count}
@@ -95,14 +96,14 @@ module _ (d : Design) where
   kept-after s text = go (hex_verdict_on d s text) refl
     where
       go : (v : Verdict) → hex_verdict_on d s text ≡ v → HexKept s (hex_after d s text)
-      go Verdict.Passed e =
+      go (Ok tt) e =
           rw e
           (record {
             stays-possible = λ p. next-possible s text (accepted-record d s text e);
             initial-kept = stored-length (initial_home (initial_count d)) _ _ _;
             offsets-kept = stored-length (offset_home (initial_count d)) _ _ _;
           })
-      go (Verdict.Refused cause) e = rw e (kept_same s)
+      go (Err cause) e = rw e (kept_same s)
 
   kept-fed : (texts : List (List ℕ)) (s : HexSession) → HexKept s (hex_feed d s texts)
   unfolding hex_feed

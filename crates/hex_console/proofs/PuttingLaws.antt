@@ -1,4 +1,5 @@
 -- Records that the writer gives, and those that are put.
+use Rattle.std.specs.Prelude.{Ok, Err}
 use mathlib.Core.Path.{◌≡◌}
 use mathlib.Core.Bool.{Bool, false, not, ◌&&◌}
 use mathlib.Core.List.{List, [], ◌∷◌, ◌++◌}
@@ -7,10 +8,9 @@ use native.Mathlib.Omega.{arith}
 use lib.ListN.{length, take, replicate, length-replicate}
 use lib.IntN.{ℤ}
 use Rattle.refusal.specs.declared.Cause.{Cause}
-use Rattle.refusal.specs.declared.Verdict.{Verdict}
+use Rattle.refusal.specs.Verdict.{Verdict}
 use Rattle.refusal.specs.Checks.{passes}
 use Rattle.design.specs.declared.Design.{Design}
-use Rattle.writing.specs.declared.Written.{Written}
 use Rattle.records.specs.IntelHex.{data_count, record_count, bytes_before, length_at}
 use Rattle.records.specs.SetBytes.{byte_count, most_bytes, set_bytes, set_record}
 use Rattle.records.specs.Record.{longest_record}
@@ -40,12 +40,12 @@ module _ (d : Design) (initial : List ℕ) (offsets : List ℤ) (n : ℕ) where
     asked = hex_write_verdict d initial offsets n room
 
     -- A record that the writer gives leaves room for a newline,
-    pub given-short : {digits : ℕ} → hex_write_answer d initial offsets n room ≡ Written.Length digits → digits ≤ longest_record
+    pub given-short : {digits : ℕ} → hex_write_answer d initial offsets n room ≡ Ok digits → digits ≤ longest_record
     unfolding hex_write_answer
     given-short e = omega (arith, written-length asked (set_record d initial offsets n) e, record-short)
 
     -- which is put behind it. `room` is how many bytes the buffer has.
-    pub record-put : {digits : ℕ} → hex_write_answer d initial offsets n room ≡ Written.Length digits
+    pub record-put : {digits : ℕ} → hex_write_answer d initial offsets n room ≡ Ok digits
         → (block : ℕ) (buffer left start end : List ℕ) (more failed : Bool) → length buffer ≡ room → left ≡ record_buffer_after d initial offsets n buffer
         → Puts block start (take digits left ++ 10 ∷ []) end → more ≡ not failed
         → Puts block start (put_if asked (set_record d initial offsets n)) end × (more ≡ (passes asked && not failed))
@@ -53,14 +53,14 @@ module _ (d : Design) (initial : List ℕ) (offsets : List ℤ) (n : ℕ) where
     record-put e block buffer left start end more failed long is puts told =
         put-given asked (set_record d initial offsets n) e block buffer left start end more failed (rw long at is) puts told
 
-    pub record-refused : {cause : Cause} → hex_write_answer d initial offsets n room ≡ Written.Refused cause → (block : ℕ) (start : List ℕ) (failed : Bool)
+    pub record-refused : {cause : Cause} → hex_write_answer d initial offsets n room ≡ Err cause → (block : ℕ) (start : List ℕ) (failed : Bool)
         → Puts block start (put_if asked (set_record d initial offsets n)) start × (false ≡ (passes asked && not failed))
     unfolding hex_write_answer
     record-refused e block start failed = put-none asked (set_record d initial offsets n) e block start failed
 
 -- The writer gives each record of a set that records can hold.
 pub each-given : (t : TableSet) → Recordable t → (n : ℕ) → n < record_count (byte_count t.design)
-    → hex_write_verdict t.design t.initial t.offsets n (longest_record + 1) ≡ Verdict.Passed
+    → hex_write_verdict t.design t.initial t.offsets n (longest_record + 1) ≡ (Ok tt)
 each-given t ok n h =
     let buffer : List ℕ = replicate (longest_record + 1) 0 in
     let long : length buffer ≡ longest_record + 1 = length-replicate {A = ℕ} (longest_record + 1) 0 in

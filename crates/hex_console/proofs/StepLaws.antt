@@ -1,4 +1,5 @@
 -- One line more: the design's, or a record.
+use Rattle.std.specs.Prelude.{Ok, Err}
 use mathlib.Core.Path.{◌≡◌, refl, sym, ap, ◌∙◌}
 use mathlib.Core.Bool.{Bool, true, false, true≢false}
 use mathlib.Core.List.{List, [], ◌∷◌}
@@ -6,7 +7,7 @@ use mathlib.Core.Logic.{inl, inr}
 use Prim.Native.Nat.{ℕ}
 use lib.IntN.{ℤ}
 use Rattle.refusal.specs.declared.Cause.{Cause}
-use Rattle.refusal.specs.declared.Verdict.{Verdict}
+use Rattle.refusal.specs.Verdict.{Verdict}
 use Rattle.design.specs.declared.Design.{Design}
 use Rattle.frames.specs.declared.DesignLine.{DesignLine}
 use Rattle.frames.specs.DesignText.{design_line_verdict, design_line}
@@ -26,8 +27,8 @@ unfolding design_line
 came-by line read read_is v e = ap (λ (told : Verdict). came_by told false) (sym e ∙ ap (λ (r : DesignLine). r.verdict) read_is)
 
 -- The design on a line that passes
-module _ (line : List ℕ) (read : DesignLine) (read_is : read ≡ design_line line) (passed : read.verdict ≡ Verdict.Passed) where
-  line-passed : design_line_verdict line ≡ Verdict.Passed
+module _ (line : List ℕ) (read : DesignLine) (read_is : read ≡ design_line line) (passed : read.verdict ≡ (Ok tt)) where
+  line-passed : design_line_verdict line ≡ (Ok tt)
   unfolding design_line
   line-passed = sym (ap (λ (r : DesignLine). r.verdict) read_is) ∙ passed
 
@@ -78,12 +79,12 @@ module _ (d : Design) (state : HexReading) (initial initial' : List ℕ) (offset
     hex-state-told = ap (λ (r : HexRead). r.state) answer
 
     -- It was refused: the reading stands,
-    pub record-refused : (cause : Cause) → read.verdict ≡ Verdict.Refused cause
+    pub record-refused : (cause : Cause) → read.verdict ≡ Err cause
         → HexStepped d s (hex_session state initial' offsets') false
     record-refused cause e = rw (initial-is, offsets-is, refused-stands d s text cause (hex-verdict-told e)) (none-taken d s)
 
     -- or taken: the reading moves on.
-    pub record-taken : read.verdict ≡ Verdict.Passed
+    pub record-taken : read.verdict ≡ (Ok tt)
         → HexStepped d s (hex_session read.state initial' offsets') (is_line (came_of (hex_finished d read.state)))
     unfolding hex_feed hex_after holding
     record-taken e =

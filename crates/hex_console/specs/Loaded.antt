@@ -1,6 +1,5 @@
 -- What can be said of a set that is read from records, whatever lines come.
-use Rattle.std.specs.Prelude.{◌≡◌, Bool, true, false, ◌⊎◌, List, ℕ, ◌+◌, length, ℤ}
-use Rattle.refusal.specs.declared.Verdict.{Verdict}
+use Rattle.std.specs.Prelude.{◌≡◌, Bool, true, false, ◌⊎◌, List, ℕ, ◌+◌, length, ℤ, Ok}
 use Rattle.design.specs.declared.Design.{Design}
 use Rattle.design.specs.Legal.{Legal}
 use Rattle.frames.specs.Hex.{bytes_of}
@@ -13,7 +12,7 @@ use Rattle.record_storage.specs.Loading.{no_record, hex_feed}
 -- A design that was read: it stands on some line that has to hold one, "15, 16, 1 to 9", and is legal.
 pub record DesignCame (d : Design) : Type 0 where
   pub line : List ℕ
-  pub passed : design_line_verdict line ≡ Verdict.Passed
+  pub passed : design_line_verdict line ≡ (Ok tt)
   pub held : frame_design (bytes_of line) ≡ d
   pub legal : Legal d
 

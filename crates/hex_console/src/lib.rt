@@ -23,9 +23,8 @@ use frames::design_line;
 use record_reading::HexReading;
 use record_writing::write_record;
 use records::LONGEST_RECORD;
-use refusal::Verdict;
+use refusal::Cause;
 use set_console::{Came, Put, begin, came_of, is_line, put_text};
-use writing::Written;
 
 // The longest record and the two characters that may end its line. A line with so many bytes before its newline is longer than any record,
 // also without a carriage return at its end, so no more of it is needed.
@@ -97,7 +96,7 @@ fn take_design(console: Console, line: &[u8]) -> DesignRead
     let read = design_line(line);
     let verdict = read.verdict;
     let design = read.design;
-    if let Verdict::Refused(cause) = verdict {
+    if let Err(cause) = verdict {
         return DesignRead {
             design,
             console,
@@ -160,7 +159,7 @@ fn take_text(
     let console = step.console;
     let read = state.read_record(d, initial, offsets, text);
     let verdict = read.verdict;
-    if let Verdict::Refused(cause) = verdict {
+    if let Err(cause) = verdict {
         return HexStep {
             state,
             console,
@@ -281,8 +280,8 @@ fn put_record(
 {
     let mut buffer = [0u8; PRINTED];
     match write_record(d, initial, offsets, number, &mut buffer) {
-        Written::Length(length) => put_text(rt, console, output, &mut buffer, length),
-        Written::Refused(_) => Put {
+        Ok(length) => put_text(rt, console, output, &mut buffer, length),
+        Err(_) => Put {
             console,
             more: false,
         },

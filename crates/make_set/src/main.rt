@@ -8,7 +8,7 @@ use console::{BLOCK, Console};
 use design::limits::{MOST_INITIAL, MOST_OFFSETS};
 use filling::fill;
 use frames::design_line;
-use refusal::Verdict;
+use refusal::Cause;
 use set_console::put_set;
 
 // The line's refusals are the report's; then the fill's, of which 10 never comes.
@@ -24,11 +24,11 @@ fn make(
 {
     let read = design_line(line);
     let verdict = read.verdict;
-    if let Verdict::Refused(cause) = verdict {
+    if let Err(cause) = verdict {
         return console.put_refused(rt, output, cause);
     }
     let d = read.design;
-    if let Verdict::Refused(cause) = fill(d, initial, offsets) {
+    if let Err(cause) = fill(d, initial, offsets) {
         return console.put_refused(rt, output, cause);
     }
     put_set(rt, console, output, d, initial, offsets)

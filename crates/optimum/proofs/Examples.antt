@@ -1,5 +1,6 @@
 -- Worked examples of the search, computed from the definitions. The numbers are those of the requests, or were worked out from the
 -- documents apart from the definitions.
+use Rattle.std.specs.Prelude.{Err}
 use mathlib.Core.Path.{◌≡◌, refl}
 use mathlib.Core.Bool.{true, false}
 use mathlib.Core.List.{[], ◌∷◌, map}
@@ -8,7 +9,6 @@ use native.Mathlib.Omega.{arith}
 use lib.ListN.{length, take}
 use Rattle.general.specs.Below.{joined}
 use Rattle.refusal.specs.declared.Cause.{Cause}
-use Rattle.refusal.specs.declared.Verdict.{Verdict}
 use Rattle.refusal.specs.Checks.{verdict}
 use Rattle.values.specs.Widths.{limits_of, function_checks}
 use Rattle.design.specs.declared.Pair.{Pair}
@@ -88,9 +88,9 @@ pub record Examples : Type 0 where
       ∷ (pair 1 3 ∷ no_pair ∷ no_pair ∷ no_pair ∷ []) ∷ []
   pub how-many : map (λ m. length (continued m (bare 0 6 6 2 2 m) 0)) (1 ∷ 2 ∷ []) ≡ 16 ∷ 256 ∷ []
   -- 1, 2, 3 in this order
-  pub checks : (verdict (function_checks (limits_of 5) 5 5 5) ≡ Verdict.Refused Cause.Kind)
-      × (verdict (function_checks (limits_of 0) 0 5 5) ≡ Verdict.Refused Cause.InputWidth)
-      × (verdict (function_checks (limits_of 0) 0 6 5) ≡ Verdict.Refused Cause.OutputWidth)
+  pub checks : (verdict (function_checks (limits_of 5) 5 5 5) ≡ Err Cause.Kind)
+      × (verdict (function_checks (limits_of 0) 0 5 5) ≡ Err Cause.InputWidth)
+      × (verdict (function_checks (limits_of 0) 0 6 5) ≡ Err Cause.OutputWidth)
 
 pub examples : Examples
 unfolding sizing-opened joined bare with_pair continued is_admitted nothing better best_of

@@ -1,4 +1,5 @@
 -- The statement of Optimum.antt holds.
+use Rattle.std.specs.Prelude.{Ok, Err}
 use mathlib.Core.Path.{◌≡◌, sym, ap, ◌∙◌}
 use mathlib.Core.Bool.{true, not}
 use mathlib.Core.Logic.{◌⊎◌, inl, inr, ⊎_elim}
@@ -11,7 +12,6 @@ use borrow.Author.Tests.{ltb-true, not-false}
 use lib.Dec.{ltb}
 use Rattle.general.proofs.JoinedLaws.{Some, some-weaker}
 use Rattle.refusal.specs.declared.Cause.{Cause}
-use Rattle.refusal.specs.declared.Verdict.{Verdict}
 use Rattle.refusal.specs.Checks.{◌↝◌, verdict}
 use Rattle.refusal.proofs.Checks.{passed-append, none-fails}
 use Rattle.values.specs.Widths.{limits_of, function_checks}
@@ -108,21 +108,21 @@ module _ (kind w q : ℕ) where
       }
 
   -- with the checks
-  passed-few : smallest_verdict kind w q ≡ Verdict.Passed → (smallest_of kind w q).bits < no_bits
+  passed-few : smallest_verdict kind w q ≡ (Ok tt) → (smallest_of kind w q).bits < no_bits
   unfolding smallest_verdict smallest_checks
   passed-few e =
       let last = (passed-append (function_checks (limits_of kind) kind w q)
       (not (ltb (smallest_of kind w q).bits no_bits) ↝ Cause.NoneAdmitted ∷ []) e).1 in
       ltb-true _ _ (not-false _ (none-fails (not (ltb (smallest_of kind w q).bits no_bits) ↝ Cause.NoneAdmitted ∷ []) last).0)
 
-  module _ (passed : verdict (function_checks (limits_of kind) kind w q) ≡ Verdict.Passed) where
-    some : (e : Design) → Of kind w q e → Admitted e → smallest_verdict kind w q ≡ Verdict.Passed
+  module _ (passed : verdict (function_checks (limits_of kind) kind w q) ≡ (Ok tt)) where
+    some : (e : Design) → Of kind w q e → Admitted e → smallest_verdict kind w q ≡ (Ok tt)
     some e of a = some-admitted kind w q passed (lt_of_le_of_lt (least e of a) (size_few e (limits e a.legal)))
 
-    none-means : smallest_verdict kind w q ≡ Verdict.Refused Cause.NoneAdmitted → (e : Design) → Of kind w q e → Admitted e → ⊥
+    none-means : smallest_verdict kind w q ≡ Err Cause.NoneAdmitted → (e : Design) → Of kind w q e → Admitted e → ⊥
     none-means refused e of a = let z : ◌≡◌ {A = ℕ} 0 1 = cc (refused, some e of a) in absurd (omega arith)
 
-    means-none : ((e : Design) → Of kind w q e → Admitted e → ⊥) → smallest_verdict kind w q ≡ Verdict.Refused Cause.NoneAdmitted
+    means-none : ((e : Design) → Of kind w q e → Admitted e → ⊥) → smallest_verdict kind w q ≡ Err Cause.NoneAdmitted
     means-none none = elim (dec_lt (smallest_of kind w q).bits no_bits) [
       | yes few ↦ let is = cheapest few in absurd (none _ is.of is.admitted)
       | no many ↦ none-admitted kind w q passed (omega arith)

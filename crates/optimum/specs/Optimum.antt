@@ -1,7 +1,6 @@
 -- Document 02, A5, whole: what the call `smallest` hands back, and when it is refused.
-use Rattle.std.specs.Prelude.{◌≡◌, ◌⊎◌, ◌↔◌, ℕ, ◌≤◌, get_or}
+use Rattle.std.specs.Prelude.{◌≡◌, ◌⊎◌, ◌↔◌, ℕ, ◌≤◌, get_or, Ok, Err}
 use Rattle.refusal.specs.declared.Cause.{Cause}
-use Rattle.refusal.specs.declared.Verdict.{Verdict}
 use Rattle.refusal.specs.Checks.{verdict}
 use Rattle.values.specs.Widths.{limits_of, function_checks}
 use Rattle.design.specs.declared.Design.{Design}
@@ -32,15 +31,15 @@ pub record Cheapest (kind w q : ℕ) (found : SizedDesign) : Type 0 where
 
 pub record Optimum : Type 0 where
   -- "Kind, w and q are checked as before": 1, 2, 3
-  pub checked : (kind w q : ℕ) (cause : Cause) → verdict (function_checks (limits_of kind) kind w q) ≡ Verdict.Refused cause
-      → smallest_verdict kind w q ≡ Verdict.Refused cause
+  pub checked : (kind w q : ℕ) (cause : Cause) → verdict (function_checks (limits_of kind) kind w q) ≡ Err cause
+      → smallest_verdict kind w q ≡ Err cause
   -- "24, no legal design of that kind, w and q is admitted; after 3"
-  pub none : (kind w q : ℕ) → verdict (function_checks (limits_of kind) kind w q) ≡ Verdict.Passed
-      → (smallest_verdict kind w q ≡ Verdict.Refused Cause.NoneAdmitted) ↔ ((e : Design) → Of kind w q e → Admitted e → ⊥)
+  pub none : (kind w q : ℕ) → verdict (function_checks (limits_of kind) kind w q) ≡ (Ok tt)
+      → (smallest_verdict kind w q ≡ Err Cause.NoneAdmitted) ↔ ((e : Design) → Of kind w q e → Admitted e → ⊥)
   -- and else a design is found,
-  pub some : (kind w q : ℕ) → verdict (function_checks (limits_of kind) kind w q) ≡ Verdict.Passed
-      → (e : Design) → Of kind w q e → Admitted e → smallest_verdict kind w q ≡ Verdict.Passed
+  pub some : (kind w q : ℕ) → verdict (function_checks (limits_of kind) kind w q) ≡ (Ok tt)
+      → (e : Design) → Of kind w q e → Admitted e → smallest_verdict kind w q ≡ (Ok tt)
   -- which is the one that is handed back.
-  pub found : (kind w q : ℕ) → smallest_verdict kind w q ≡ Verdict.Passed → Cheapest kind w q (smallest_of kind w q)
+  pub found : (kind w q : ℕ) → smallest_verdict kind w q ≡ (Ok tt) → Cheapest kind w q (smallest_of kind w q)
   -- What comes later does not come before.
   pub strict : (d e : Design) → Before d e → Before e d → ⊥

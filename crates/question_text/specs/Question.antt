@@ -1,9 +1,8 @@
 -- A line as a question: three decimal numbers, with exactly one space between them and nothing else.
-use Rattle.std.specs.Prelude.{cond, List, [], ◌∷◌, ◌++◌, ℕ, ◌+◌, ◌-◌, min, eqb, length, get_or}
-use Rattle.word_text.specs.declared.ReadWord.{ReadWord}
+use Rattle.question_text.specs.declared.Question.{Question}
+use Rattle.std.specs.Prelude.{cond, List, [], ◌∷◌, ◌++◌, ℕ, ◌+◌, ◌-◌, min, eqb, length, get_or, Option, Some, None}
 use Rattle.word_text.specs.declared.WordText.{WordText}
 use Rattle.word_text.specs.Decimal.{word_in, reading_of, after_character, word_of}
-use Rattle.question_text.specs.declared.ReadQuestion.{ReadQuestion}
 use Rattle.question_text.specs.declared.QuestionText.{QuestionText}
 
 -- The fields of a text, split at each space (character 32). `begun` is what its first field began with before the text.
@@ -20,17 +19,17 @@ unfoldable pub field : List (List ℕ) → ℕ → List ℕ
 field fs n = get_or fs n []
 
 -- Three words are the numbers of a question, in the order kind, w, q.
-unfoldable pub three_numbers : ReadWord → ReadWord → ReadWord → ReadQuestion
-three_numbers (ReadWord.Word kind) (ReadWord.Word w) (ReadWord.Word q) = ReadQuestion.Numbers (record { kind = kind; w = w; q = q })
-three_numbers (ReadWord.Word kind) (ReadWord.Word w) ReadWord.NotAWord = ReadQuestion.NotThreeNumbers
-three_numbers (ReadWord.Word kind) ReadWord.NotAWord q = ReadQuestion.NotThreeNumbers
-three_numbers ReadWord.NotAWord w q = ReadQuestion.NotThreeNumbers
+unfoldable pub three_numbers : (Option ℕ) → Option ℕ → Option ℕ → Option Question
+three_numbers (Some kind) (Some w) (Some q) = Some (record { kind = kind; w = w; q = q })
+three_numbers (Some kind) (Some w) None = None
+three_numbers (Some kind) None q = None
+three_numbers None w q = None
 
 -- What a line is: three fields, each of which is a word.
-unfoldable pub question_in : List ℕ → ReadQuestion
+unfoldable pub question_in : List ℕ → Option Question
 question_in t =
     let fs = fields t in
-    cond (eqb (length fs) 3) (three_numbers (word_in (field fs 0)) (word_in (field fs 1)) (word_in (field fs 2))) ReadQuestion.NotThreeNumbers
+    cond (eqb (length fs) 3) (three_numbers (word_in (field fs 0)) (word_in (field fs 1)) (word_in (field fs 2))) None
 
 -- What is kept of a line while it is read, by its fields so far: what word_text keeps of each of the first three, and how many spaces came.
 -- Three are too many, whatever follows, so more need not be told from three. The proofs show that the definitions below lead from there to
@@ -61,9 +60,9 @@ with_character s c =
     })
 
 -- What a line is, by what is kept of it
-unfoldable pub question_of : QuestionText → ReadQuestion
+unfoldable pub question_of : QuestionText → Option Question
 question_of s =
-    cond (eqb s.spaces 2) (three_numbers (word_of s.kind) (word_of s.w) (word_of s.q)) ReadQuestion.NotThreeNumbers
+    cond (eqb s.spaces 2) (three_numbers (word_of s.kind) (word_of s.w) (word_of s.q)) None
 
 -- What is kept when the characters of a text have come, one after another
 unfoldable pub fed : QuestionText → List ℕ → QuestionText

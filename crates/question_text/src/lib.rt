@@ -5,7 +5,7 @@
 ghost use Rattle.std.specs.Prelude.{◌≡◌, [], ◌+◌, min};
 ghost use Rattle.question_text.specs.Question.{fields, three_numbers, grown, kept_of, with_character, question_of};
 
-use word_text::{ReadWord, WordText};
+use word_text::WordText;
 
 // What is asked for: the smallest table design of this kind, with input words of w bits and output words of q bits.
 #[derive(Clone, Copy)]
@@ -13,13 +13,6 @@ pub struct Question {
     pub kind: u32,
     pub w: u32,
     pub q: u32,
-}
-
-// What a line is: the three numbers of a question, or something else.
-#[derive(Clone, Copy)]
-pub enum ReadQuestion {
-    Numbers(Question),
-    NotThreeNumbers,
 }
 
 // As many spaces as no question has. It stands for more spaces, too.
@@ -55,19 +48,19 @@ fn grown_at(place: u32, spaces: u32, word: WordText, c: u8) -> WordText
 }
 
 // The numbers of a question, where each of the three is a word.
-fn three_numbers(kind: ReadWord, w: ReadWord, q: ReadWord) -> ReadQuestion
+fn three_numbers(kind: Option<u32>, w: Option<u32>, q: Option<u32>) -> Option<Question>
     ensures { result ≡ three_numbers kind w q }
 {
-    let ReadWord::Word(kind) = kind else {
-        return ReadQuestion::NotThreeNumbers;
+    let Some(kind) = kind else {
+        return None;
     };
-    let ReadWord::Word(w) = w else {
-        return ReadQuestion::NotThreeNumbers;
+    let Some(w) = w else {
+        return None;
     };
-    let ReadWord::Word(q) = q else {
-        return ReadQuestion::NotThreeNumbers;
+    let Some(q) = q else {
+        return None;
     };
-    ReadQuestion::Numbers(Question { kind, w, q })
+    Some(Question { kind, w, q })
 }
 
 impl QuestionText {
@@ -98,12 +91,12 @@ impl QuestionText {
     }
 
     // What the whole line is.
-    pub fn question(self) -> ReadQuestion
+    pub fn question(self) -> Option<Question>
         ensures { result ≡ question_of self }
     {
         if self.spaces == 2 {
             return three_numbers(self.kind.word(), self.w.word(), self.q.word());
         }
-        ReadQuestion::NotThreeNumbers
+        None
     }
 }

@@ -1,5 +1,6 @@
 -- What a sound line comes to: the answer, and the tables after it. The line is given as `decode` does, as its bytes with zeros behind
 -- them and their number.
+use Rattle.std.specs.Prelude.{Ok, Err}
 use mathlib.Core.Path.{◌≡◌, refl, sym, ap, ◌∙◌}
 use mathlib.Core.Bool.{Bool, true, false, not, ◌||◌, or-true}
 use mathlib.Core.List.{List, [], ◌∷◌}
@@ -12,7 +13,6 @@ use lib.Seq.{take-take, take-nil, length-take-le}
 use borrow.Author.Tests.{eqb-true, le-leb, lt-leb, not-false}
 use Rattle.general.proofs.Tests.{neither}
 use Rattle.refusal.specs.declared.Cause.{Cause}
-use Rattle.refusal.specs.declared.Verdict.{Verdict}
 use Rattle.refusal.specs.Checks.{◌↝◌, verdict}
 use Rattle.refusal.proofs.Checks.{after, verdict-append}
 use Rattle.design.specs.declared.Design.{Design}
@@ -60,7 +60,7 @@ heads-same head width bytes count = go (eqb count (length head + width + 1)) ref
 
 -- The answer to a refused line: the state stands.
 abbrev pub refused_answer : Reading → Cause → Read
-refused_answer state cause = record { verdict = Verdict.Refused cause; state = state }
+refused_answer state cause = record { verdict = Err cause; state = state }
 
 module _ (bytes : List ℕ) (count : ℕ) (full : length bytes ≡ capacity) (sound : Sound bytes count) where
   frame-length : length (take count bytes) ≡ count
@@ -82,18 +82,18 @@ module _ (bytes : List ℕ) (count : ℕ) (full : length bytes ≡ capacity) (so
         rw (first-checks state initial offsets (take count bytes) none, frame-length, checks-same, design-same)
         (verdict-append (first_checks bytes count) (tables_check (frame_design bytes) initial offsets ∷ []))
 
-    pub first-refused : (cause : Cause) → verdict (first_checks bytes count) ≡ Verdict.Refused cause
+    pub first-refused : (cause : Cause) → verdict (first_checks bytes count) ≡ Err cause
         → refused_answer state cause ≡ answer_if (due_verdict state initial offsets (take count bytes)) state (take count bytes)
     first-refused cause e = rw (first-verdict, e)
 
-    module _ (due : verdict (first_checks bytes count) ≡ Verdict.Passed) where
+    module _ (due : verdict (first_checks bytes count) ≡ (Ok tt)) where
       pub first_short : (tables_check (frame_design bytes) initial offsets).fails ≡ true
           → refused_answer state Cause.TablesShort ≡ answer_if (due_verdict state initial offsets (take count bytes)) state (take count bytes)
       unfolding tables_check
       first_short e = rw (first-verdict, due, e)
 
       pub first-accepted : (tables_check (frame_design bytes) initial offsets).fails ≡ false
-          → ◌≡◌ {A = Read} (record { verdict = Verdict.Passed; state = record { design = frame_design bytes; taken = 1 } })
+          → ◌≡◌ {A = Read} (record { verdict = (Ok tt); state = record { design = frame_design bytes; taken = 1 } })
           (answer_if (due_verdict state initial offsets (take count bytes)) state (take count bytes))
       first-accepted e = rw (first-verdict, due, e, first-design state (take count bytes) none, design-same, none)
 
@@ -106,7 +106,7 @@ Outcome state initial offsets frame answer initial-after offsets-after =
 
 module _ (state : Reading) (initial : List ℕ) (offsets : List ℤ) (frame : List ℕ) where
   pub refused-outcome : (cause : Cause) (answer : Read) → answer ≡ refused_answer state cause
-      → due_verdict state (length initial) (length offsets) frame ≡ Verdict.Refused cause
+      → due_verdict state (length initial) (length offsets) frame ≡ Err cause
       → Outcome state initial offsets frame answer initial offsets
   unfolding after_frame
   refused-outcome cause answer is e = rw (is, e) (refl, (refl, refl))
@@ -150,37 +150,37 @@ module _ (bytes : List ℕ) (count : ℕ) (full : length bytes ≡ capacity) (so
       )
 
   pub nothing-due : line_count state.design ≤ state.taken
-      → due_verdict state initial offsets (take count bytes) ≡ Verdict.Refused Cause.Frame
+      → due_verdict state initial offsets (take count bytes) ≡ Err Cause.Frame
   nothing-due h = later-verdict ∙ rw (le-leb _ _ h)
 
-  pub other-due : not_due state bytes count ≡ true → due_verdict state initial offsets (take count bytes) ≡ Verdict.Refused Cause.Frame
+  pub other-due : not_due state bytes count ≡ true → due_verdict state initial offsets (take count bytes) ≡ Err Cause.Frame
   other-due e = later-verdict ∙ rw (e, or-true)
 
   module _ (within : state.taken < line_count state.design) (due : not_due state bytes count ≡ false) where
     over-same : {over : Bool} → is_over state bytes ≡ over → is_over state (take count bytes) ≡ over
     over-same e = rw (due-entry state bytes count due) e
 
-    pub later-over : is_over state bytes ≡ true → due_verdict state initial offsets (take count bytes) ≡ Verdict.Refused Cause.InitialRange
+    pub later-over : is_over state bytes ≡ true → due_verdict state initial offsets (take count bytes) ≡ Err Cause.InitialRange
     later-over e = later-verdict ∙ rw (lt-leb _ _ within, due, over-same e)
 
     module _ (below : is_over state bytes ≡ false) where
       pub later-short : (tables_check state.design initial offsets).fails ≡ true
-          → due_verdict state initial offsets (take count bytes) ≡ Verdict.Refused Cause.TablesShort
+          → due_verdict state initial offsets (take count bytes) ≡ Err Cause.TablesShort
       unfolding tables_check
       later-short e = later-verdict ∙ rw (lt-leb _ _ within, due, over-same below, e)
 
       pub later-accepted : (tables_check state.design initial offsets).fails ≡ false
-          → due_verdict state initial offsets (take count bytes) ≡ Verdict.Passed
+          → due_verdict state initial offsets (take count bytes) ≡ (Ok tt)
       later-accepted e = later-verdict ∙ rw (lt-leb _ _ within, due, over-same below, e)
 
 -- The answer to a frame that is accepted, and the tables after it
 module _ (state : Reading) (begun : Begun state) (initial : List ℕ) (offsets : List ℤ) (bytes : List ℕ) (count : ℕ) where
   pub accepted-outcome : not_due state bytes count ≡ false
-      → due_verdict state (length initial) (length offsets) (take count bytes) ≡ Verdict.Passed
+      → due_verdict state (length initial) (length offsets) (take count bytes) ≡ (Ok tt)
       → let slot = slot_of state.design state.taken in
       let number = entry_in state.design slot bytes in
       Outcome state initial offsets (take count bytes)
-      (record { verdict = Verdict.Passed; state = record { design = state.design; taken = state.taken + 1 } })
+      (record { verdict = (Ok tt); state = record { design = state.design; taken = state.taken + 1 } })
       (initial_stored slot number initial)
       (offsets_stored slot number offsets)
   unfolding after_frame

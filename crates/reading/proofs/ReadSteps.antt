@@ -1,4 +1,5 @@
 -- What a line comes to, sound or not: the answer, its number, and the tables after it.
+use Rattle.std.specs.Prelude.{Ok, Err}
 use mathlib.Core.Path.{◌≡◌, refl, ap, ◌∙◌}
 use mathlib.Core.Bool.{true, false}
 use mathlib.Core.List.{List, [], ◌∷◌, ◌++◌}
@@ -7,7 +8,7 @@ use lib.IntN.{ℤ}
 use lib.ListN.{length, take, replicate}
 use lib.Seq.{take-append_seam}
 use Rattle.refusal.specs.declared.Cause.{Cause}
-use Rattle.refusal.specs.declared.Verdict.{Verdict}
+use Rattle.refusal.specs.Verdict.{Verdict}
 use Rattle.refusal.specs.Checks.{verdict, if_passed}
 use Rattle.refusal.specs.Numbers.{verdict_number}
 use Rattle.refusal.proofs.Checks.{verdict-append, none-fails}
@@ -48,7 +49,7 @@ use Rattle.reading.proofs.ReadLaws.{empty-verdict, some-verdict}
 use Rattle.reading.proofs.LineSteps.{refused_answer, Outcome}
 
 -- What `decode` gives for a line that it accepts
-module _ (line : List ℕ) (held : Decoded) (held-is : held ≡ decoded line) (passed : held.verdict ≡ Verdict.Passed) where
+module _ (line : List ℕ) (held : Decoded) (held-is : held ≡ decoded line) (passed : held.verdict ≡ (Ok tt)) where
   front : take (length (bytes_of line)) (padded (bytes_of line)) ≡ bytes_of line
   unfolding padded
   front = take-append_seam (bytes_of line) (replicate (capacity - length (bytes_of line)) 0)
@@ -61,7 +62,7 @@ module _ (line : List ℕ) (held : Decoded) (held-is : held ≡ decoded line) (p
   sound-held =
       rw (held_whole line held held-is passed)
       (record {
-        short = bytes-short line (none-fails (line_checks line) (line-told line held held-is Verdict.Passed passed)).0;
+        short = bytes-short line (none-fails (line_checks line) (line-told line held held-is (Ok tt) passed)).0;
         zeros = rw front;
       })
 
@@ -81,7 +82,7 @@ moved-state v s bytes = if-passed-part (λ (t : Session). t.state) v (moved s by
 
 module _ (state : Reading) (initial : List ℕ) (offsets : List ℤ) (line : List ℕ) where
   line_refused : (cause : Cause) (answer : Read) → answer ≡ refused_answer state cause
-      → read_verdict state (length initial) (length offsets) line ≡ Verdict.Refused cause
+      → read_verdict state (length initial) (length offsets) line ≡ Err cause
       → LineOutcome state initial offsets line answer initial offsets
   unfolding read_answer after verdict_on
   line_refused cause answer is e = rw (is, e) (refl, (refl, (refl, refl)))
@@ -104,8 +105,8 @@ module _ (state : Reading) (initial : List ℕ) (offsets : List ℤ) (line : Lis
       empty-outcome answer is = go (verdict (empty_check state ∷ [])) refl
         where
           go : (v : Verdict) → verdict (empty_check state ∷ []) ≡ v → LineOutcome state initial offsets line answer initial offsets
-          go Verdict.Passed e = rw (is, state-decides, e, empty) (refl, (refl, (refl, refl)))
-          go (Verdict.Refused cause) e = rw (is, state-decides, e) (refl, (refl, (refl, refl)))
+          go (Ok tt) e = rw (is, state-decides, e, empty) (refl, (refl, (refl, refl)))
+          go (Err cause) e = rw (is, state-decides, e) (refl, (refl, (refl, refl)))
 
     module _ (some : is_empty line ≡ false) where
       tried : read_verdict state (length initial) (length offsets) line
@@ -115,14 +116,14 @@ module _ (state : Reading) (initial : List ℕ) (offsets : List ℤ) (line : Lis
 
       -- The line is not sound.
       pub unsound : (cause : Cause) (answer : Read) → answer ≡ refused_answer state cause
-          → verdict (line_checks line) ≡ Verdict.Refused cause
+          → verdict (line_checks line) ≡ Err cause
           → LineOutcome state initial offsets line answer initial offsets
       unsound cause answer is e =
           line_refused cause answer is
           (tried ∙ rw (verdict-append (line_checks line) (due_checks state (length initial) (length offsets) (bytes_of line)), e))
 
       -- A sound line comes to what its frame comes to.
-      module _ (sound : verdict (line_checks line) ≡ Verdict.Passed) where
+      module _ (sound : verdict (line_checks line) ≡ (Ok tt)) where
         frame-decides : read_verdict state (length initial) (length offsets) line
             ≡ due_verdict state (length initial) (length offsets) (bytes_of line)
         unfolding due_verdict
@@ -145,8 +146,8 @@ module _ (state : Reading) (none : state.taken ≡ 0) (initial : List ℕ) (offs
   tables-kept : (v : Verdict) → let next = moved_if v (session state initial offsets) frame in
       (initial ≡ next.initial) × (offsets ≡ next.offsets)
   unfolding initial_stored offsets_stored
-  tables-kept Verdict.Passed = rw no-entry (refl, refl)
-  tables-kept (Verdict.Refused cause) = (refl, refl)
+  tables-kept (Ok tt) = rw no-entry (refl, refl)
+  tables-kept (Err cause) = (refl, refl)
 
   pub first-outcome : (answer : Read) → answer ≡ answer_if (due_verdict state (length initial) (length offsets) frame) state frame
       → Outcome state initial offsets frame answer initial offsets

@@ -2,7 +2,7 @@
 -- and what it leaves in the state and the tables. Document 02, A8: an empty line stands between sets.
 use Rattle.std.specs.Prelude.{Bool, true, false, cond, not, ◌||◌, ◌&&◌, List, [], ◌∷◌, ◌++◌, ℕ, ◌+◌, leb, eqb, length, take, drop, set, ℤ}
 use Rattle.refusal.specs.declared.Cause.{Cause}
-use Rattle.refusal.specs.declared.Verdict.{Verdict}
+use Rattle.refusal.specs.Verdict.{Verdict}
 use Rattle.refusal.specs.Checks.{Check, ◌↝◌, verdict, if_passed, passes}
 use Rattle.design.specs.declared.Design.{Design}
 use Rattle.design.specs.Legal.{design_verdict}

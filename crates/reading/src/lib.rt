@@ -31,7 +31,7 @@ use encoding::Frame;
 use encoding::numbers::{from_complement, number_in};
 use frames::{CAPACITY, decode, first_verdict, frame_design};
 use lines::{Slot, entry_over, entry_width, head_of, line_count, slot_of};
-use refusal::{Cause, Verdict};
+use refusal::Cause;
 use tables::tables_short;
 
 // Document 01's reading state. With no line taken the design is not read.
@@ -55,7 +55,7 @@ fn is_possible(state: Reading) -> bool
     if state.taken == 0 {
         return true;
     }
-    if let Verdict::Refused(_) = design_verdict(state.design) {
+    if let Err(_) = design_verdict(state.design) {
         return false;
     }
     state.taken as u64 <= line_count(state.design)
@@ -104,10 +104,10 @@ fn store(slot: Slot, number: u32, initial: &mut [u32], offsets: &mut [i32])
 
 // The answer to a refused line: the state stands.
 fn refused(state: Reading, cause: Cause) -> Read
-    ensures { result ≡ record { verdict = Verdict.Refused cause; state = state } }
+    ensures { result ≡ record { verdict = Err cause; state = state } }
 {
     Read {
-        verdict: Verdict::Refused(cause),
+        verdict: Err(cause),
         state,
     }
 }
@@ -122,7 +122,7 @@ fn empty_line(state: Reading) -> Read
         return refused(state, Cause::Frame);
     }
     Read {
-        verdict: Verdict::Passed,
+        verdict: Ok(()),
         state: Reading { design, taken: 0 },
     }
 }
@@ -139,7 +139,7 @@ fn first_line(
     requires taken_value { start.taken ≡ 0 }
     ensures { result ≡ answer_if (due_verdict start initial offsets (take count bytes)) start (take count bytes) }
 {
-    if let Verdict::Refused(cause) = first_verdict(bytes, count) {
+    if let Err(cause) = first_verdict(bytes, count) {
         return refused(start, cause);
     }
     let design = frame_design(bytes);
@@ -147,7 +147,7 @@ fn first_line(
         return refused(start, Cause::TablesShort);
     }
     Read {
-        verdict: Verdict::Passed,
+        verdict: Ok(()),
         state: Reading { design, taken: 1 },
     }
 }
@@ -188,7 +188,7 @@ fn later_line(
     }
     store(slot, number, initial, offsets);
     Read {
-        verdict: Verdict::Passed,
+        verdict: Ok(()),
         state: Reading {
             design: d,
             taken: state.taken + 1,
@@ -242,7 +242,7 @@ impl Reading {
         let sound = decoded.verdict;
         let bytes = decoded.bytes;
         let count = decoded.count;
-        if let Verdict::Refused(cause) = sound {
+        if let Err(cause) = sound {
             return refused(self, cause);
         }
         if self.taken == 0 {

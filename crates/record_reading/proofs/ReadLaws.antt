@@ -1,4 +1,5 @@
 -- What the checks on a record come to, "1 to 10, 20, then .. 17, 21, 22", case by case, and what a sound record tells.
+use Rattle.std.specs.Prelude.{Ok, Err}
 use mathlib.Core.Path.{◌≡◌, ap, ◌∙◌}
 use mathlib.Core.Bool.{true, false, not, ◌||◌}
 use mathlib.Core.List.{List, [], ◌∷◌, append_assoc}
@@ -9,7 +10,7 @@ use lib.ListN.{length, get_or}
 use borrow.Author.Tests.{lt-ltb, le-ltb, eqb-true, not-false}
 use Rattle.general.proofs.Tests.{neither}
 use Rattle.refusal.specs.declared.Cause.{Cause}
-use Rattle.refusal.specs.declared.Verdict.{Verdict}
+use Rattle.refusal.specs.Verdict.{Verdict}
 use Rattle.refusal.specs.Checks.{verdict}
 use Rattle.refusal.proofs.Checks.{after, verdict-append, none-fails}
 use Rattle.design.specs.declared.Design.{Design}
@@ -37,7 +38,7 @@ module _ (d : Design) (s : HexSession) (text : List ℕ) where
       ap verdict (append_assoc first (bytes_check d ∷ []) own) ∙ verdict-append first (bytes_check d ∷ own)
 
   -- A set that is refused by 1 to 10 is refused;
-  pub set-refuses : (cause : Cause) → set_verdict ≡ Verdict.Refused cause → hex_verdict_on d s text ≡ Verdict.Refused cause
+  pub set-refuses : (cause : Cause) → set_verdict ≡ Err cause → hex_verdict_on d s text ≡ Err cause
   set-refuses cause e = rw (in_order, e)
 
   module _ (u : Usable d (length s.initial) (length s.offsets)) where
@@ -45,7 +46,7 @@ module _ (d : Design) (s : HexSession) (text : List ℕ) where
     usable-order = rw (in_order, set-passed _ _ _ u)
 
     -- then one whose entries have no addresses, by 20;
-    pub large-refused : most_bytes < byte_count d → hex_verdict_on d s text ≡ Verdict.Refused Cause.AddressRange
+    pub large-refused : most_bytes < byte_count d → hex_verdict_on d s text ≡ Err Cause.AddressRange
     unfolding bytes_check
     large-refused h = rw (usable-order, lt-ltb _ _ h)
 
@@ -55,21 +56,21 @@ module _ (d : Design) (s : HexSession) (text : List ℕ) where
       reader-order = rw (usable-order, le-ltb _ _ small)
 
       -- then an impossible state, by 17;
-      pub impossible-refused : hex_possible (byte_count d) s.state ≡ false → hex_verdict_on d s text ≡ Verdict.Refused Cause.State
+      pub impossible-refused : hex_possible (byte_count d) s.state ≡ false → hex_verdict_on d s text ≡ Err Cause.State
       unfolding hex_checks hex_state_check
       impossible-refused e = rw (reader-order, e)
 
       module _ (possible : hex_possible (byte_count d) s.state ≡ true) where
         -- then a record that is not sound, by 21;
-        pub unsound-refused : (cause : Cause) → verdict (record_check text ∷ []) ≡ Verdict.Refused cause
-            → hex_verdict_on d s text ≡ Verdict.Refused cause
+        pub unsound-refused : (cause : Cause) → verdict (record_check text ∷ []) ≡ Err cause
+            → hex_verdict_on d s text ≡ Err cause
         unfolding hex_checks hex_state_check
         unsound-refused cause e =
             let due = record_due_check (byte_count d) s.state (bytes_in text) (length (bytes_in text)) in
             rw (reader-order, possible, verdict-append (record_check text ∷ []) (due ∷ []), e)
 
         -- and of a sound one 22 is left.
-        pub sound-due : verdict (record_check text ∷ []) ≡ Verdict.Passed
+        pub sound-due : verdict (record_check text ∷ []) ≡ (Ok tt)
             → hex_verdict_on d s text ≡ due_verdict (byte_count d) s.state (bytes_in text) (length (bytes_in text))
         unfolding hex_checks hex_state_check due_verdict
         sound-due e =
@@ -77,7 +78,7 @@ module _ (d : Design) (s : HexSession) (text : List ℕ) where
             rw (reader-order, possible, verdict-append (record_check text ∷ []) (due ∷ []), e)
 
 -- A record that passes 21 is sound,
-pub sound-passes : (text : List ℕ) → verdict (record_check text ∷ []) ≡ Verdict.Passed → record_fails text ≡ false
+pub sound-passes : (text : List ℕ) → verdict (record_check text ∷ []) ≡ (Ok tt) → record_fails text ≡ false
 unfolding record_check
 sound-passes text e = (none-fails (record_check text ∷ []) e).0
 

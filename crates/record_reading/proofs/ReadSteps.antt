@@ -1,4 +1,5 @@
 -- What a record comes to, sound or not: the answer, its number, and the tables after it.
+use Rattle.std.specs.Prelude.{Ok, Err}
 use mathlib.Core.Path.{◌≡◌, refl, ap}
 use mathlib.Core.Bool.{true}
 use mathlib.Core.List.{List, [], ◌∷◌}
@@ -7,7 +8,7 @@ use native.Mathlib.Omega.{arith}
 use lib.IntN.{ℤ}
 use lib.ListN.{length}
 use Rattle.refusal.specs.declared.Cause.{Cause}
-use Rattle.refusal.specs.declared.Verdict.{Verdict}
+use Rattle.refusal.specs.Verdict.{Verdict}
 use Rattle.refusal.specs.Checks.{verdict}
 use Rattle.refusal.specs.Numbers.{verdict_number}
 use Rattle.design.specs.declared.Design.{Design}
@@ -35,8 +36,8 @@ module _ (text : List ℕ) (held : Decoded) (held-is : held ≡ decoded_record t
   unfolding decoded_record record_check
   record-told v e = if-told (record_fails text) Cause.Record (digits_in text) held held-is v e
 
-  pub record-whole : held.verdict ≡ Verdict.Passed
-      → held ≡ record { verdict = Verdict.Passed; bytes = array_of (bytes_in text); count = length (bytes_in text) }
+  pub record-whole : held.verdict ≡ (Ok tt)
+      → held ≡ record { verdict = (Ok tt); bytes = array_of (bytes_in text); count = length (bytes_in text) }
   unfolding decoded_record
   record-whole e = if_kept (record_fails text) Cause.Record (digits_in text) held held-is e
 
@@ -54,8 +55,8 @@ RecordOutcome d s text answer initial offsets =
 
 module _ (d : Design) (state : HexReading) (initial : List ℕ) (offsets : List ℤ) (text : List ℕ) where
   -- A refusal leaves everything as it was.
-  pub record-refused : (cause : Cause) (answer : HexRead) → answer ≡ record { verdict = Verdict.Refused cause; state = state }
-      → hex_verdict_on d (hex_session state initial offsets) text ≡ Verdict.Refused cause
+  pub record-refused : (cause : Cause) (answer : HexRead) → answer ≡ record { verdict = Err cause; state = state }
+      → hex_verdict_on d (hex_session state initial offsets) text ≡ Err cause
       → RecordOutcome d (hex_session state initial offsets) text answer initial offsets
   unfolding hex_answer hex_after
   record-refused cause answer answer-is e = rw (answer-is, e) (refl, (refl, (refl, refl)))
@@ -73,7 +74,7 @@ module _ (d : Design) (state : HexReading) (initial : List ℕ) (offsets : List 
           within = taken-within (byte_count d) state possible;
         })
 
-    module _ (sound : verdict (record_check text ∷ []) ≡ Verdict.Passed) where
+    module _ (sound : verdict (record_check text ∷ []) ≡ (Ok tt)) where
       due-told : hex_verdict_on d (hex_session state initial offsets) text
           ≡ due_verdict (entry_bytes * extent.entries) state (bytes_in text) (length (bytes_in text))
       due-told = rw (extent-bytes d extent extent-is) (sound-due d (hex_session state initial offsets) text u small possible sound)

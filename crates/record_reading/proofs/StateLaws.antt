@@ -1,4 +1,5 @@
 -- Which states are possible, and which are finished, test by test.
+use Rattle.std.specs.Prelude.{Err}
 use mathlib.Core.Path.{◌≡◌}
 use mathlib.Core.Bool.{Bool, true, false, not, ◌&&◌}
 use Prim.Native.Nat.{ℕ, ◌≤◌, ◌<◌}
@@ -6,7 +7,6 @@ use lib.Dec.{ltb, eqb}
 use borrow.Author.Tests.{lt-ltb, le-ltb, le-leb, lt-leb, leb-true}
 use Rattle.general.proofs.Tests.{both}
 use Rattle.refusal.specs.declared.Cause.{Cause}
-use Rattle.refusal.specs.declared.Verdict.{Verdict}
 use Rattle.refusal.proofs.Checks.{verdict-append}
 use Rattle.design.specs.declared.Design.{Design}
 use Rattle.design.specs.Legal.{design_verdict, Legal}
@@ -47,7 +47,7 @@ module _ (total : ℕ) (state : HexReading) where
 
 -- A finished reading: the design is tried, then its bytes, then the state, and then the number of records.
 module _ (d : Design) (state : HexReading) where
-  pub illegal-unfinished : (cause : Cause) → design_verdict d ≡ Verdict.Refused cause → hex_finished d state ≡ false
+  pub illegal-unfinished : (cause : Cause) → design_verdict d ≡ Err cause → hex_finished d state ≡ false
   unfolding hex_finished design_verdict
   illegal-unfinished cause e = rw (verdict-append, e)
 

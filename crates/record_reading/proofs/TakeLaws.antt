@@ -1,4 +1,5 @@
 -- A sound record in a possible state: whether it is the one due, and what it brings.
+use Rattle.std.specs.Prelude.{Ok, Err}
 use mathlib.Core.Path.{◌≡◌, refl, sym, ap, ◌∙◌}
 use mathlib.Core.Bool.{Bool, true, false, or-true}
 use mathlib.Core.List.{List}
@@ -10,7 +11,7 @@ use lib.Seq.{drop-drop}
 use borrow.Author.Tests.{le-leb, lt-leb}
 use Rattle.general.proofs.Tests.{tested}
 use Rattle.refusal.specs.declared.Cause.{Cause}
-use Rattle.refusal.specs.declared.Verdict.{Verdict}
+use Rattle.refusal.specs.Verdict.{Verdict}
 use Rattle.encoding.specs.Bytes.{entry_bytes}
 use Rattle.frames.specs.Line.{capacity}
 use Rattle.reading.specs.ReadLine.{head_fails}
@@ -27,7 +28,7 @@ use Rattle.record_reading.proofs.WindowLaws.{cut-last}
 -- The verdict of 22
 module _ (total : ℕ) (state : HexReading) (bytes : List ℕ) (count : ℕ) where
   -- With all records taken none is due,
-  pub all-taken : record_count total ≤ state.taken → due_verdict total state bytes count ≡ Verdict.Refused Cause.RecordDue
+  pub all-taken : record_count total ≤ state.taken → due_verdict total state bytes count ≡ Err Cause.RecordDue
   unfolding due_verdict record_due_check
   all-taken h = rw (le-leb _ _ h)
 
@@ -39,11 +40,11 @@ module _ (total : ℕ) (state : HexReading) (bytes : List ℕ) (count : ℕ) whe
       → size ≡ length_at total state.taken → result ≡ head_fails head size bytes count → result ≡ answer → not_due ≡ answer
   due-told head size result answer head-is size_is promise branch = rw (head-is, size_is) at (tested promise branch)
 
-  pub other-due : not_due ≡ true → due_verdict total state bytes count ≡ Verdict.Refused Cause.RecordDue
+  pub other-due : not_due ≡ true → due_verdict total state bytes count ≡ Err Cause.RecordDue
   unfolding due_verdict record_due_check
   other-due e = rw (e, or-true)
 
-  pub record-due : state.taken < record_count total → not_due ≡ false → due_verdict total state bytes count ≡ Verdict.Passed
+  pub record-due : state.taken < record_count total → not_due ≡ false → due_verdict total state bytes count ≡ (Ok tt)
   unfolding due_verdict record_due_check
   record-due h e = rw (lt-leb _ _ h, e)
 
@@ -112,22 +113,22 @@ Outcome extent s bytes count v state initial offsets =
 module _ (extent : Extent) (state : HexReading) (initial : List ℕ) (offsets : List ℤ) (bytes : List ℕ) (count : ℕ) where
   -- A record that is not due leaves everything as it was.
   pub refused-outcome : (cause : Cause) (answer : HexRead)
-      → answer ≡ record { verdict = Verdict.Refused cause; state = state }
-      → due_verdict (entry_bytes * extent.entries) state bytes count ≡ Verdict.Refused cause
+      → answer ≡ record { verdict = Err cause; state = state }
+      → due_verdict (entry_bytes * extent.entries) state bytes count ≡ Err cause
       → Outcome extent (hex_session state initial offsets) bytes count answer.verdict answer.state initial offsets
   unfolding after_record
   refused-outcome cause answer answer-is e = rw (answer-is, e) (refl, (refl, (refl, refl)))
 
   -- One that is due brings its stream.
   pub taken-outcome : (next : HexReading) (initial-after : List ℕ) (offsets-after : List ℤ)
-      → due_verdict (entry_bytes * extent.entries) state bytes count ≡ Verdict.Passed
+      → due_verdict (entry_bytes * extent.entries) state bytes count ≡ (Ok tt)
       → let total = entry_bytes * extent.entries in
       let came = stream total state bytes in
       let e = bytes_before total state.taken / entry_bytes in
       next ≡ holding (state.taken + 1) (cut_bytes came)
       → initial-after ≡ stored_from (initial_home extent.initials) e came initial
       → offsets-after ≡ stored_from (offset_home extent.initials) e came offsets
-      → Outcome extent (hex_session state initial offsets) bytes count Verdict.Passed next initial-after offsets-after
+      → Outcome extent (hex_session state initial offsets) bytes count (Ok tt) next initial-after offsets-after
   unfolding after_record
   taken-outcome next initial-after offsets-after passed next-is initial-is offsets-is =
       rw passed (refl, (next-is, (initial-is, offsets-is)))

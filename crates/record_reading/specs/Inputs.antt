@@ -1,6 +1,6 @@
 -- What inner calls may count on, which their callers are proved to see to, and what they promise one another.
 use Rattle.std.specs.Prelude.{List, [], ◌∷◌, ℕ, ◌+◌, ◌*◌, ◌/◌, ◌≤◌}
-use Rattle.refusal.specs.declared.Verdict.{Verdict}
+use Rattle.refusal.specs.Verdict.{Verdict}
 use Rattle.refusal.specs.Checks.{verdict, if_passed}
 use Rattle.encoding.specs.Bytes.{entry_bytes}
 use Rattle.frames.specs.Line.{capacity}

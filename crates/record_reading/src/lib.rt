@@ -29,7 +29,7 @@ use reading::head_fails;
 use records::{
     Extent, HEAD_BYTES, MOST_BYTES, bytes_before, decode_record, extent_of, head_of, record_count,
 };
-use refusal::{Cause, Verdict};
+use refusal::Cause;
 use tables::set_verdict;
 
 // Document 02's reading state: how many records are taken, and the start of an entry that the last of them cut. Unused bytes are 0.
@@ -152,10 +152,10 @@ fn holding_from(taken: usize, window: &[u8; CAPACITY], at: usize, left: usize) -
 
 // The answer to a refused record: the state stands.
 fn refused(state: HexReading, cause: Cause) -> HexRead
-    ensures { result ≡ record { verdict = Verdict.Refused cause; state = state } }
+    ensures { result ≡ record { verdict = Err cause; state = state } }
 {
     HexRead {
-        verdict: Verdict::Refused(cause),
+        verdict: Err(cause),
         state,
     }
 }
@@ -201,7 +201,7 @@ fn take_record(
     );
     let left = size % ENTRY_BYTES;
     HexRead {
-        verdict: Verdict::Passed,
+        verdict: Ok(()),
         state: holding_from(n + 1, &window, from + size - left, left),
     }
 }
@@ -211,7 +211,7 @@ impl HexReading {
     pub fn is_finished(self, d: Design) -> bool
         ensures { result ≡ hex_finished d self }
     {
-        if let Verdict::Refused(_) = design_verdict(d) {
+        if let Err(_) = design_verdict(d) {
             return false;
         }
         let total = ENTRY_BYTES * extent_of(d).entries;
@@ -237,7 +237,7 @@ impl HexReading {
         ensures offset_tables { offsets.new
             ≡ (hex_after d (hex_session self initial.old offsets.old) «record».now).offsets }
     {
-        if let Verdict::Refused(cause) = set_verdict(d, initial.len(), offsets.len()) {
+        if let Err(cause) = set_verdict(d, initial.len(), offsets.len()) {
             return refused(self, cause);
         }
         let extent = extent_of(d);
@@ -252,7 +252,7 @@ impl HexReading {
         let sound = decoded.verdict;
         let bytes = decoded.bytes;
         let count = decoded.count;
-        if let Verdict::Refused(cause) = sound {
+        if let Err(cause) = sound {
             return refused(self, cause);
         }
         take_record(self, extent, bytes, count, initial, offsets)

@@ -1,4 +1,5 @@
 -- A reading after n records that hold these bytes, one behind the other: what it has stored and what it holds.
+use Rattle.std.specs.Prelude.{Ok}
 use mathlib.Core.Path.{◌≡◌, refl, sym, ap, ap₂, ◌∙◌}
 use mathlib.Core.Bool.{true, false, not}
 use mathlib.Core.List.{List, [], ◌∷◌, ◌++◌}
@@ -8,7 +9,6 @@ use native.Mathlib.Omega.{arith}
 use lib.ListN.{length, take, get_or}
 use lib.IntN.{ℤ}
 use borrow.Author.Tests.{le-leb}
-use Rattle.refusal.specs.declared.Verdict.{Verdict}
 use Rattle.design.specs.declared.Design.{Design}
 use Rattle.design.specs.Stored.{initial_count}
 use Rattle.tables.specs.Inputs.{Usable}
@@ -108,7 +108,7 @@ module _ (d : Design) (initial : List ℕ) (offsets : List ℤ) (n : ℕ) (bytes
   due = record_text (record_head (byte_count d) n) piece
 
   pub due-passes : Usable d (length initial) (length offsets) → byte_count d ≤ most_bytes → n < record_count (byte_count d)
-      → hex_verdict_on d now due ≡ Verdict.Passed
+      → hex_verdict_on d now due ≡ (Ok tt)
   unfolding holding
   due-passes tables addressed within =
       let initial-kept = stored-length (initial_home (initial_count d)) 0 bytes initial in
@@ -120,7 +120,7 @@ module _ (d : Design) (initial : List ℕ) (offsets : List ℤ) (n : ℕ) (bytes
         within = within;
       }) piece fits
 
-  pub due-moves : (s : HexSession) (text : List ℕ) → s ≡ now → text ≡ due → hex_verdict_on d s text ≡ Verdict.Passed
+  pub due-moves : (s : HexSession) (text : List ℕ) → s ≡ now → text ≡ due → hex_verdict_on d s text ≡ (Ok tt)
       → hex_after d s text ≡ read_so (initial_count d) initial offsets (n + 1) (bytes ++ piece)
   unfolding hex_after
   due-moves s text is-now is-due passes =

@@ -1,10 +1,11 @@
 -- Records that are fed one by one: one record more at the end, and refused ones, which do not count.
+use Rattle.std.specs.Prelude.{Ok, Err}
 use mathlib.Core.Path.{◌≡◌, refl, ap, ◌∙◌}
 use mathlib.Core.List.{List, [], ◌∷◌, ◌++◌}
 use Prim.Native.Nat.{ℕ, suc}
 use Rattle.general.specs.Below.{list_below}
 use Rattle.refusal.specs.declared.Cause.{Cause}
-use Rattle.refusal.specs.declared.Verdict.{Verdict}
+use Rattle.refusal.specs.Verdict.{Verdict}
 use Rattle.design.specs.declared.Design.{Design}
 use Rattle.record_reading.specs.ReadRecord.{HexSession, hex_verdict_on, hex_after}
 use Rattle.storage.specs.Feeding.{kept_if}
@@ -38,7 +39,7 @@ module _ (d : Design) where
   reached-none text s = record { comes-to = refl; all-taken = refl }
 
   pub reached-more : (text : ℕ → List ℕ) (s : HexSession) (n : ℕ) (end next : HexSession) → Reached text s n end
-      → hex_verdict_on d end (text n) ≡ Verdict.Passed → hex_after d end (text n) ≡ next → Reached text s (suc n) next
+      → hex_verdict_on d end (text n) ≡ (Ok tt) → hex_after d end (text n) ≡ next → Reached text s (suc n) next
   unfolding list_below
   reached-more text s n end next r passes moves =
       record {
@@ -47,7 +48,7 @@ module _ (d : Design) where
       }
 
   -- A refused record changes nothing.
-  pub refused-stands : (s : HexSession) (text : List ℕ) (cause : Cause) → hex_verdict_on d s text ≡ Verdict.Refused cause
+  pub refused-stands : (s : HexSession) (text : List ℕ) (cause : Cause) → hex_verdict_on d s text ≡ Err cause
       → hex_after d s text ≡ s
   unfolding hex_after
   refused-stands s text cause e = rw e
@@ -68,8 +69,8 @@ module _ (d : Design) where
     one-counts later = go (hex_verdict_on d s text) refl
       where
         go : (v : Verdict) → hex_verdict_on d s text ≡ v → Counts
-        go Verdict.Passed e = rw (e, e) (later.0, ap (λ (l : List (List ℕ)). text ∷ l) later.1)
-        go (Verdict.Refused cause) e = rw (e, refused-stands s text cause e) (rw (refused-stands s text cause e) at later)
+        go (Ok tt) e = rw (e, e) (later.0, ap (λ (l : List (List ℕ)). text ∷ l) later.1)
+        go (Err cause) e = rw (e, refused-stands s text cause e) (rw (refused-stands s text cause e) at later)
 
   refused-counts : (s : HexSession) (texts : List (List ℕ))
       → (hex_feed d s (hex_accepted d s texts) ≡ hex_feed d s texts) × (hex_accepted d s (hex_accepted d s texts) ≡ hex_accepted d s texts)

@@ -1,4 +1,5 @@
 -- The writer gives every record of a set that records can hold, and only of such a set all of them.
+use Rattle.std.specs.Prelude.{Ok}
 use mathlib.Core.Path.{◌≡◌, ap}
 use mathlib.Core.Bool.{Bool, true, not, ◌&&◌, and-false}
 use mathlib.Core.List.{List}
@@ -9,7 +10,6 @@ use lib.IntN.{ℤ}
 use borrow.Author.Tests.{lt-leb, le-ltb, lt-ltb, not-true, not-false}
 use Rattle.general.specs.Below.{some_below}
 use Rattle.general.proofs.Sums.{none_below, none_of}
-use Rattle.refusal.specs.declared.Verdict.{Verdict}
 use Rattle.refusal.proofs.Checks.{verdict-append}
 use Rattle.design.specs.Stored.{initial_count}
 use Rattle.tables.proofs.SetLaws.{set-passed}
@@ -61,7 +61,7 @@ module _ (entries initials : ℕ) (initial : List ℕ) (offsets : List ℤ) (n :
 module _ (t : TableSet) (n : ℕ) (buffer : List ℕ) where
   -- The writer gives each record of a set that records can hold.
   module _ (ok : Recordable t) (within : n < record_count (byte_count t.design)) (room : length (record_in t n) ≤ length buffer) where
-    passes : hex_write_verdict t.design t.initial t.offsets n (length buffer) ≡ Verdict.Passed
+    passes : hex_write_verdict t.design t.initial t.offsets n (length buffer) ≡ (Ok tt)
     unfolding hex_write_verdict record_set_checks bytes_check hex_number_check
     passes =
         rw (

@@ -1,4 +1,5 @@
 -- Written records read back to the same set.
+use Rattle.std.specs.Prelude.{Ok}
 use mathlib.Core.Path.{◌≡◌, refl, sym, ap, ◌∙◌}
 use mathlib.Core.List.{List, [], ◌∷◌, ◌++◌}
 use Prim.Native.Nat.{ℕ, zero, suc, ◌+◌, ◌-◌, ◌*◌, ◌≤◌}
@@ -10,7 +11,6 @@ use lib.Seq.{take_all, length-take-le}
 use borrow.Author.Tests.{le-ltb, eq-eqb}
 use Rattle.general.specs.Below.{list_below}
 use Rattle.general.proofs.Tests.{both_so}
-use Rattle.refusal.specs.declared.Verdict.{Verdict}
 use Rattle.refusal.specs.Checks.{verdict, passes}
 use Rattle.refusal.proofs.Checks.{verdict-append}
 use Rattle.design.specs.declared.Design.{Design}
@@ -109,7 +109,7 @@ module _ (t : TableSet) (ok : Recordable t) (s : HexSession) (begins : s.state �
   comes-to-end : hex_feed d s (records_in t) ≡ end
   comes-to-end = rw all-records reached-all.comes-to
 
-  legal-addressed : verdict (design_checks d ++ bytes_check d ∷ []) ≡ Verdict.Passed
+  legal-addressed : verdict (design_checks d ++ bytes_check d ∷ []) ≡ (Ok tt)
   unfolding design_verdict bytes_check
   legal-addressed = rw (verdict-append, ok.usable.legal, le-ltb _ _ ok.addressed)
 

@@ -1,5 +1,6 @@
 -- The one law of records: a record that is accepted is the text of the head that is due and of as many bytes as are due, and every such
 -- record is accepted.
+use Rattle.std.specs.Prelude.{Ok}
 use mathlib.Core.Path.{◌≡◌, refl, sym, ap, ◌∙◌}
 use mathlib.Core.Bool.{true, false, not}
 use mathlib.Core.List.{List, [], ◌∷◌, ◌++◌, append_assoc}
@@ -11,7 +12,6 @@ use lib.ListN.{length, take, drop, get_or, length-append, get_or-append}
 use lib.Seq.{take_at, drop_at, take-add}
 use borrow.Author.Tests.{ltb-false, leb-false, lt-leb, le-ltb, eqb-true, eq-eqb, not-false}
 use Rattle.general.proofs.Tests.{neither}
-use Rattle.refusal.specs.declared.Verdict.{Verdict}
 use Rattle.refusal.specs.Checks.{verdict}
 use Rattle.refusal.proofs.Checks.{verdict-append, passed-append, none-fails}
 use Rattle.design.specs.declared.Design.{Design}
@@ -177,13 +177,13 @@ module _ (d : Design) (s : HexSession) where
   abbrev n : ℕ
   n = s.state.taken
 
-  set-passes : Ready d s → verdict (record_set_checks d initial offsets) ≡ Verdict.Passed
+  set-passes : Ready d s → verdict (record_set_checks d initial offsets) ≡ (Ok tt)
   unfolding record_set_checks bytes_check
   set-passes ready = rw (verdict-append, set-passed d initial offsets ready.tables, le-ltb _ _ ready.addressed)
 
   -- The record that is due is accepted, whatever bytes it holds.
   pub piece-passes : Ready d s → (piece : List ℕ) → PieceOf total n piece
-      → hex_verdict_on d s (record_text (record_head total n) piece) ≡ Verdict.Passed
+      → hex_verdict_on d s (record_text (record_head total n) piece) ≡ (Ok tt)
   unfolding hex_verdict_on hex_checks hex_state_check record_check record_due_check
   piece-passes ready piece fits =
       rw (
@@ -196,7 +196,7 @@ module _ (d : Design) (s : HexSession) where
         piece-due total n piece fits,
       )
 
-  module _ (text : List ℕ) (passes : hex_verdict_on d s text ≡ Verdict.Passed) where
+  module _ (text : List ℕ) (passes : hex_verdict_on d s text ≡ (Ok tt)) where
     -- What 1 to 10 and 20 tell, and what 17, 21 and 22 do
     set-tried : Usable d initial offsets × (byte_count d ≤ most_bytes)
     unfolding hex_verdict_on record_set_checks bytes_check

@@ -1,4 +1,5 @@
 -- A finished reading accepted exactly the writer's records.
+use Rattle.std.specs.Prelude.{Ok, Err}
 use mathlib.Core.Path.{◌≡◌, refl, sym, ap, ap₂, ◌∙◌}
 use mathlib.Core.Bool.{true, false, not}
 use mathlib.Core.List.{List, [], ◌∷◌, ◌++◌, append-nil}
@@ -11,7 +12,7 @@ use borrow.Author.Tests.{eqb-true, not-true, not-false}
 use Rattle.general.specs.Below.{list_below}
 use Rattle.general.proofs.ListLaws.{list-congruence}
 use Rattle.general.proofs.Tests.{neither, both}
-use Rattle.refusal.specs.declared.Verdict.{Verdict}
+use Rattle.refusal.specs.Verdict.{Verdict}
 use Rattle.refusal.specs.Checks.{verdict, passes}
 use Rattle.design.specs.declared.Design.{Design}
 use Rattle.design.specs.Stored.{initial_count, offset_total}
@@ -91,7 +92,7 @@ module _ (d : Design) (start : HexSession) where
 
   -- An accepted record is one more of the writer's.
   module _ (s : HexSession) (came : List (List ℕ)) (so_far : SoFar s came) (text : List ℕ)
-      (passes : hex_verdict_on d s text ≡ Verdict.Passed) where
+      (passes : hex_verdict_on d s text ≡ (Ok tt)) where
     abbrev n : ℕ
     n = s.state.taken
 
@@ -145,10 +146,10 @@ module _ (d : Design) (start : HexSession) where
       go : (v : Verdict) → hex_verdict_on d s text ≡ v
           → SoFar (hex_feed d (hex_after d s text) texts)
           (came ++ kept_if (hex_verdict_on d s text) text (hex_accepted d (hex_after d s text) texts))
-      go Verdict.Passed e =
+      go (Ok tt) e =
           rw (e, ← append_snoc came text (hex_accepted d (hex_after d s text) texts))
           (rest (hex_after d s text) (came ++ (text ∷ [])) (so-far-accepted s came so_far text e))
-      go (Verdict.Refused cause) e = rw (e, refused-stands d s text cause e) (rest s came so_far)
+      go (Err cause) e = rw (e, refused-stands d s text cause e) (rest s came so_far)
 
   follows : (texts : List (List ℕ)) → Follows texts
   unfolding hex_feed hex_accepted

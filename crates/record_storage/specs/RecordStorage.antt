@@ -1,13 +1,11 @@
 -- Document 02, A2: "Reading the written records restores every entry, and a finished reading accepts only the writer's records."
-use Rattle.std.specs.Prelude.{◌≡◌, true, List, ◌++◌, ℕ, ◌≤◌, ◌<◌, length, drop, ℤ}
-use Rattle.refusal.specs.declared.Verdict.{Verdict}
+use Rattle.std.specs.Prelude.{◌≡◌, true, List, ◌++◌, ℕ, ◌≤◌, ◌<◌, length, drop, ℤ, Ok}
 use Rattle.design.specs.declared.Design.{Design}
 use Rattle.design.specs.Stored.{initial_count, offset_total}
 use Rattle.design.specs.Legal.{Legal}
 use Rattle.design.specs.Budget.{Admitted}
 use Rattle.tables.specs.Inputs.{Usable}
 use Rattle.filling.specs.Fill.{fill_verdict, initial_after, offsets_after, Filled}
-use Rattle.writing.specs.declared.Written.{Written}
 use Rattle.records.specs.IntelHex.{record_count}
 use Rattle.records.specs.SetBytes.{entry_count, byte_count, entry_fits, set_record, set_records, most_bytes}
 use Rattle.record_writing.specs.WriteRecord.{hex_write_answer, record_buffer_after}
@@ -31,7 +29,7 @@ pub record Recordable (t : TableSet) : Type 0 where
 
 -- Asked for record n, the writer answers the record's length and leaves the record at the start of the buffer.
 pub record HexGives (t : TableSet) (n : ℕ) (buffer : List ℕ) : Type 0 where
-  pub answer : hex_write_answer t.design t.initial t.offsets n (length buffer) ≡ Written.Length (length (record_in t n))
+  pub answer : hex_write_answer t.design t.initial t.offsets n (length buffer) ≡ Ok (length (record_in t n))
   pub text : record_buffer_after t.design t.initial t.offsets n buffer ≡ record_in t n ++ drop (length (record_in t n)) buffer
 
 -- The set that a reading for a design has come to
@@ -78,7 +76,7 @@ pub record RecordStorage : Type 0 where
   -- what the fill writes can be stored: of an admitted design, all tables that begin with the entries the fill writes for it,
   pub filled : (t : TableSet) → Admitted t.design → Filled t.design t.initial t.offsets → Recordable t
   -- and what an accepted fill leaves
-  pub fills : (d : Design) (initial : List ℕ) (offsets : List ℤ) → fill_verdict d (length initial) (length offsets) ≡ Verdict.Passed
+  pub fills : (d : Design) (initial : List ℕ) (offsets : List ℤ) → fill_verdict d (length initial) (length offsets) ≡ (Ok tt)
       → Recordable (record { design = d; initial = initial_after d initial offsets; offsets = offsets_after d initial offsets })
   -- 20 is "never so within 01's limits, where a set takes at most 61,440"
   pub addressed : (d : Design) → Legal d → byte_count d ≤ 61440

@@ -1,4 +1,5 @@
 -- What the checks of the writer come to, and the length of the asked record.
+use Rattle.std.specs.Prelude.{Ok, Err, Result}
 use mathlib.Core.Path.{◌≡◌, ap, ◌∙◌}
 use mathlib.Core.List.{List, [], ◌∷◌, ◌++◌}
 use Prim.Native.Nat.{ℕ, ◌+◌, ◌*◌, ◌≤◌, ◌<◌}
@@ -8,7 +9,6 @@ use lib.IntN.{ℤ}
 use borrow.Author.Tests.{lt-ltb, le-ltb, le-leb, lt-leb}
 use Rattle.general.specs.Lists.{over}
 use Rattle.refusal.specs.declared.Cause.{Cause}
-use Rattle.refusal.specs.declared.Verdict.{Verdict}
 use Rattle.refusal.specs.Checks.{verdict}
 use Rattle.refusal.proofs.Checks.{verdict-append}
 use Rattle.design.specs.declared.Design.{Design}
@@ -18,7 +18,6 @@ use Rattle.tables.specs.Set.{set_checks}
 use Rattle.tables.proofs.SetLaws.{set-passed}
 use Rattle.encoding.specs.Bytes.{entry_bytes}
 use Rattle.encoding.specs.Encode.{line_of}
-use Rattle.writing.specs.declared.Written.{Written}
 use Rattle.writing.specs.Write.{width_check, room_check, told_by}
 use Rattle.writing.proofs.WriteLaws.{refuses-by, writes-by}
 use Rattle.records.specs.declared.Extent.{Extent}
@@ -48,20 +47,20 @@ use Rattle.record_writing.specs.Inputs.{AskedInput}
 -- "1 to 10, 20, then 19, 18, 14"
 module _ (d : Design) (initial : List ℕ) (offsets : List ℤ) (n buffer : ℕ) where
   -- A set that is refused by 1 to 10 is refused,
-  pub refused-before : {cause : Cause} → verdict (set_checks d (length initial) (length offsets)) ≡ Verdict.Refused cause
-      → hex_write_verdict d initial offsets n buffer ≡ Verdict.Refused cause
+  pub refused-before : {cause : Cause} → verdict (set_checks d (length initial) (length offsets)) ≡ Err cause
+      → hex_write_verdict d initial offsets n buffer ≡ Err cause
   unfolding hex_write_verdict record_set_checks
   refused-before e = rw (verdict-append, verdict-append, e)
 
   module _ (u : Usable d (length initial) (length offsets)) where
     -- one whose bytes have not all an address by 20,
-    pub past-addresses : most_bytes < byte_count d → hex_write_verdict d initial offsets n buffer ≡ Verdict.Refused Cause.AddressRange
+    pub past-addresses : most_bytes < byte_count d → hex_write_verdict d initial offsets n buffer ≡ Err Cause.AddressRange
     unfolding hex_write_verdict record_set_checks bytes_check
     past-addresses h = rw (verdict-append, verdict-append, set-passed _ _ _ u, lt-ltb _ _ h)
 
     -- a number past the set by 19,
     pub past-records : byte_count d ≤ most_bytes → record_count (byte_count d) ≤ n
-        → hex_write_verdict d initial offsets n buffer ≡ Verdict.Refused Cause.LineNumber
+        → hex_write_verdict d initial offsets n buffer ≡ Err Cause.LineNumber
     unfolding hex_write_verdict record_set_checks bytes_check hex_number_check
     past-records few h = rw (verdict-append, verdict-append, set-passed _ _ _ u, le-ltb _ _ few, le-leb _ _ h)
 
@@ -103,19 +102,19 @@ module _ (d : Design) (initial : List ℕ) (offsets : List ℤ) (n : ℕ) (exten
 -- The answer and the record buffer, by the verdict
 module _ (d : Design) (initial : List ℕ) (offsets : List ℤ) (n : ℕ) (buffer : List ℕ) where
   -- What is promised of an answer and of what the record buffer is left with
-  abbrev pub Promised : Written → List ℕ → Type 0
+  abbrev pub Promised : (Result ℕ Cause) → List ℕ → Type 0
   Promised r left =
       (r ≡ hex_write_answer d initial offsets n (length buffer))
       × ((told_by r ≡ hex_write_told d initial offsets n (length buffer))
       × (left ≡ record_buffer_after d initial offsets n buffer))
 
-  pub refuses : {cause : Cause} → hex_write_verdict d initial offsets n (length buffer) ≡ Verdict.Refused cause
-      → Promised (Written.Refused cause) buffer
+  pub refuses : {cause : Cause} → hex_write_verdict d initial offsets n (length buffer) ≡ Err cause
+      → Promised (Err cause) buffer
   unfolding hex_write_answer record_buffer_after hex_write_told
   refuses e = refuses-by _ (set_record d initial offsets n) buffer e
 
-  pub writes : {count : ℕ} {left : List ℕ} → hex_write_verdict d initial offsets n (length buffer) ≡ Verdict.Passed
+  pub writes : {count : ℕ} {left : List ℕ} → hex_write_verdict d initial offsets n (length buffer) ≡ (Ok tt)
       → length (set_record d initial offsets n) ≡ count → left ≡ over buffer 0 (set_record d initial offsets n)
-      → Promised (Written.Length count) left
+      → Promised (Ok count) left
   unfolding hex_write_answer record_buffer_after hex_write_told
   writes e count-is left_is = writes-by _ (set_record d initial offsets n) buffer e count-is left_is

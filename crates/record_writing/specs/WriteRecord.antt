@@ -1,14 +1,13 @@
 -- What the call `write_record` answers, "1 to 10, 20, then 19, 18, 14 for the writer", and what it leaves in the record buffer.
-use Rattle.std.specs.Prelude.{Bool, not, ◌&&◌, List, [], ◌∷◌, ◌++◌, ℕ, ◌+◌, ◌*◌, leb, ltb, length, ℤ}
+use Rattle.std.specs.Prelude.{Bool, not, ◌&&◌, List, [], ◌∷◌, ◌++◌, ℕ, ◌+◌, ◌*◌, leb, ltb, length, ℤ, Result}
 use Rattle.general.specs.Below.{some_below}
 use Rattle.refusal.specs.declared.Cause.{Cause}
-use Rattle.refusal.specs.declared.Verdict.{Verdict}
+use Rattle.refusal.specs.Verdict.{Verdict}
 use Rattle.refusal.specs.Checks.{Check, ◌↝◌, verdict, leaves}
 use Rattle.refusal.specs.Told.{Told, told}
 use Rattle.design.specs.declared.Design.{Design}
 use Rattle.design.specs.Stored.{initial_count}
 use Rattle.encoding.specs.Bytes.{entry_bytes}
-use Rattle.writing.specs.declared.Written.{Written}
 use Rattle.writing.specs.Write.{width_check, room_check, written_if}
 use Rattle.records.specs.IntelHex.{data_bytes, record_count}
 use Rattle.records.specs.SetBytes.{entry_count, byte_count, entry_fits, set_record, record_set_checks}
@@ -34,7 +33,7 @@ hex_write_verdict d initial offsets n buffer =
     ∷ room_check (length (set_record d initial offsets n)) buffer ∷ [])
 
 -- The record's length, as the writer of lines answers with the line's
-unfoldable pub hex_write_answer : Design → List ℕ → List ℤ → ℕ → ℕ → Written
+unfoldable pub hex_write_answer : Design → List ℕ → List ℤ → ℕ → ℕ → Result ℕ Cause
 hex_write_answer d initial offsets n buffer = written_if (hex_write_verdict d initial offsets n buffer) (set_record d initial offsets n)
 
 -- The record stands at the start of the buffer, the rest is untouched; a refusal leaves the buffer untouched.

@@ -19,9 +19,8 @@ use encoding::put_bytes;
 use records::{
     DATA_BYTES, Extent, HEAD_BYTES, MOST_BYTES, bytes_before, extent_of, head_of, record_count,
 };
-use refusal::{Cause, Verdict};
+use refusal::Cause;
 use tables::set_verdict;
-use writing::Written;
 
 // Whether entry e fits its 3 bytes.
 fn entry_fits(initials: usize, initial: &[u32], offsets: &[i32], e: usize) -> bool
@@ -122,21 +121,19 @@ pub fn write_record(
     offsets: &[i32],
     number: usize,
     record: &mut [u8],
-) -> Written
+) -> Result<usize, Cause>
     ensures answer { result ≡ hex_write_answer d initial.now offsets.now number (length «record».old) }
     ensures told { told_by result ≡ hex_write_told d initial.now offsets.now number (length «record».old) }
     ensures record_buffer { «record».new ≡ record_buffer_after d initial.now offsets.now number «record».old }
 {
-    if let Verdict::Refused(cause) = set_verdict(d, initial.len(), offsets.len()) {
-        return Written::Refused(cause);
-    }
+    set_verdict(d, initial.len(), offsets.len())?;
     let extent = extent_of(d);
     let total = ENTRY_BYTES * extent.entries;
     if MOST_BYTES < total {
-        return Written::Refused(Cause::AddressRange);
+        return Err(Cause::AddressRange);
     }
     if record_count(total) <= number {
-        return Written::Refused(Cause::LineNumber);
+        return Err(Cause::LineNumber);
     }
     let mut window = [0u8; WINDOW];
     let fits = put_entries(extent, initial, offsets, number, &mut window);
@@ -144,12 +141,12 @@ pub fn write_record(
     // a colon, and two digits for each of these bytes and of the five beside them
     let characters = 11 + 2 * size;
     if !fits {
-        return Written::Refused(Cause::EntryWidth);
+        return Err(Cause::EntryWidth);
     }
     if record.len() < characters {
-        return Written::Refused(Cause::OutputShort);
+        return Err(Cause::OutputShort);
     }
     put_head(total, number, &mut window);
     put_record(&window[..HEAD_BYTES + size], record);
-    Written::Length(characters)
+    Ok(characters)
 }

@@ -1,26 +1,32 @@
 -- What a verdict leads to: an answer that passes on what it tells, and what can be told from the answer.
+use Rattle.std.specs.Prelude.{Result, Ok, Err}
 use mathlib.Core.Path.{◌≡◌, refl}
 use Rattle.refusal.specs.declared.Cause.{Cause}
-use Rattle.refusal.specs.declared.Verdict.{Verdict}
+use Rattle.refusal.specs.Verdict.{Verdict}
 use Rattle.refusal.specs.Numbers.{number_of}
-use Rattle.refusal.specs.Checks.{if_passed}
-use Rattle.refusal.specs.Told.{Told, accepted, refused, told}
+use Rattle.refusal.specs.Checks.{if_passed, answer}
+use Rattle.refusal.specs.Told.{Told, accepted, refused, told, told_by}
 
--- A call's answer tells what is to be told, where its two cases do.
-pub answer-told : {Answer Values : Type 0} (by : Answer → Told Values) (v : Verdict) (answer : Answer) (refuse : Cause → Answer)
-    (values : Values) → by answer ≡ accepted values → ((cause : Cause) → by (refuse cause) ≡ refused (number_of cause) 0)
-    → by (if_passed v answer refuse) ≡ told v values
-answer-told by Verdict.Passed answer refuse values accepts refuses = accepts
-answer-told by (Verdict.Refused cause) answer refuse values accepts refuses = refuses cause
+-- A call's answer tells what is to be told.
+pub answer-told : {Values : Type 0} (v : Verdict) (values : Values) → told_by (answer v values) ≡ told v values
+answer-told (Ok tt) values = refl
+answer-told (Err cause) values = refl
+
+-- and by its values, where more is told of them than they are
+pub answer-told-by : {Answer Values : Type 0} (by : Result Answer Cause → Told Values) (v : Verdict) (values : Answer) (told_values : Values)
+    → by (Ok values) ≡ accepted told_values → ((cause : Cause) → by (Err cause) ≡ refused (number_of cause) 0)
+    → by (answer v values) ≡ told v told_values
+answer-told-by by (Ok tt) values told_values accepts refuses = accepts
+answer-told-by by (Err cause) values told_values accepts refuses = refuses cause
 
 -- A part of what a verdict leads to is what the verdict leads to of the parts.
 pub if-passed-part : {A B : Type 0} (part : A → B) (v : Verdict) (answer : A) (refusal : Cause → A)
     → part (if_passed v answer refusal) ≡ if_passed v (part answer) (λ cause. part (refusal cause))
-if-passed-part part Verdict.Passed answer refusal = refl
-if-passed-part part (Verdict.Refused cause) answer refusal = refl
+if-passed-part part (Ok tt) answer refusal = refl
+if-passed-part part (Err cause) answer refusal = refl
 
 -- What holds of no refusal's answer holds only where nothing was turned down.
 pub only-passed : {A : Type 0} (Holds : A → Type 0) (v : Verdict) (answer : A) (refusal : Cause → A)
-    → ((cause : Cause) → Holds (refusal cause) → ⊥) → Holds (if_passed v answer refusal) → v ≡ Verdict.Passed
-only-passed Holds Verdict.Passed answer refusal none h = refl
-only-passed Holds (Verdict.Refused cause) answer refusal none h = absurd (none cause h)
+    → ((cause : Cause) → Holds (refusal cause) → ⊥) → Holds (if_passed v answer refusal) → v ≡ (Ok tt)
+only-passed Holds (Ok tt) answer refusal none h = refl
+only-passed Holds (Err cause) answer refusal none h = absurd (none cause h)

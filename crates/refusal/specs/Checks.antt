@@ -1,7 +1,7 @@
 -- Checks in order: the first that fails gives the refusal.
-use Rattle.std.specs.Prelude.{Bool, true, false, ◌||◌, List, [], ◌∷◌, ◌++◌, ℕ, ltb, length, drop}
+use Rattle.std.specs.Prelude.{Result, Bool, true, false, ◌||◌, List, [], ◌∷◌, ◌++◌, ℕ, ltb, length, drop, Ok, Err}
 use Rattle.refusal.specs.declared.Cause.{Cause}
-use Rattle.refusal.specs.declared.Verdict.{Verdict}
+use Rattle.refusal.specs.Verdict.{Verdict}
 
 -- A condition that turns an input down, and the cause that it gives.
 pub record Check : Type 0 where
@@ -13,18 +13,18 @@ abbrev pub ◌↝◌ : Bool → Cause → Check
 fails ↝ cause = record { fails = fails; cause = cause }
 
 abbrev pub refuses : Bool → Cause → Verdict → Verdict
-refuses true cause later = Verdict.Refused cause
+refuses true cause later = Err cause
 refuses false cause later = later
 
 -- The verdict of a list of checks, tried from its head.
 abbrev pub verdict : List Check → Verdict
-verdict [] = Verdict.Passed
+verdict [] = (Ok tt)
 verdict (check ∷ checks) = refuses check.fails check.cause (verdict checks)
 
 -- What a verdict leads to: the answer where nothing was turned down, else what the cause of the refusal gives
 abbrev pub if_passed : {A : Type 0} → Verdict → A → (Cause → A) → A
-if_passed Verdict.Passed answer refusal = answer
-if_passed (Verdict.Refused cause) answer refusal = refusal cause
+if_passed (Ok tt) answer refusal = answer
+if_passed (Err cause) answer refusal = refusal cause
 
 -- Whether nothing was turned down
 abbrev pub passes : Verdict → Bool
@@ -38,3 +38,7 @@ leaves v entries before = if_passed v (entries ++ drop (length entries) before) 
 -- n is not within low..high
 abbrev pub outside : ℕ → ℕ → ℕ → Bool
 outside low high n = ltb n low || ltb high n
+
+-- What a call answers by the verdict of its checks: its values where nothing was turned down, else the cause
+abbrev pub answer : {Values : Type 0} → Verdict → Values → Result Values Cause
+answer v values = if_passed v (Ok values) Err

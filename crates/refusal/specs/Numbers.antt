@@ -2,7 +2,7 @@
 -- cause its number.
 use Rattle.std.specs.Prelude.{ℕ}
 use Rattle.refusal.specs.declared.Cause.{Cause}
-use Rattle.refusal.specs.declared.Verdict.{Verdict}
+use Rattle.refusal.specs.Verdict.{Verdict}
 use Rattle.refusal.specs.Checks.{if_passed}
 
 abbrev pub number_of : Cause → ℕ

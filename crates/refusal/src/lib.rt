@@ -5,7 +5,7 @@ ghost use Rattle.std.specs.Prelude.{◌≡◌};
 ghost use Rattle.refusal.specs.Numbers.{number_of};
 ghost use Rattle.refusal.specs.Checks as Checks;
 
-#[derive(Clone, Copy)]
+#[derive(Clone, Copy, Debug, PartialEq, Eq)]
 pub enum Cause {
     Kind,
     InputWidth,
@@ -33,42 +33,37 @@ pub enum Cause {
     NoneAdmitted,
 }
 
-// What a list of checks comes to: nothing turned the input down, or the first check that did.
-#[derive(Clone, Copy)]
-pub enum Verdict {
-    Passed,
-    Refused(Cause),
-}
-
 // The number that documents 01 and 02 give a cause.
-pub fn number(cause: Cause) -> u8
-    ensures { result ≡ number_of cause }
-{
-    match cause {
-        Cause::Kind => 1,
-        Cause::InputWidth => 2,
-        Cause::OutputWidth => 3,
-        Cause::GuardBits => 4,
-        Cause::InitialBits => 5,
-        Cause::TableCount => 6,
-        Cause::SegmentBits => 7,
-        Cause::OffsetBits => 8,
-        Cause::CutSum => 9,
-        Cause::TablesShort => 10,
-        Cause::NotAdmitted => 11,
-        Cause::WordRange => 12,
-        Cause::SumRange => 13,
-        Cause::OutputShort => 14,
-        Cause::Line => 15,
-        Cause::Frame => 16,
-        Cause::State => 17,
-        Cause::EntryWidth => 18,
-        Cause::LineNumber => 19,
-        Cause::AddressRange => 20,
-        Cause::Record => 21,
-        Cause::RecordDue => 22,
-        Cause::InitialRange => 23,
-        Cause::NoneAdmitted => 24,
+impl From<Cause> for u8 {
+    ghost from_gives = { λ cause number. number ≡ number_of cause };
+
+    fn from(cause: Cause) -> u8 {
+        match cause {
+            Cause::Kind => 1,
+            Cause::InputWidth => 2,
+            Cause::OutputWidth => 3,
+            Cause::GuardBits => 4,
+            Cause::InitialBits => 5,
+            Cause::TableCount => 6,
+            Cause::SegmentBits => 7,
+            Cause::OffsetBits => 8,
+            Cause::CutSum => 9,
+            Cause::TablesShort => 10,
+            Cause::NotAdmitted => 11,
+            Cause::WordRange => 12,
+            Cause::SumRange => 13,
+            Cause::OutputShort => 14,
+            Cause::Line => 15,
+            Cause::Frame => 16,
+            Cause::State => 17,
+            Cause::EntryWidth => 18,
+            Cause::LineNumber => 19,
+            Cause::AddressRange => 20,
+            Cause::Record => 21,
+            Cause::RecordDue => 22,
+            Cause::InitialRange => 23,
+            Cause::NoneAdmitted => 24,
+        }
     }
 }
 

@@ -1,4 +1,6 @@
 -- The decimal digits of a number: how many there are, and how an array takes them up from its end.
+use Rattle.refusal.specs.declared.Cause.{Cause}
+use Rattle.std.specs.Prelude.{Result}
 use mathlib.Core.Path.{◌≡◌, refl, sym, ◌∙◌}
 use mathlib.Core.List.{List, [], ◌∷◌, ◌++◌, append-nil}
 use Prim.Native.Nat.{ℕ, zero, suc, ◌+◌, ◌-◌, ◌/◌, ◌%◌, ◌^◌, ◌≤◌, ◌<◌}
@@ -47,25 +49,25 @@ drop-set : (l : List ℕ) (i v : ℕ) → i < length l → drop i (set l i v) �
 drop-set l i v h = rw set_split (drop_at (take i l) (v ∷ drop (suc i) l) i (length-take-le i l (le_of_lt h)))
 
 -- The digits of n are those of `rest`, which are to be written up to `at`, and those that stand behind `at`.
-pub record Written (n : ℕ) (digits : List ℕ) (at rest : ℕ) : Type 0 where
+pub record (Result ℕ Cause) (n : ℕ) (digits : List ℕ) (at rest : ℕ) : Type 0 where
   pub full : length digits ≡ 20
   pub inside : at < 20
   pub few : rest < 10 ^ suc at
   pub whole : decimal n ≡ decimal_within (suc at) rest ++ drop (suc at) digits
 
-pub none_written : (n : ℕ) → n < 2 ^ 64 → Written n (replicate 20 0) 19 n
+pub none_written : (n : ℕ) → n < 2 ^ 64 → (Result ℕ Cause) n (replicate 20 0) 19 n
 unfolding decimal
 none_written n h =
     record { full = refl; inside = omega arith; few = omega arith; whole = sym (append-nil (decimal_within 20 n)) }
 
-module _ {n : ℕ} {digits : List ℕ} {at rest : ℕ} (w : Written n digits at rest) where
+module _ {n : ℕ} {digits : List ℕ} {at rest : ℕ} (w : (Result ℕ Cause) n digits at rest) where
   pub room-before : 10 ≤ rest → 1 ≤ at
   room-before two = omega (arith, tenth-within (suc at) rest two w.few)
 
   written_at : (v : ℕ) → drop at (set digits at v) ≡ v ∷ drop (suc at) digits
   written_at v = drop-set digits at v (omega arith)
 
-  pub digit-written : 10 ≤ rest → Written n (set digits at (48 + rest % 10)) (at - 1) (rest / 10)
+  pub digit-written : 10 ≤ rest → (Result ℕ Cause) n (set digits at (48 + rest % 10)) (at - 1) (rest / 10)
   digit-written two =
       let e : suc (at - 1) ≡ at = omega (arith, room-before two) in
       record {

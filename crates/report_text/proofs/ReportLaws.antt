@@ -1,4 +1,5 @@
 -- The report by the verdict on its line: a refusal gives the text, and of a line that passes the design does.
+use Rattle.std.specs.Prelude.{Ok, Err}
 use mathlib.Core.Path.{◌≡◌, sym, ap, ◌∙◌}
 use mathlib.Core.List.{List}
 use Prim.Native.Nat.{ℕ, ◌+◌, ◌≤◌, ◌<◌}
@@ -7,7 +8,7 @@ use native.Mathlib.Omega.{arith}
 use lib.ListN.{length, take}
 use lib.Seq.{take_all, length-take-le}
 use Rattle.refusal.specs.declared.Cause.{Cause}
-use Rattle.refusal.specs.declared.Verdict.{Verdict}
+use Rattle.refusal.specs.Verdict.{Verdict}
 use Rattle.design.specs.Legal.{Legal}
 use Rattle.frames.specs.declared.DesignLine.{DesignLine}
 use Rattle.frames.specs.Line.{longest_line, line_checks}
@@ -23,11 +24,11 @@ module _ (line : List ℕ) (read : DesignLine) (read_is : read ≡ design_line l
   unfolding design_line
   verdict-told e = sym (ap (λ (r : DesignLine). r.verdict) read_is) ∙ e
 
-  pub refused-line : (cause : Cause) → read.verdict ≡ Verdict.Refused cause → text_of (refused_text cause) ≡ report_of line
+  pub refused-line : (cause : Cause) → read.verdict ≡ Err cause → text_of (refused_text cause) ≡ report_of line
   unfolding report_of
   refused-line cause e = rw (verdict-told e)
 
-  module _ (passed : read.verdict ≡ Verdict.Passed) where
+  module _ (passed : read.verdict ≡ (Ok tt)) where
     pub legal-line : Legal read.design
     legal-line = rw read_is (design-legal line (verdict-told passed))
 

@@ -10,7 +10,7 @@ ghost use Rattle.report_text.specs.Report.{line_text, refused_text, report_of};
 use design::Design;
 use design::measure::{budget_of, limit_of};
 use frames::design_line;
-use refusal::{Cause, Verdict};
+use refusal::Cause;
 use sizing::size_of;
 
 // Text of at most 96 bytes: the bytes with zeros behind them, and how many there are.
@@ -111,7 +111,7 @@ pub fn report(line: &[u8]) -> Text
 {
     let read = design_line(line);
     let verdict = read.verdict;
-    if let Verdict::Refused(cause) = verdict {
+    if let Err(cause) = verdict {
         return refused(cause);
     }
     let d = read.design;

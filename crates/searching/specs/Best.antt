@@ -1,7 +1,7 @@
 -- Document 02, A5: which design the call `smallest` hands back.
-use Rattle.std.specs.Prelude.{Bool, cond, not, ◌&&◌, List, [], ◌∷◌, ◌++◌, ℕ, ◌-◌, ◌^◌, ltb}
+use Rattle.std.specs.Prelude.{Bool, cond, not, ◌&&◌, List, [], ◌∷◌, ◌++◌, ℕ, ◌-◌, ◌^◌, ltb, Ok, Err}
 use Rattle.refusal.specs.declared.Cause.{Cause}
-use Rattle.refusal.specs.declared.Verdict.{Verdict}
+use Rattle.refusal.specs.Verdict.{Verdict}
 use Rattle.refusal.specs.Checks.{Check, ◌↝◌, verdict, if_passed, passes}
 use Rattle.refusal.specs.Told.{Told, told}
 use Rattle.values.specs.Widths.{limits_of, function_checks}
@@ -46,11 +46,11 @@ smallest_verdict kind w q = verdict (smallest_checks kind w q)
 
 -- What the call answers: design and bits; a design and a size of zeros where it is refused
 unfoldable pub refused_with : Cause → Found
-refused_with cause = record { verdict = Verdict.Refused cause; best = record { design = no_design; bits = 0 } }
+refused_with cause = record { verdict = Err cause; best = record { design = no_design; bits = 0 } }
 
 unfoldable pub smallest_answer : ℕ → ℕ → ℕ → Found
 smallest_answer kind w q =
-    if_passed (smallest_verdict kind w q) (record { verdict = Verdict.Passed; best = smallest_of kind w q }) refused_with
+    if_passed (smallest_verdict kind w q) (record { verdict = (Ok tt); best = smallest_of kind w q }) refused_with
 
 -- What an answer tells, and what is to be told
 abbrev pub told_by : Found → Told SizedDesign

@@ -1,7 +1,6 @@
 -- What inner calls of the search promise each other, and may count on.
-use Rattle.std.specs.Prelude.{false, List, ◌≡◌, ℕ, ◌+◌, ◌-◌, ◌*◌, ◌^◌, ◌≤◌, ◌<◌, length, get_or}
+use Rattle.std.specs.Prelude.{false, List, ◌≡◌, ℕ, ◌+◌, ◌-◌, ◌*◌, ◌^◌, ◌≤◌, ◌<◌, length, get_or, Ok}
 use Rattle.general.specs.Below.{sum_below}
-use Rattle.refusal.specs.declared.Verdict.{Verdict}
 use Rattle.refusal.specs.Checks.{verdict}
 use Rattle.values.specs.Rows.{row_of}
 use Rattle.values.specs.Slopes.{largest_spread, largest_sum}
@@ -29,7 +28,7 @@ prefix_of d i = record { design = d; tables = i; position = position d i; bits =
 
 -- A design whose widths and alpha are within their limits
 pub record Started (d : Design) : Type 0 where
-  pub widths : verdict (width_checks (limits_of d.kind) d.kind d.w d.q d.g) ≡ Verdict.Passed
+  pub widths : verdict (width_checks (limits_of d.kind) d.kind d.w d.q d.g) ≡ (Ok tt)
   pub alpha-low : least_initial_bits ≤ d.alpha
   pub alpha-high : d.alpha ≤ most_initial_bits
   pub alpha-below : d.alpha < d.w

@@ -12,7 +12,7 @@ mod slopes;
 use design::Design;
 use numbers::{NO_BITS, best_design};
 use prefix::no_design;
-use refusal::{Cause, Verdict};
+use refusal::Cause;
 use values::widths::{function_verdict, limits_of};
 
 // A design and its size in bits.
@@ -37,7 +37,7 @@ fn refused(cause: Cause) -> Found
         bits: 0,
     };
     Found {
-        verdict: Verdict::Refused(cause),
+        verdict: Err(cause),
         best,
     }
 }
@@ -47,7 +47,7 @@ pub fn smallest(kind: u32, w: u32, q: u32) -> Found
     ensures answer { result ≡ smallest_answer kind w q }
     ensures told { told_by result ≡ smallest_told kind w q }
 {
-    if let Verdict::Refused(cause) = function_verdict(limits_of(kind), kind, w, q) {
+    if let Err(cause) = function_verdict(limits_of(kind), kind, w, q) {
         return refused(cause);
     }
     let best = best_design(kind, w, q);
@@ -55,7 +55,7 @@ pub fn smallest(kind: u32, w: u32, q: u32) -> Found
         return refused(Cause::NoneAdmitted);
     }
     Found {
-        verdict: Verdict::Passed,
+        verdict: Ok(()),
         best,
     }
 }

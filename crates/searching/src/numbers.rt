@@ -1,7 +1,7 @@
 // The best design over all guard bits, initial bits and numbers of tables, in document 02's order.
 ghost use Rattle.std.specs.Prelude.{◌≡◌};
 ghost use Rattle.general.specs.Below.{for_each};
-ghost use Rattle.refusal.specs.declared.Verdict.{Verdict};
+ghost use Rattle.refusal.specs.Verdict.{Verdict};
 ghost use Rattle.refusal.specs.Checks.{verdict};
 ghost use Rattle.values.specs.Widths.{limits_of, function_checks, width_checks};
 ghost use Rattle.design.specs.Limits.{least_initial_bits, most_initial_bits, most_tables};
@@ -58,7 +58,7 @@ fn each_table_count(slopes: &[u64], d: Design, best: SizedDesign) -> SizedDesign
 
 // The same, by alpha.
 fn each_initial_bits(kind: u32, w: u32, q: u32, g: u32, best: SizedDesign) -> SizedDesign
-    requires { verdict (width_checks (limits_of kind) kind w q g) ≡ Verdict.Passed }
+    requires { verdict (width_checks (limits_of kind) kind w q g) ≡ Ok tt }
     ensures { result ≡ best_of best (for_each least_initial_bits most_initial_bits
         (λ alpha. for_each 1 most_tables (λ m. continued m (Designs.bare kind w q g alpha m) 0))) }
 {
@@ -73,7 +73,7 @@ fn each_initial_bits(kind: u32, w: u32, q: u32, g: u32, best: SizedDesign) -> Si
 
 // The best of all designs of a kind, w and q that pass, by g.
 pub fn best_design(kind: u32, w: u32, q: u32) -> SizedDesign
-    requires { verdict (function_checks (limits_of kind) kind w q) ≡ Verdict.Passed }
+    requires { verdict (function_checks (limits_of kind) kind w q) ≡ Ok tt }
     ensures { result ≡ smallest_of kind w q }
 {
     let limits = limits_of(kind);

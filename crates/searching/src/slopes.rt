@@ -1,6 +1,6 @@
 // The largest Hi - Lo and the largest Hi + Lo for each number of segment bits, found once for a function and its widths.
 ghost use Rattle.std.specs.Prelude.{◌+◌, ◌≤◌, ◌≡◌, length};
-ghost use Rattle.refusal.specs.declared.Verdict.{Verdict};
+ghost use Rattle.refusal.specs.Verdict.{Verdict};
 ghost use Rattle.refusal.specs.Checks.{verdict};
 ghost use Rattle.values.specs.Widths.{limits_of, width_checks};
 ghost use Rattle.design.specs.Limits.{most_table_bits};
@@ -19,7 +19,7 @@ pub const SLOPES: usize = 2 * SPREADS;
 // Both for kind and widths that pass: the largest Hi - Lo at place a, the largest Hi + Lo behind all of those. Those of a at w and beyond
 // are left 0.
 pub fn slopes_by_a(kind: u32, w: u32, q: u32, g: u32) -> [u64; SLOPES]
-    requires { verdict (width_checks (limits_of kind) kind w q g) ≡ Verdict.Passed }
+    requires { verdict (width_checks (limits_of kind) kind w q g) ≡ Ok tt }
     ensures { SlopesOf kind w (q + g) result }
 {
     let row = row_of(kind);

@@ -1,4 +1,5 @@
 -- What lines that are read do to a reading, one after another.
+use Rattle.std.specs.Prelude.{Ok, Err}
 use mathlib.Core.Path.{◌≡◌, refl, sym, ap, ◌∙◌}
 use mathlib.Core.Bool.{Bool, true, false, cond, true≢false}
 use mathlib.Core.List.{List, [], ◌∷◌, ◌++◌, append_assoc, append-nil, map-append}
@@ -10,7 +11,7 @@ use lib.Seq.{length-take-le, get_or-take}
 use lib.IntN.{ℤ}
 use Rattle.general.proofs.JoinedLaws.{all_weaker, all_append}
 use Rattle.refusal.specs.declared.Cause.{Cause}
-use Rattle.refusal.specs.declared.Verdict.{Verdict}
+use Rattle.refusal.specs.Verdict.{Verdict}
 use Rattle.reading.specs.declared.Reading.{Reading}
 use Rattle.reading.specs.declared.Read.{Read}
 use Rattle.reading.specs.ReadLine.{finished, Session, session, verdict_on, after, read_answer}
@@ -118,7 +119,7 @@ module _ (state : Reading) (initial initial' : List ℕ) (offsets offsets' : Lis
     state-told = ap (λ (r : Read). r.state) answer
 
     -- It was refused: the reading stands,
-    pub fed-refused : (cause : Cause) → read.verdict ≡ Verdict.Refused cause
+    pub fed-refused : (cause : Cause) → read.verdict ≡ Err cause
         → (session state initial' offsets' ≡ after s line) × (Came.Refused cause ≡ came_on s line)
     fed-refused cause e =
         let told = verdict-told e in
@@ -126,7 +127,7 @@ module _ (state : Reading) (initial initial' : List ℕ) (offsets offsets' : Lis
         (rw (initial-is, offsets-is, stands), rw told)
 
     -- or taken: the reading moves on, and may be finished.
-    pub fed-taken : read.verdict ≡ Verdict.Passed
+    pub fed-taken : read.verdict ≡ (Ok tt)
         → (session read.state initial' offsets' ≡ after s line) × (came_of (finished read.state) ≡ came_on s line)
     fed-taken e = (rw (initial-is, offsets-is, state-told), rw (state-told, verdict-told e))
 
@@ -156,7 +157,7 @@ module _ (s : Session) (line : List ℕ) (plain : NoNewline line (length line)) 
   led-by : (n : ℕ) (v : Verdict) (is : Bool) → verdict_on s line ≡ v → finished (after s line).state ≡ is
       → Led s (after s line) from input to block n (lines_with (came_by v is) n) (came_by v is)
   unfolding feed accepted finishes finished_by input_bytes
-  led-by n Verdict.Passed is e f =
+  led-by n (Ok tt) is e f =
       record {
         lines = came-line ∷ [];
         fed = refl;
@@ -169,7 +170,7 @@ module _ (s : Session) (line : List ℕ) (plain : NoNewline line (length line)) 
         taken = rw (no-refusal-bytes is no_line, append-nil (spelled end line), append-nil (spelled end line)) takes;
         ends = (over, tt);
       }
-  led-by n (Verdict.Refused cause) is e f =
+  led-by n (Err cause) is e f =
       rw (refused-stands s line cause e)
       (record {
         lines = [];
@@ -179,7 +180,7 @@ module _ (s : Session) (line : List ℕ) (plain : NoNewline line (length line)) 
         sets = refl;
         complete = λ set. let z : ◌≡◌ {A = ℕ} 0 1 = cc in absurd (omega arith);
         line = came-line;
-        refused = λ other same. e ∙ ap Verdict.Refused (cc);
+        refused = λ other same. e ∙ ap Err (cc);
         taken = takes;
         ends = tt;
       })

@@ -1,4 +1,5 @@
 -- Lines that the writer gives, and tables that hold every set.
+use Rattle.std.specs.Prelude.{Ok, Err}
 use mathlib.Core.Path.{◌≡◌}
 use mathlib.Core.Bool.{Bool, false, not, ◌&&◌}
 use mathlib.Core.List.{List, [], ◌∷◌, ◌++◌}
@@ -7,7 +8,7 @@ use native.Mathlib.Omega.{arith}
 use lib.ListN.{length, take}
 use lib.IntN.{ℤ}
 use Rattle.refusal.specs.declared.Cause.{Cause}
-use Rattle.refusal.specs.declared.Verdict.{Verdict}
+use Rattle.refusal.specs.Verdict.{Verdict}
 use Rattle.refusal.specs.Checks.{passes}
 use Rattle.design.specs.declared.Design.{Design}
 use Rattle.design.specs.Legal.{Legal}
@@ -19,7 +20,6 @@ use Rattle.encoding.proofs.LineBack.{line-length}
 use Rattle.lines.specs.Slots.{line_count, slot_of}
 use Rattle.lines.specs.Lines.{frame_of, line_at}
 use Rattle.lines.proofs.FrameLaws.{frame-short, frame-length}
-use Rattle.writing.specs.declared.Written.{Written}
 use Rattle.writing.specs.Write.{write_verdict, write_answer, buffer_after}
 use Rattle.writing.proofs.WriteLaws.{given, line-passes}
 use Rattle.storage.specs.Sets.{TableSet, Storable}
@@ -38,7 +38,7 @@ line-short d initial offsets n legal =
 
 -- A line that the writer gives leaves room for a newline,
 pub given-short : (d : Design) (initial : List ℕ) (offsets : List ℤ) (n buffer : ℕ) {digits : ℕ}
-    → write_answer d initial offsets n buffer ≡ Written.Length digits → digits ≤ longest_line
+    → write_answer d initial offsets n buffer ≡ Ok digits → digits ≤ longest_line
 unfolding write_answer
 given-short d initial offsets n buffer e =
     let v = write_verdict d initial offsets n buffer in
@@ -51,7 +51,7 @@ module _ (d : Design) (initial : List ℕ) (offsets : List ℤ) (n room : ℕ) w
   abbrev asked : Verdict
   asked = write_verdict d initial offsets n room
 
-  pub line-put : {digits : ℕ} → write_answer d initial offsets n room ≡ Written.Length digits
+  pub line-put : {digits : ℕ} → write_answer d initial offsets n room ≡ Ok digits
       → (block : ℕ) (buffer left start end : List ℕ) (more failed : Bool) → length buffer ≡ room → left ≡ buffer_after d initial offsets n buffer
       → Puts block start (take digits left ++ 10 ∷ []) end → more ≡ not failed
       → Puts block start (put_if asked (line_at d initial offsets n)) end × (more ≡ (passes asked && not failed))
@@ -59,14 +59,14 @@ module _ (d : Design) (initial : List ℕ) (offsets : List ℤ) (n room : ℕ) w
   line-put e block buffer left start end more failed long is puts told =
       put-given asked (line_at d initial offsets n) e block buffer left start end more failed (rw long at is) puts told
 
-  pub line_refused : {cause : Cause} → write_answer d initial offsets n room ≡ Written.Refused cause → (block : ℕ) (start : List ℕ) (failed : Bool)
+  pub line_refused : {cause : Cause} → write_answer d initial offsets n room ≡ Err cause → (block : ℕ) (start : List ℕ) (failed : Bool)
       → Puts block start (put_if asked (line_at d initial offsets n)) start × (false ≡ (passes asked && not failed))
   unfolding write_answer
   line_refused e block start failed = put-none asked (line_at d initial offsets n) e block start failed
 
 -- The writer gives each line of a set that can be written.
 pub each-given : (t : TableSet) → Storable t → (n : ℕ) → n < line_count t.design
-    → write_verdict t.design t.initial t.offsets n (longest_line + 1) ≡ Verdict.Passed
+    → write_verdict t.design t.initial t.offsets n (longest_line + 1) ≡ (Ok tt)
 each-given t storable n h =
     line-passes t.design t.initial t.offsets n (longest_line + 1) storable.usable h (storable-lines t storable n h)
     (omega (arith, line-short t.design t.initial t.offsets n storable.usable.legal))

@@ -1,8 +1,8 @@
 -- What can be said of sets that are read from the input, whatever lines come.
-use Rattle.std.specs.Prelude.{◌≡◌, Bool, true, false, cond, List, [], ◌∷◌, ◌++◌, map, ℕ, ◌+◌, length}
+use Rattle.std.specs.Prelude.{◌≡◌, Bool, true, false, cond, List, [], ◌∷◌, ◌++◌, map, ℕ, ◌+◌, length, Err}
 use Rattle.general.specs.Lists.{All}
 use Rattle.refusal.specs.declared.Cause.{Cause}
-use Rattle.refusal.specs.declared.Verdict.{Verdict}
+use Rattle.refusal.specs.Verdict.{Verdict}
 use Rattle.refusal.specs.Checks.{if_passed}
 use Rattle.design.specs.declared.Design.{Design}
 use Rattle.design.specs.Legal.{Legal}
@@ -93,7 +93,7 @@ pub record Led (before next : Session) (from : Console) (input : List ℕ) (to :
   pub complete : came ≡ Came.Set → Finished next
   -- Where a line is said to be refused for a cause, the reader refuses the next line for it, or what was read of that.
   pub line : InputLine
-  pub refused : (cause : Cause) → came ≡ Came.Refused cause → verdict_on next line.line ≡ Verdict.Refused cause
+  pub refused : (cause : Cause) → came ≡ Came.Refused cause → verdict_on next line.line ≡ Err cause
   -- The bytes that were taken from the input's blocks are those of these lines, in order, and of the one that is refused.
   pub taken : Takes from input (input_bytes lines ++ refused_bytes came line) to block
   -- The end of the input ended a line only where the input has ended.

@@ -16,11 +16,11 @@ ghost use Rattle.set_console.specs.Reading.{HoldsEverySet, came_of, came_on, is_
 
 use checking::Checked;
 use console::{Console, KEPT, is_absent};
-use counting::{Counted, Counts};
+use counting::Counts;
 use design::{Design, NO_PAIR};
 use reading::Reading;
-use refusal::{Cause, Verdict};
-use writing::{Written, write_line};
+use refusal::Cause;
+use writing::write_line;
 
 // What came of the input: a line that was taken, and no set is finished with it; one that finished a set; none, as the input has ended; one
 // that is refused.
@@ -120,7 +120,7 @@ fn feed_line(set: SetRead, initial: &mut [u32], offsets: &mut [i32], line: &[u8]
     let console = set.console;
     let read = state.read_line(initial, offsets, line);
     let verdict = read.verdict;
-    if let Verdict::Refused(cause) = verdict {
+    if let Err(cause) = verdict {
         return SetRead {
             state,
             console,
@@ -260,8 +260,8 @@ pub fn put_line(
 {
     let mut buffer = [0u8; KEPT];
     match write_line(d, initial, offsets, number, &mut buffer) {
-        Written::Length(length) => put_text(rt, console, output, &mut buffer, length),
-        Written::Refused(_) => Put {
+        Ok(length) => put_text(rt, console, output, &mut buffer, length),
+        Err(_) => Put {
             console,
             more: false,
         },
@@ -343,7 +343,7 @@ pub fn put_checked(
             let numbered = put_number(rt, console, output, b"UNFAITHFUL ", x as u64);
             numbered.put(rt, output, b"\n")
         }
-        Checked::Refused(cause) => console.put_refused(rt, output, cause),
+        Err(cause) => console.put_refused(rt, output, cause),
     }
 }
 
@@ -367,10 +367,10 @@ pub fn put_counted(
     rt: &impl Print,
     console: Console,
     output: &mut [u8],
-    counted: Counted,
+    counted: Result<Counts, Cause>,
 ) -> Console {
     match counted {
-        Counted::Counts(counts) => put_counts(rt, console, output, counts),
-        Counted::Refused(cause) => console.put_refused(rt, output, cause),
+        Ok(counts) => put_counts(rt, console, output, counts),
+        Err(cause) => console.put_refused(rt, output, cause),
     }
 }

@@ -1,11 +1,11 @@
 -- Document 02, A6: the size in bits, and what the call `size` answers.
-use Rattle.std.specs.Prelude.{[], ◌∷◌, ◌++◌, ℕ, ◌+◌, ◌*◌}
+use Rattle.refusal.specs.declared.Cause.{Cause}
+use Rattle.std.specs.Prelude.{[], ◌∷◌, ◌++◌, ℕ, ◌+◌, ◌*◌, Result, Ok, Err}
 use Rattle.general.specs.Below.{sum_below}
-use Rattle.refusal.specs.declared.Verdict.{Verdict}
+use Rattle.refusal.specs.Verdict.{Verdict}
 use Rattle.refusal.specs.Checks.{verdict, if_passed}
 use Rattle.refusal.specs.Told.{Told, told}
 use Rattle.design.specs.declared.Design.{Design}
-use Rattle.design.specs.declared.Measured.{Measured}
 use Rattle.design.specs.Cut.{fraction_bits}
 use Rattle.design.specs.Stored.{initial_count, offset_count}
 use Rattle.design.specs.Legal.{design_checks}
@@ -27,8 +27,8 @@ size d = initial_size d + sum_below d.m (table_size d)
 unfoldable pub size_verdict : Design → Verdict
 size_verdict d = verdict (design_checks d ++ admitted_check d ∷ [])
 
-unfoldable pub size_answer : Design → Measured
-size_answer d = if_passed (size_verdict d) (Measured.Is (size d)) Measured.Refused
+unfoldable pub size_answer : Design → Result ℕ Cause
+size_answer d = if_passed (size_verdict d) (Ok (size d)) Err
 
 -- What is to be told
 unfoldable pub size_told : Design → Told ℕ

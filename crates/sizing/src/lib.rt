@@ -15,10 +15,10 @@ ghost use Rattle.sizing.specs.Widest.{widest_offset, bits_for};
 
 use design::legal::{design_verdict, pair_at};
 use design::measure::{budget_of, limit_of, offset_count, table_slopes};
-use design::{Design, Measured};
+use design::Design;
 use entries::magnitude_of;
 use general::{digit_count, pow2};
-use refusal::{Cause, Verdict};
+use refusal::Cause;
 
 // inner: the bits of each offset of a table, by the largest Hi + Lo of its segments, its b and its p. The widest offset is T or -1 - T of
 // the largest |j|; either takes T's digits and one bit for the sign.
@@ -74,15 +74,13 @@ pub fn size_of(d: Design) -> u64
 }
 
 // The size in bits of an admitted design, or the refusal: 1 to 9, then 11.
-pub fn size(d: Design) -> Measured
+pub fn size(d: Design) -> Result<u64, Cause>
     ensures answer { result ≡ size_answer d }
     ensures told { told_by result ≡ size_told d }
 {
-    if let Verdict::Refused(cause) = design_verdict(d) {
-        return Measured::Refused(cause);
-    }
+    design_verdict(d)?;
     if limit_of(d) <= budget_of(d) {
-        return Measured::Refused(Cause::NotAdmitted);
+        return Err(Cause::NotAdmitted);
     }
-    Measured::Is(size_of(d))
+    Ok(size_of(d))
 }

@@ -6,15 +6,15 @@ ghost use Rattle.design.specs.Legal.{Legal};
 use console::{Console, KEPT, TURNS};
 use design::Design;
 use encoding::{design_frame, put_line};
-use question_text::{Question, QuestionText, ReadQuestion};
-use refusal::Verdict;
+use question_text::{Question, QuestionText};
+use refusal::Cause;
 use searching::smallest;
 
 // What the line is: everything before the first newline, or everything there is.
 #[derive(Clone, Copy)]
 struct QuestionLine {
     console: Console,
-    question: ReadQuestion,
+    question: Option<Question>,
 }
 
 // A character at a time, so that the line may be of any length.
@@ -43,7 +43,7 @@ fn read_question(rt: &(impl Input + Print), input: &mut [u8], output: &[u8]) -> 
     }
     QuestionLine {
         console,
-        question: ReadQuestion::NotThreeNumbers,
+        question: None,
     }
 }
 
@@ -65,8 +65,8 @@ fn answer(rt: &impl Print, console: Console, output: &mut [u8], question: Questi
     let verdict = found.verdict;
     let best = found.best;
     match verdict {
-        Verdict::Passed => put_design(rt, console, output, best.design),
-        Verdict::Refused(cause) => console.put_refused(rt, output, cause),
+        Ok(()) => put_design(rt, console, output, best.design),
+        Err(cause) => console.put_refused(rt, output, cause),
     }
 }
 
@@ -75,8 +75,8 @@ fn read_and_answer(rt: &(impl Input + Print), input: &mut [u8], output: &mut [u8
     let console = line.console;
     let question = line.question;
     match question {
-        ReadQuestion::Numbers(numbers) => answer(rt, console, output, numbers),
-        ReadQuestion::NotThreeNumbers => console.put(rt, output, b"NOT THREE NUMBERS\n"),
+        Some(numbers) => answer(rt, console, output, numbers),
+        None => console.put(rt, output, b"NOT THREE NUMBERS\n"),
     }
 }
 

@@ -1,5 +1,8 @@
 -- Document 01, "Examples": those marked *, as one list about the definitions, the budgets as document 02, A7, has them. The checker computes
 -- each.
+use Rattle.values.specs.declared.FloorValue.{FloorValue}
+use Rattle.refusal.specs.declared.Cause.{Cause}
+use Rattle.std.specs.Prelude.{Result, Ok}
 use mathlib.Core.Path.{◌≡◌, refl}
 use mathlib.Core.Bool.{Bool, false}
 use mathlib.Core.List.{[], ◌∷◌}
@@ -8,7 +11,6 @@ use lib.Dec.{lit<}
 use lib.IntN.{ℤ, pos, neg_ℤ}
 use lib.ListN.{take}
 use Rattle.refusal.specs.Numbers.{verdict_number}
-use Rattle.values.specs.declared.Valued.{Valued}
 use Rattle.values.specs.Value.{value_of}
 use Rattle.design.specs.declared.Design.{Design}
 use Rattle.design.specs.Cut.{no_pair}
@@ -16,7 +18,6 @@ use Rattle.design.specs.Budget.{budget, limit, Admitted}
 use Rattle.entries.specs.Entries.{initial_at}
 use Rattle.tables.specs.Sum.{sum_at}
 use Rattle.filling.specs.Fill.{fill_verdict, initial_entries, offset_entries}
-use Rattle.evaluating.specs.declared.Evaluated.{Evaluated}
 use Rattle.evaluating.specs.Evaluate.{evaluate_answer}
 use Rattle.error_bound.specs.ErrorBound.{Holds}
 use Rattle.error_bound.proofs.Holds.{error-bound}
@@ -42,8 +43,8 @@ abbrev minus : ℕ → ℤ
 minus n = neg_ℤ (pos n)
 
 -- The answer L, and whether it is E
-abbrev pub value-is : ℕ → Bool → Valued
-value-is n whole = Valued.Value (record { units = record { 0 = pos n }; whole = whole })
+abbrev pub value-is : ℕ → Bool → Result FloorValue Cause
+value-is n whole = Ok (record { units = record { 0 = pos n }; whole = whole })
 
 pub record Starred : Type 0 where
   -- "*L for g 4, q 8, w 8: kind 1, x 255: 5786; *kind 4, x 0: 2896."
@@ -67,9 +68,9 @@ pub record Starred : Type 0 where
   pub Y-0 : sum_at G (initial_entries G) (offset_entries G) 0 ≡ pos 4100
   pub Y-7 : sum_at G (initial_entries G) (offset_entries G) 7 ≡ pos 3999
   pub Y-255 : sum_at G (initial_entries G) (offset_entries G) 255 ≡ pos 2060
-  pub word-0 : evaluate_answer G (initial_entries G) (offset_entries G) 0 ≡ Evaluated.Word (record { 0 = 256 })
-  pub word-7 : evaluate_answer G (initial_entries G) (offset_entries G) 7 ≡ Evaluated.Word (record { 0 = 249 })
-  pub word-255 : evaluate_answer G (initial_entries G) (offset_entries G) 255 ≡ Evaluated.Word (record { 0 = 128 })
+  pub word-0 : evaluate_answer G (initial_entries G) (offset_entries G) 0 ≡ Ok (record { 0 = 256 })
+  pub word-7 : evaluate_answer G (initial_entries G) (offset_entries G) 7 ≡ Ok (record { 0 = 249 })
+  pub word-255 : evaluate_answer G (initial_entries G) (offset_entries G) 255 ≡ Ok (record { 0 = 128 })
 
 pub starred : Starred
 unfolding calls-opened

@@ -1,6 +1,8 @@
 -- Worked examples beside the starred list, of the definitions that the calls promise to equal. The numbers, lines and texts are document
 -- 01's or document 02's, or were worked out from them apart from the definitions. The wrong definitions that docs/PROMISES.md lists fail
 -- here, even where their code is wrong alike.
+use Rattle.counting.specs.declared.Counts.{Counts}
+use Rattle.std.specs.Prelude.{Ok, Err, Result, Some, None}
 use mathlib.Core.Path.{◌≡◌, refl}
 use mathlib.Core.Bool.{true, false}
 use mathlib.Core.List.{List, [], ◌∷◌, map}
@@ -10,16 +12,13 @@ use lib.IntN.{pos, negsuc}
 use lib.ListN.{take, replicate, set}
 use Rattle.general.specs.Lists as Lists
 use Rattle.refusal.specs.declared.Cause.{Cause}
-use Rattle.refusal.specs.declared.Verdict.{Verdict}
 use Rattle.refusal.specs.Numbers.{number_of, verdict_number}
-use Rattle.values.specs.declared.Valued.{Valued}
 use Rattle.values.specs.Rows.{row_of}
 use Rattle.values.specs.Slopes.{hi}
 use Rattle.values.specs.Faithful.{is_faithful, is_nearest, is_too_low}
 use Rattle.values.specs.Value.{value_of}
 use Rattle.design.specs.declared.Pair.{Pair}
 use Rattle.design.specs.declared.Design.{Design}
-use Rattle.design.specs.declared.Measured.{Measured}
 use Rattle.design.specs.Legal.{design_verdict}
 use Rattle.design.specs.Budget.{within_limit}
 use Rattle.design.specs.Answers.{budget_answer}
@@ -33,7 +32,6 @@ use Rattle.evaluating.specs.Batch.{batch_answer}
 use Rattle.checking.specs.declared.Checked.{Checked}
 use Rattle.checking.specs.Check.{check_answer}
 use Rattle.counting.specs.declared.Class.{Class}
-use Rattle.counting.specs.declared.Counted.{Counted}
 use Rattle.counting.specs.Count.{class_of, count_answer}
 use Rattle.frames.specs.Hex as Hex
 use Rattle.frames.specs.Line as Line
@@ -45,7 +43,6 @@ use Rattle.encoding.specs.DesignBytes as DesignBytes
 use Rattle.lines.specs.Slots as Slots
 use Rattle.lines.specs.Lines as Lines
 use Rattle.lines.specs.Lines.{line_at}
-use Rattle.writing.specs.declared.Written.{Written}
 use Rattle.writing.specs.Write as Write
 use Rattle.writing.specs.Write.{write_answer}
 use Rattle.reading.specs.declared.Reading.{Reading}
@@ -66,7 +63,6 @@ use Rattle.report_text.specs.Words as Words
 use Rattle.report_text.specs.Words.{ascii, text_of}
 use Rattle.report_text.specs.Report as Report
 use Rattle.report_text.specs.Report.{report_of}
-use Rattle.word_text.specs.declared.ReadWord.{ReadWord}
 use Rattle.word_text.specs.Decimal as Decimal
 use Rattle.word_text.specs.Decimal.{word_in}
 use Rattle.starred.proofs.Opened.{calls-opened}
@@ -141,12 +137,12 @@ abbrev check-with : ℕ → Checked
 check-with entry = check_answer G (set (initial_entries G) 0 entry) (offset_entries G)
 
 -- Its five counts
-abbrev counts_with : ℕ → Counted
+abbrev counts_with : ℕ → Result Counts Cause
 counts_with entry = count_answer G (set (initial_entries G) 0 entry) (offset_entries G)
 
-abbrev five : ℕ → ℕ → ℕ → ℕ → ℕ → Counted
+abbrev five : ℕ → ℕ → ℕ → ℕ → ℕ → Result Counts Cause
 five outside nearest faithful low high =
-    Counted.Counts (record { outside = outside; nearest = nearest; faithful = faithful; low = low; high = high })
+    Ok (record { outside = outside; nearest = nearest; faithful = faithful; low = low; high = high })
 
 -- Record n of G's set as it is filled
 abbrev Record-of-G : ℕ → String → Type 0
@@ -186,11 +182,11 @@ after-seven = hex_after G (into-zeros (held 6 0 0)) (ascii ":1000600000003200002
 
 -- Record n of G's set with initial entry 5 changed to 2^24, for a record buffer of length 43. Its bytes, 15 to 17 of the set, lie in the
 -- records 0 and 1.
-abbrev entry-5-changed : ℕ → Written
+abbrev entry-5-changed : ℕ → Result ℕ Cause
 entry-5-changed n = hex_write_answer G (set (initial_entries G) 5 (2 ^ 24)) (offset_entries G) n 43
 
 -- Line n of G's set with initial entry 0 changed, for a line buffer of this length
-abbrev entry-0-changed : ℕ → ℕ → ℕ → Written
+abbrev entry-0-changed : ℕ → ℕ → ℕ → Result ℕ Cause
 entry-0-changed entry n buffer = write_answer G (set (initial_entries G) 0 entry) (offset_entries G) n buffer
 
 -- Record 0 with this entry as 16384
@@ -237,11 +233,11 @@ pub record Worked : Type 0 where
   -- A design that it admits: kind 0, w 7, q 6, g 4, alpha 3, (3,1), (3,3)
   pub now-admitted : Reports "0100070604030203010303DF" "BUDGET 2091668 LIMIT 2097152 BITS 592 ADMITTED\n"
   -- 2 before 3: w 5 with q 5
-  pub w-before-q : value_of 0 5 5 4 0 ≡ Valued.Refused Cause.InputWidth
+  pub w-before-q : value_of 0 5 5 4 0 ≡ Err Cause.InputWidth
   -- alpha 13 passes, and so do w 16, q 16, q+g 20 and a+b 12
-  pub widest-legal : design_verdict widest ≡ Verdict.Passed
+  pub widest-legal : design_verdict widest ≡ (Ok tt)
   -- (m+2)·2^17 in the budget of two tables
-  pub two-tables-budget : budget_answer two-tables ≡ Measured.Is 1318223
+  pub two-tables-budget : budget_answer two-tables ≡ Ok 1318223
   -- and in their report
   pub two-tables-report : Reports "0104080804040204020302D6" "BUDGET 1318223 LIMIT 2097152 BITS 736 ADMITTED\n"
   -- The report of document 01's example, with the budget of document 02, A7
@@ -252,15 +248,15 @@ pub record Worked : Type 0 where
   pub ranges : (map (holds 7) (pos 63 ∷ pos 64 ∷ negsuc 63 ∷ negsuc 64 ∷ []) ≡ true ∷ false ∷ true ∷ false ∷ [])
       × (map (holds 1) (pos 0 ∷ pos 1 ∷ negsuc 0 ∷ negsuc 1 ∷ []) ≡ true ∷ false ∷ true ∷ false ∷ [])
   -- "G then has 896 bits": 32·14 + 64·7
-  pub size-of-G : size_answer G ≡ Measured.Is 896
+  pub size-of-G : size_answer G ≡ Ok 896
   -- "each table at its own width": 32·15 + 8·5 + 16·6 + 16·7, "728 bits"; a root, 16·14 + 4·3 + 4·4 + 8·7, "308 bits"
-  pub own-widths : (size_answer three-tables ≡ Measured.Is 728) × (map (offset_bits three-tables) (0 ∷ 1 ∷ 2 ∷ []) ≡ 5 ∷ 6 ∷ 7 ∷ [])
-  pub root-widths : (size_answer root-tables ≡ Measured.Is 308) × (map (offset_bits root-tables) (0 ∷ 1 ∷ 2 ∷ []) ≡ 3 ∷ 4 ∷ 7 ∷ [])
+  pub own-widths : (size_answer three-tables ≡ Ok 728) × (map (offset_bits three-tables) (0 ∷ 1 ∷ 2 ∷ []) ≡ 5 ∷ 6 ∷ 7 ∷ [])
+  pub root-widths : (size_answer root-tables ≡ Ok 308) × (map (offset_bits root-tables) (0 ∷ 1 ∷ 2 ∷ []) ≡ 3 ∷ 4 ∷ 7 ∷ [])
   -- "at least 1": offsets that are all 0 or -1, 8·11 + 4·1 + 4·2 + 8·5
-  pub one_bit : (size_answer narrow-tables ≡ Measured.Is 140) × (map (offset_bits narrow-tables) (0 ∷ 1 ∷ 2 ∷ []) ≡ 1 ∷ 2 ∷ 5 ∷ [])
+  pub one_bit : (size_answer narrow-tables ≡ Ok 140) × (map (offset_bits narrow-tables) (0 ∷ 1 ∷ 2 ∷ []) ≡ 1 ∷ 2 ∷ 5 ∷ [])
   -- "the size call refuses the others with 11, after 9": G with (2,3); with (2,4), whose budget is over the limit, too, and whose b_0 is not 3, 9
-  pub size-refused : (size_answer (G-with 4 2 3) ≡ Measured.Refused Cause.NotAdmitted)
-      × (within_limit (G-with 4 2 4) ≡ false) × (size_answer (G-with 4 2 4) ≡ Measured.Refused Cause.CutSum)
+  pub size-refused : (size_answer (G-with 4 2 3) ≡ Err Cause.NotAdmitted)
+      × (within_limit (G-with 4 2 4) ≡ false) × (size_answer (G-with 4 2 4) ≡ Err Cause.CutSum)
   -- 15: an empty line, one digit too many, lower case, a wrong sum, 34 digits
   pub unsound : map (λ line. report_of (ascii line))
       ("" ∷ "010008080405010303DF0" ∷ "010008080405010303df" ∷ "010008080405010303DE" ∷ "0000000000000000000000000000000000" ∷ [])
@@ -293,9 +289,9 @@ pub record Worked : Type 0 where
   pub zeros-behind-m : read_answer
       (session (record { design = two-tables; taken = 0 }) (replicate 32 0) (replicate 64 (pos 0)))
       (ascii G-line)
-      ≡ record { verdict = Verdict.Passed; state = record { design = G; taken = 1 } }
+      ≡ record { verdict = (Ok tt); state = record { design = G; taken = 1 } }
   -- 18 before 14: an initial entry of 2^24 for a line buffer of length 0
-  pub width-before-room : write_answer G (2 ^ 24 ∷ initial_entries G) (offset_entries G) 1 0 ≡ Written.Refused Cause.EntryWidth
+  pub width-before-room : write_answer G (2 ^ 24 ∷ initial_entries G) (offset_entries G) 1 0 ≡ Err Cause.EntryWidth
   -- 14 before 12, and its place is 0: two words, the second too great, for an output of length 1
   pub room-before-words : batch_answer G (initial_entries G) (offset_entries G) (0 ∷ 256 ∷ []) 1 ≡ Batched.Refused Cause.OutputShort 0
   -- the same with room for both: 12, at place 1
@@ -365,28 +361,28 @@ pub record Worked : Type 0 where
   pub end-once : (number-on (held 18 0 0) end-record ≡ 0) × (number-on (held 19 0 0) end-record ≡ 22)
   -- "18 for any entry with a byte in the record": both records that hold entry 5, and no other
   pub both_halves : map entry-5-changed (0 ∷ 1 ∷ 2 ∷ [])
-      ≡ Written.Refused Cause.EntryWidth ∷ Written.Refused Cause.EntryWidth ∷ Written.Length 43 ∷ []
+      ≡ Err Cause.EntryWidth ∷ Err Cause.EntryWidth ∷ Ok 43 ∷ []
   -- 19 before 14: record 19 for a record buffer of length 0; and 14 for record 18, which has 11 characters, and a buffer of 10
-  pub number-before-room : (hex_write_answer G (initial_entries G) (offset_entries G) 19 0 ≡ Written.Refused Cause.LineNumber)
-      × (hex_write_answer G (initial_entries G) (offset_entries G) 18 10 ≡ Written.Refused Cause.OutputShort)
-      × (hex_write_answer G (initial_entries G) (offset_entries G) 18 11 ≡ Written.Length 11)
+  pub number-before-room : (hex_write_answer G (initial_entries G) (offset_entries G) 19 0 ≡ Err Cause.LineNumber)
+      × (hex_write_answer G (initial_entries G) (offset_entries G) 18 10 ≡ Err Cause.OutputShort)
+      × (hex_write_answer G (initial_entries G) (offset_entries G) 18 11 ≡ Ok 11)
   -- Document 02, A4: G's limit is 2^14. 16383 is written, 16384 and 2^24 - 1 are refused with 23, and 2^24 with 18, which is tried before;
   -- 23 is tried before 14 and after 10.
   pub limit-written : (map (λ entry. entry-0-changed entry 1 14) (16383 ∷ 16384 ∷ 16777215 ∷ 16777216 ∷ [])
-      ≡ Written.Length 14 ∷ Written.Refused Cause.InitialRange ∷ Written.Refused Cause.InitialRange ∷ Written.Refused Cause.EntryWidth ∷ [])
-      × (entry-0-changed 16384 1 0 ≡ Written.Refused Cause.InitialRange)
-      × (write_answer G (set (initial_entries G) 0 16384) [] 1 14 ≡ Written.Refused Cause.TablesShort)
+      ≡ Ok 14 ∷ Err Cause.InitialRange ∷ Err Cause.InitialRange ∷ Err Cause.EntryWidth ∷ [])
+      × (entry-0-changed 16384 1 0 ≡ Err Cause.InitialRange)
+      × (write_answer G (set (initial_entries G) 0 16384) [] 1 14 ≡ Err Cause.TablesShort)
   -- The other lines of such a set are given, and an offset of 16384 is
   pub other-lines : (map (λ n. entry-0-changed 16384 n 20) (0 ∷ 2 ∷ 33 ∷ [])
-      ≡ Written.Length 20 ∷ Written.Length 14 ∷ Written.Length 16 ∷ [])
-      × (write_answer G (initial_entries G) (set (offset_entries G) 0 (pos 16384)) 33 16 ≡ Written.Length 16)
+      ≡ Ok 20 ∷ Ok 14 ∷ Ok 16 ∷ [])
+      × (write_answer G (initial_entries G) (set (offset_entries G) 0 (pos 16384)) 33 16 ≡ Ok 16)
   -- The reader, with one line taken: 16383 is taken, 16384 refused with 23, and with 16 at another index; an offset of 16384 is taken
   pub limit-read : (map (number-in 1) ("020000003FFFC0" ∷ "020000004000BE" ∷ "020001004000BD" ∷ []) ≡ 0 ∷ 23 ∷ 16 ∷ [])
       × (number-in 33 "03000000004000BD" ≡ 0)
   -- 23 before 10: into tables that are too short
   pub limit-before-tables : map (number-in-none 1) ("020000003FFFC0" ∷ "020000004000BE" ∷ []) ≡ 10 ∷ 23 ∷ []
   -- "the Intel HEX records still carry it": written, and read
-  pub still-carried : (hex_write_answer G (set (initial_entries G) 0 16384) (offset_entries G) 0 43 ≡ Written.Length 43)
+  pub still-carried : (hex_write_answer G (set (initial_entries G) 0 16384) (offset_entries G) 0 43 ≡ Ok 43)
       × (set_record G (set (initial_entries G) 0 16384) (offset_entries G) 0 ≡ ascii G-record-0-over)
       × (number-on (held 0 0 0) G-record-0-over ≡ 0)
       × (take 2 (hex_after G (into-zeros (held 0 0 0)) (ascii G-record-0-over)).initial ≡ 16384 ∷ 3929 ∷ [])
@@ -394,15 +390,15 @@ pub record Worked : Type 0 where
   pub empty-lines : map (λ taken. number-in taken "") (0 ∷ 1 ∷ 97 ∷ 98 ∷ 99 ∷ []) ≡ 0 ∷ 16 ∷ 16 ∷ 0 ∷ 17 ∷ []
   -- Tables of no entries are no fault there, and neither is a design that is not legal, with no line taken: it stands
   pub empty-untried : (map (λ taken. number-in-none taken "") (0 ∷ 1 ∷ 98 ∷ []) ≡ 0 ∷ 16 ∷ 0 ∷ [])
-      × (read_answer (session (at no_kind 0) [] []) [] ≡ record { verdict = Verdict.Passed; state = at no_kind 0 })
+      × (read_answer (session (at no_kind 0) [] []) [] ≡ record { verdict = (Ok tt); state = at no_kind 0 })
   -- After a finished set the design stands as it came, pairs beyond m too, and no line is taken
-  pub empty-after-set : read_answer (session (at behind-m 98) [] []) [] ≡ record { verdict = Verdict.Passed; state = at behind-m 0 }
+  pub empty-after-set : read_answer (session (at behind-m 98) [] []) [] ≡ record { verdict = (Ok tt); state = at behind-m 0 }
   -- A carriage return is no empty line, and the next set's first line is not due before one
   pub not-empty : (verdict_number (verdict_on (session (at G 98) [] []) (13 ∷ [])) ≡ 15) × (number-in 98 G-line ≡ 16)
   -- Input words in decimal: leading zeros, and the greatest
-  pub decimal-words : map (λ line. word_in (ascii line)) ("007" ∷ "4294967295" ∷ []) ≡ ReadWord.Word 7 ∷ ReadWord.Word 4294967295 ∷ []
+  pub decimal-words : map (λ line. word_in (ascii line)) ("007" ∷ "4294967295" ∷ []) ≡ Some 7 ∷ Some 4294967295 ∷ []
   -- No input words: an empty line, the character before 0, the one after 9, 2^32
-  pub no_words : map (λ line. word_in (ascii line)) ("" ∷ "/" ∷ "7:" ∷ "4294967296" ∷ []) ≡ replicate 4 ReadWord.NotAWord
+  pub no_words : map (λ line. word_in (ascii line)) ("" ∷ "/" ∷ "7:" ∷ "4294967296" ∷ []) ≡ replicate 4 None
 
 pub worked : Worked
 unfolding

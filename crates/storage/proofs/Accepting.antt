@@ -1,4 +1,5 @@
 -- The one law of lines: a line that is accepted and not empty is the writer's line for the design and for the tables with the entry that it stores.
+use Rattle.std.specs.Prelude.{Ok}
 use mathlib.Core.Path.{◌≡◌, refl, sym, ap, ◌∙◌}
 use mathlib.Core.Bool.{false, not}
 use mathlib.Core.List.{List, [], ◌∷◌, ◌++◌, append-nil}
@@ -11,7 +12,6 @@ use lib.Seq.{take_at, take-add}
 use lib.IntN.{ℤ}
 use borrow.Author.Tests.{eqb-true, not-false}
 use Rattle.general.proofs.Tests.{neither}
-use Rattle.refusal.specs.declared.Verdict.{Verdict}
 use Rattle.design.specs.declared.Design.{Design}
 use Rattle.tables.specs.Inputs.{Usable}
 use Rattle.tables.proofs.SetLaws.{usable, set-lengths}
@@ -123,7 +123,7 @@ pub record Accepted (s : Session) (line : List ℕ) (design : Design) (number : 
 
 -- A line that passes, the frame it is the line of, and the design that counts after it
 module _ (s : Session) (line f : List ℕ) (d : Design) (small : Bytes f) (is-line : line_of f ≡ line) (bytes : bytes_of line ≡ with_sum f)
-    (not-empty : is_empty line ≡ false) (passes : verdict_on s line ≡ Verdict.Passed) (counts : design_after s.state (with_sum f) ≡ d)
+    (not-empty : is_empty line ≡ false) (passes : verdict_on s line ≡ (Ok tt)) (counts : design_after s.state (with_sum f) ≡ d)
     (tables : Usable d (length s.initial) (length s.offsets)) (within : s.state.taken < line_count d) where
   abbrev slot : Slot
   slot = slot_of d s.state.taken
@@ -170,7 +170,7 @@ pub record SomeAccepted (s : Session) (line : List ℕ) : Type 0 where
   pub number : ℕ
   pub accepted : Accepted s line design number
 
-module _ (s : Session) (line : List ℕ) (not-empty : is_empty line ≡ false) (passes : verdict_on s line ≡ Verdict.Passed) where
+module _ (s : Session) (line : List ℕ) (not-empty : is_empty line ≡ false) (passes : verdict_on s line ≡ (Ok tt)) where
   tried : Passing s.state (length s.initial) (length s.offsets) line
   unfolding verdict_on
   tried = passing s.state (length s.initial) (length s.offsets) line not-empty passes

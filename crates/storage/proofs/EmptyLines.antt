@@ -1,4 +1,5 @@
 -- What an empty line does, by where it comes, and that no line changes the lengths of the tables.
+use Rattle.std.specs.Prelude.{Ok, Err}
 use mathlib.Core.Path.{◌≡◌, refl, ◌∙◌}
 use mathlib.Core.Bool.{Bool, true, false}
 use mathlib.Core.List.{List, [], ◌∷◌}
@@ -6,7 +7,7 @@ use Prim.Native.Nat.{ℕ, ◌<◌}
 use lib.ListN.{length}
 use Rattle.general.proofs.Tests.{both}
 use Rattle.refusal.specs.declared.Cause.{Cause}
-use Rattle.refusal.specs.declared.Verdict.{Verdict}
+use Rattle.refusal.specs.Verdict.{Verdict}
 use Rattle.refusal.specs.Checks.{verdict, if_passed}
 use Rattle.frames.specs.Line.{is_empty}
 use Rattle.reading.specs.ReadLine.{
@@ -33,16 +34,16 @@ module _ (s : Session) (is-possible : possible s.state ≡ true) where
   unfolding verdict_on state_check
   by_state = empty-verdict s.state (length s.initial) (length s.offsets) [] refl ∙ rw is-possible
 
-  pub empty-taken : between s.state ≡ true → verdict_on s [] ≡ Verdict.Passed
+  pub empty-taken : between s.state ≡ true → verdict_on s [] ≡ (Ok tt)
   empty-taken e = by_state ∙ empty-passes s.state e
 
   pub empty-refused : 0 < s.state.taken → finished s.state ≡ false
-      → (verdict_on s [] ≡ Verdict.Refused Cause.Frame) × (after s [] ≡ s)
+      → (verdict_on s [] ≡ Err Cause.Frame) × (after s [] ≡ s)
   empty-refused some e =
       let refused = by_state ∙ empty-fails s.state (by-finish s.state some ∙ e) in
       (refused, refused-stands s [] Cause.Frame refused)
 
-pub empty-before : (s : Session) → Begins s → (verdict_on s [] ≡ Verdict.Passed) × (after s [] ≡ s)
+pub empty-before : (s : Session) → Begins s → (verdict_on s [] ≡ (Ok tt)) × (after s [] ≡ s)
 empty-before s none =
     (empty-taken s (first-possible s.state none) (before-set s.state none), passed_over s [] none refl)
 
@@ -50,7 +51,7 @@ empty-before s none =
 abbrev pub restarted : Session → Session
 restarted s = session (none_taken s.state) s.initial s.offsets
 
-pub empty-behind : (s : Session) → Finished s → (verdict_on s [] ≡ Verdict.Passed) × (after s [] ≡ restarted s)
+pub empty-behind : (s : Session) → Finished s → (verdict_on s [] ≡ (Ok tt)) × (after s [] ≡ restarted s)
 unfolding finished
 empty-behind s done =
     let passes = empty-taken s (both (possible s.state) _ done).0 (after-set s.state done) in
@@ -69,8 +70,8 @@ moved-kept s line = go (is_empty line) refl
     go false f = rw f (record { initial = initial-length _ _ _; offsets = offsets-length _ _ _ })
 
 after_kept : (v : Verdict) (s : Session) (line : List ℕ) → Kept s (if_passed v (moved_by s line) (λ cause. s))
-after_kept Verdict.Passed s line = moved-kept s line
-after_kept (Verdict.Refused cause) s line = record { initial = refl; offsets = refl }
+after_kept (Ok tt) s line = moved-kept s line
+after_kept (Err cause) s line = record { initial = refl; offsets = refl }
 
 pub fed-kept : (lines : List (List ℕ)) (s : Session) → Kept s (feed s lines)
 unfolding feed after

@@ -1,15 +1,16 @@
 -- Lines that are fed after others.
+use Rattle.std.specs.Prelude.{Ok, Err}
 use mathlib.Core.Path.{◌≡◌, refl, sym, ap, ◌∙◌}
 use mathlib.Core.List.{List, [], ◌∷◌, ◌++◌, append_assoc}
 use Prim.Native.Nat.{ℕ}
-use Rattle.refusal.specs.declared.Verdict.{Verdict}
+use Rattle.refusal.specs.Verdict.{Verdict}
 use Rattle.reading.specs.ReadLine.{Session, verdict_on, after}
 use Rattle.storage.specs.Feeding.{feed, kept_if, accepted, finished_by, finishes}
 
 pub keeps-last : (v : Verdict) (first : List ℕ) (lines last : List (List ℕ))
     → kept_if v first (lines ++ last) ≡ kept_if v first lines ++ last
-keeps-last Verdict.Passed first lines last = refl
-keeps-last (Verdict.Refused cause) first lines last = refl
+keeps-last (Ok tt) first lines last = refl
+keeps-last (Err cause) first lines last = refl
 
 module _ (more : List (List ℕ)) where
   pub feed-append : (lines : List (List ℕ)) (s : Session) → feed s (lines ++ more) ≡ feed (feed s lines) more

@@ -1,4 +1,5 @@
 -- What the fill writes can be stored: initial entries and T of an offset are small.
+use Rattle.std.specs.Prelude.{Ok}
 use mathlib.Core.Path.{◌≡◌}
 use mathlib.Core.Bool.{Bool, true, false, cond}
 use mathlib.Core.List.{List}
@@ -7,7 +8,6 @@ use native.Mathlib.Omega.{arith}
 use lib.ListN.{length}
 use lib.IntN.{ℤ, pos, negsuc}
 use borrow.Author.Tests.{lt-ltb}
-use Rattle.refusal.specs.declared.Verdict.{Verdict}
 use Rattle.design.specs.declared.Design.{Design}
 use Rattle.design.specs.Cut.{a_of, b_of, row}
 use Rattle.design.specs.Stored.{initial_count, offset_total, stored_count, stored_word}
@@ -62,7 +62,7 @@ filled-storable t legal filled =
     }
 
 -- "an accepted fill leaves such tables"
-pub fill-storable : (d : Design) (initial : List ℕ) (offsets : List ℤ) → fill_verdict d (length initial) (length offsets) ≡ Verdict.Passed
+pub fill-storable : (d : Design) (initial : List ℕ) (offsets : List ℤ) → fill_verdict d (length initial) (length offsets) ≡ (Ok tt)
     → Storable (record { design = d; initial = initial_after d initial offsets; offsets = offsets_after d initial offsets })
 fill-storable d initial offsets passed =
     filled-storable _ (EntryLaws.fill-usable d initial offsets passed).legal (EntryLaws.filled d initial offsets passed)

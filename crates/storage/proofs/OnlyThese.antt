@@ -1,4 +1,5 @@
 -- All that is accepted of a file is the writer's lines of its sets, and what is there of a last one.
+use Rattle.std.specs.Prelude.{Ok, Err}
 use mathlib.Core.Path.{◌≡◌, refl, sym, ap, ◌∙◌}
 use mathlib.Core.Bool.{Bool, true, false, cond}
 use mathlib.Core.List.{List, [], ◌∷◌, ◌++◌, append-nil, append_assoc}
@@ -11,7 +12,7 @@ use lib.Seq.{append_snoc}
 use borrow.Author.Tests.{eqb-true, ne_eqb, not-false}
 use Rattle.general.specs.Below.{list_below}
 use Rattle.refusal.specs.declared.Cause.{Cause}
-use Rattle.refusal.specs.declared.Verdict.{Verdict}
+use Rattle.refusal.specs.Verdict.{Verdict}
 use Rattle.refusal.proofs.Checks.{none-fails}
 use Rattle.frames.specs.Line.{is_empty}
 use Rattle.lines.specs.Slots.{line_count}
@@ -41,7 +42,7 @@ unfolding list_below
 none_came s came so_far none = so_far.lines ∙ rw none
 
 -- An empty line is accepted only between sets.
-between-sets : (s : Session) (line : List ℕ) → is_empty line ≡ true → verdict_on s line ≡ Verdict.Passed → between s.state ≡ true
+between-sets : (s : Session) (line : List ℕ) → is_empty line ≡ true → verdict_on s line ≡ (Ok tt) → between s.state ≡ true
 unfolding verdict_on empty_check
 between-sets s line empty passes =
     let tried = sym (empty-verdict s.state (length s.initial) (length s.offsets) line empty) ∙ passes in
@@ -72,7 +73,7 @@ module _ (s : Session) (came : List (List ℕ)) (so_far : SoFar s came) where
 
   module _ (line : List ℕ) where
     -- What counts after a refused line, after an empty one and after any other
-    after-refused : (cause : Cause) → verdict_on s line ≡ Verdict.Refused cause → with_line came s line ≡ came
+    after-refused : (cause : Cause) → verdict_on s line ≡ Err cause → with_line came s line ≡ came
     unfolding with_line
     after-refused cause e = rw (e, refused-stands s line cause e) (go (eqb s.state.taken 0) refl)
       where
@@ -80,11 +81,11 @@ module _ (s : Session) (came : List (List ℕ)) (so_far : SoFar s came) where
         go true e = rw e (sym (none_came s came so_far (eqb-true _ _ e)))
         go false e = rw e (append-nil came)
 
-    after-empty : is_empty line ≡ true → verdict_on s line ≡ Verdict.Passed → with_line came s line ≡ []
+    after-empty : is_empty line ≡ true → verdict_on s line ≡ (Ok tt) → with_line came s line ≡ []
     unfolding with_line
     after-empty empty e = rw (empty-restarts s line empty e)
 
-    after-other : is_empty line ≡ false → verdict_on s line ≡ Verdict.Passed → with_line came s line ≡ came ++ (line ∷ [])
+    after-other : is_empty line ≡ false → verdict_on s line ≡ (Ok tt) → with_line came s line ≡ came ++ (line ∷ [])
     unfolding with_line
     after-other not-empty e =
         let some = accepted-line s line not-empty e in
@@ -97,11 +98,11 @@ module _ (s : Session) (came : List (List ℕ)) (so_far : SoFar s came) where
           unfinished s came ++ without_empty (kept_if (verdict_on s line) line later)
           ≡ lines_of (finished_by s line) ++ (unfinished (after s line) (with_line came s line) ++ without_empty later)
 
-      step-refused : (cause : Cause) → verdict_on s line ≡ Verdict.Refused cause → Step
+      step-refused : (cause : Cause) → verdict_on s line ≡ Err cause → Step
       unfolding finished_by lines_of
       step-refused cause e = rw (after-refused cause e, e, refused-stands s line cause e)
 
-      step-empty : is_empty line ≡ true → verdict_on s line ≡ Verdict.Passed → Step
+      step-empty : is_empty line ≡ true → verdict_on s line ≡ (Ok tt) → Step
       unfolding finished_by lines_of without_empty
       step-empty empty e =
           rw (
@@ -113,7 +114,7 @@ module _ (s : Session) (came : List (List ℕ)) (so_far : SoFar s came) where
             not-begun (none_taken s.state) refl,
           )
 
-      step_other : is_empty line ≡ false → verdict_on s line ≡ Verdict.Passed → Step
+      step_other : is_empty line ≡ false → verdict_on s line ≡ (Ok tt) → Step
       unfolding finished_by lines_of without_empty
       step_other not-empty e = go (finished (after s line).state) refl
         where
@@ -131,10 +132,10 @@ module _ (s : Session) (came : List (List ℕ)) (so_far : SoFar s came) where
       step = go (verdict_on s line) (is_empty line) refl refl
         where
           go : (v : Verdict) (empty : Bool) → verdict_on s line ≡ v → is_empty line ≡ empty → Step
-          go Verdict.Passed true e f = step-empty f e
-          go Verdict.Passed false e f = step_other f e
-          go (Verdict.Refused cause) true e f = step-refused cause e
-          go (Verdict.Refused cause) false e f = step-refused cause e
+          go (Ok tt) true e f = step-empty f e
+          go (Ok tt) false e f = step_other f e
+          go (Err cause) true e f = step-refused cause e
+          go (Err cause) false e f = step-refused cause e
 
 -- So it goes on, line by line: what came of a set that is not finished, with all that is accepted later.
 from-so-far : (lines : List (List ℕ)) (s : Session) (came : List (List ℕ)) → SoFar s came

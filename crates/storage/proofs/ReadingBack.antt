@@ -1,4 +1,5 @@
 -- Written lines read back to the same set.
+use Rattle.std.specs.Prelude.{Ok}
 use mathlib.Core.Path.{◌≡◌, refl, sym, ap, ◌∙◌}
 use mathlib.Core.Bool.{false, cond}
 use mathlib.Core.List.{List, [], ◌∷◌, ◌++◌, append-nil}
@@ -13,7 +14,6 @@ use borrow.Author.Tests.{ne_eqb}
 use Rattle.general.specs.Below.{list_below}
 use Rattle.general.specs.Lists.{over}
 use Rattle.general.proofs.WritingLaws.{over_none, over-start, over-length, over-next}
-use Rattle.refusal.specs.declared.Verdict.{Verdict}
 use Rattle.design.specs.declared.Design.{Design}
 use Rattle.design.specs.Stored.{initial_count, offset_total}
 use Rattle.design.specs.Same.{Same}
@@ -48,7 +48,7 @@ record Reached (line : ℕ → List ℕ) (s : Session) (n : ℕ) (end : Session)
   finished-sets : finishes s (list_below n line) ≡ sets
 
 module _ (line : ℕ → List ℕ) (s : Session) (n : ℕ) (end next : Session) (sets : List Session) where
-  reached-more : Reached line s n end sets → verdict_on end (line n) ≡ Verdict.Passed → after end (line n) ≡ next
+  reached-more : Reached line s n end sets → verdict_on end (line n) ≡ (Ok tt) → after end (line n) ≡ next
       → (set : List Session) → cond (is-finished next.state) (next ∷ []) [] ≡ set → Reached line s (suc n) next (sets ++ set)
   unfolding list_below feed accepted finishes finished_by
   reached-more r passes moves set set_is =

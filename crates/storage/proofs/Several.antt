@@ -1,4 +1,5 @@
 -- Document 02, A8: a file of several sets reads back to each set in turn.
+use Rattle.std.specs.Prelude.{Ok}
 use mathlib.Core.Path.{◌≡◌, refl, sym, ap, ◌∙◌}
 use mathlib.Core.List.{List, [], ◌∷◌, ◌++◌}
 use Prim.Native.Nat.{ℕ, zero, suc, ◌≤◌}
@@ -9,7 +10,6 @@ use Rattle.general.specs.Lists.{All}
 use Rattle.general.proofs.JoinedLaws.{all_weaker}
 use Rattle.reading.specs.ReadLine.{Session, after, verdict_on}
 use Rattle.reading.proofs.ReadLaws.{not-begun}
-use Rattle.refusal.specs.declared.Verdict.{Verdict}
 use Rattle.storage.specs.Sets.{TableSet, Storable, lines_in}
 use Rattle.storage.specs.Feeding.{Begins, Finished, feed, accepted, finished_by, finishes}
 use Rattle.storage.specs.Several.{separated, Spaced, sets_of, file_lines, Apart, LongFor, Readable, InTurn, Several}
@@ -34,7 +34,7 @@ goes_on s middle end lines more sets later first rest =
     }
 
 -- An empty line that leads to a reading with no line taken
-one-empty : (s next : Session) → verdict_on s [] ≡ Verdict.Passed → after s [] ≡ next → Begins next → Goes s ([] ∷ []) next []
+one-empty : (s next : Session) → verdict_on s [] ≡ (Ok tt) → after s [] ≡ next → Begins next → Goes s ([] ∷ []) next []
 unfolding feed accepted finishes finished_by
 one-empty s next passes moves none =
     record { comes-to = moves; all-taken = rw passes; finished-sets = rw (passes, moves, not-begun next.state none) }

@@ -1,10 +1,10 @@
 -- Demand 2's last sentence and what the fill writes, put together.
+use Rattle.std.specs.Prelude.{Ok}
 use mathlib.Core.Path.{◌≡◌}
 use mathlib.Core.List.{List}
 use Prim.Native.Nat.{ℕ, ◌≤◌, ◌<◌}
 use native.Mathlib.Omega.{arith}
 use lib.ListN.{length}
-use Rattle.refusal.specs.declared.Verdict.{Verdict}
 use Rattle.lines.specs.Slots.{line_count}
 use Rattle.lines.specs.Lines.{line_at}
 use Rattle.writing.specs.Write.{write_verdict, write_answer, buffer_after}
@@ -20,7 +20,7 @@ use Rattle.storage.proofs.FilledFits.{filled-storable, fill-storable}
 -- The writer gives each line of a set that has a stored form.
 module _ (t : TableSet) (n : ℕ) (buffer : List ℕ) (ok : Storable t) (within : n < line_count t.design)
     (room : length (line_at t.design t.initial t.offsets n) ≤ length buffer) where
-  passes : write_verdict t.design t.initial t.offsets n (length buffer) ≡ Verdict.Passed
+  passes : write_verdict t.design t.initial t.offsets n (length buffer) ≡ (Ok tt)
   passes = line-passes _ _ _ _ _ ok.usable within (storable-lines t ok n within) room
 
   gives : Gives t n buffer

@@ -1,4 +1,5 @@
 -- The law of lines the other way round: the writer's line is accepted, and stores the writer's entry.
+use Rattle.std.specs.Prelude.{Ok}
 use mathlib.Core.Path.{◌≡◌, ap, ◌∙◌}
 use mathlib.Core.Bool.{true, false}
 use mathlib.Core.List.{List, [], ◌∷◌, ◌++◌, append-nil, append_assoc}
@@ -9,7 +10,6 @@ use lib.ListN.{length}
 use lib.Seq.{take_at, drop-append_seam}
 use lib.IntN.{ℤ}
 use borrow.Author.Tests.{eq-eqb}
-use Rattle.refusal.specs.declared.Verdict.{Verdict}
 use Rattle.design.specs.declared.Design.{Design}
 use Rattle.design.specs.Stored.{initial_count, offset_total}
 use Rattle.design.specs.Legal.{Legal}
@@ -92,7 +92,7 @@ module _ (d : Design) (n : ℕ) (initial set-initial : List ℕ) (offsets set-of
   abbrev line : List ℕ
   line = line_at d set-initial set-offsets n
 
-  pub later-passes : verdict_on (session state initial offsets) line ≡ Verdict.Passed
+  pub later-passes : verdict_on (session state initial offsets) line ≡ (Ok tt)
   unfolding verdict_on
   later-passes =
       let bytes = line-bytes d tables.legal set-initial set-offsets n in
@@ -145,7 +145,7 @@ module _ (d : Design) (legal : Legal d) (set-initial : List ℕ) (set-offsets : 
   first-bytes : bytes_of (line_at d set-initial set-offsets 0) ≡ with_sum (design_bytes d)
   first-bytes = line-bytes d legal set-initial set-offsets 0 ∙ ap with_sum first_frame
 
-  pub first_passes : verdict_on s (line_at d set-initial set-offsets 0) ≡ Verdict.Passed
+  pub first_passes : verdict_on s (line_at d set-initial set-offsets 0) ≡ (Ok tt)
   unfolding verdict_on
   first_passes =
       passed s.state (length s.initial) (length s.offsets) _ (record {

@@ -1,4 +1,5 @@
 -- A finished reading came from exactly the lines the writer gives.
+use Rattle.std.specs.Prelude.{Ok, Err}
 use mathlib.Core.Path.{◌≡◌, refl, sym, ap, ap₂, ◌∙◌}
 use mathlib.Core.Bool.{Bool, true, false, cond}
 use mathlib.Core.List.{List, [], ◌∷◌, ◌++◌, append-nil}
@@ -14,7 +15,7 @@ use borrow.Author.Tests.{eqb-true, ne_eqb}
 use Rattle.general.specs.Below.{list_below}
 use Rattle.general.proofs.ListLaws.{list-congruence}
 use Rattle.refusal.specs.declared.Cause.{Cause}
-use Rattle.refusal.specs.declared.Verdict.{Verdict}
+use Rattle.refusal.specs.Verdict.{Verdict}
 use Rattle.design.specs.Cut.{sum_limit}
 use Rattle.design.specs.Stored.{initial_count}
 use Rattle.tables.specs.Inputs.{Usable}
@@ -97,12 +98,12 @@ module _ (s : Session) (came : List (List ℕ)) (so_far : SoFar s came) (line : 
         }
 
 -- A refused line changes nothing.
-pub refused-stands : (s : Session) (line : List ℕ) (cause : Cause) → verdict_on s line ≡ Verdict.Refused cause → after s line ≡ s
+pub refused-stands : (s : Session) (line : List ℕ) (cause : Cause) → verdict_on s line ≡ Err cause → after s line ≡ s
 unfolding after
 refused-stands s line cause e = rw e
 
 -- An accepted empty line leaves no line taken, and both tables.
-pub empty-restarts : (s : Session) (line : List ℕ) → is_empty line ≡ true → verdict_on s line ≡ Verdict.Passed
+pub empty-restarts : (s : Session) (line : List ℕ) → is_empty line ≡ true → verdict_on s line ≡ (Ok tt)
     → after s line ≡ session (none_taken s.state) s.initial s.offsets
 unfolding after
 empty-restarts s line empty e = rw (e, empty)
@@ -117,7 +118,7 @@ module _ (s : Session) (came : List (List ℕ)) (so_far : SoFar s came) (line : 
   abbrev StillSo : Type 0
   StillSo = SoFar (after s line) (with_line came s line)
 
-  still-refused : (cause : Cause) → verdict_on s line ≡ Verdict.Refused cause → StillSo
+  still-refused : (cause : Cause) → verdict_on s line ≡ Err cause → StillSo
   unfolding with_line
   still-refused cause e = rw (e, refused-stands s line cause e) (go (eqb s.state.taken 0) refl)
     where
@@ -125,11 +126,11 @@ module _ (s : Session) (came : List (List ℕ)) (so_far : SoFar s came) (line : 
       go true e = rw e (none-taken s (eqb-true _ _ e))
       go false e = rw (e, append-nil came) so_far
 
-  still-restarted : is_empty line ≡ true → verdict_on s line ≡ Verdict.Passed → StillSo
+  still-restarted : is_empty line ≡ true → verdict_on s line ≡ (Ok tt) → StillSo
   unfolding with_line
   still-restarted empty e = rw (empty-restarts s line empty e) (none-taken _ refl)
 
-  still-accepted : is_empty line ≡ false → verdict_on s line ≡ Verdict.Passed → StillSo
+  still-accepted : is_empty line ≡ false → verdict_on s line ≡ (Ok tt) → StillSo
   unfolding with_line
   still-accepted not-empty e =
       let some = accepted-line s line not-empty e in
@@ -139,10 +140,10 @@ module _ (s : Session) (came : List (List ℕ)) (so_far : SoFar s came) (line : 
   still-so = go (verdict_on s line) (is_empty line) refl refl
     where
       go : (v : Verdict) (empty : Bool) → verdict_on s line ≡ v → is_empty line ≡ empty → StillSo
-      go Verdict.Passed true e f = still-restarted f e
-      go Verdict.Passed false e f = still-accepted f e
-      go (Verdict.Refused cause) true e f = still-refused cause e
-      go (Verdict.Refused cause) false e f = still-refused cause e
+      go (Ok tt) true e f = still-restarted f e
+      go (Ok tt) false e f = still-accepted f e
+      go (Err cause) true e f = still-refused cause e
+      go (Err cause) false e f = still-refused cause e
 
 -- So it goes on, line by line.
 follows : (lines : List (List ℕ)) (s : Session) (came : List (List ℕ)) → SoFar s came → SoFar (feed s lines) (taken_from came s lines)
@@ -165,8 +166,8 @@ module _ (s : Session) (line : List ℕ) (lines : List (List ℕ)) where
   one-counts later = go (verdict_on s line) refl
     where
       go : (v : Verdict) → verdict_on s line ≡ v → Counts
-      go Verdict.Passed e = rw (e, e) (later.0, ap (λ (l : List (List ℕ)). line ∷ l) later.1)
-      go (Verdict.Refused cause) e = rw (e, refused-stands s line cause e) (rw (refused-stands s line cause e) at later)
+      go (Ok tt) e = rw (e, e) (later.0, ap (λ (l : List (List ℕ)). line ∷ l) later.1)
+      go (Err cause) e = rw (e, refused-stands s line cause e) (rw (refused-stands s line cause e) at later)
 
 pub refused-skipped : (s : Session) (lines : List (List ℕ))
     → (feed s (accepted s lines) ≡ feed s lines) × (accepted s (accepted s lines) ≡ accepted s lines)

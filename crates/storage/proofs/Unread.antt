@@ -1,4 +1,5 @@
 -- Pairs beyond m are not read, and what a reader leaves in them.
+use Rattle.std.specs.Prelude.{Ok, Err}
 use mathlib.Core.Path.{◌≡◌, refl, sym, ◌∙◌}
 use mathlib.Core.Bool.{Bool, true, false}
 use mathlib.Core.List.{List}
@@ -7,7 +8,7 @@ use native.Mathlib.Omega.{arith}
 use lib.ListN.{length, get_or}
 use lib.IntN.{ℤ}
 use borrow.Author.Tests.{le-ltb}
-use Rattle.refusal.specs.declared.Verdict.{Verdict}
+use Rattle.refusal.specs.Verdict.{Verdict}
 use Rattle.refusal.specs.Checks.{verdict, if_passed}
 use Rattle.design.specs.declared.Design.{Design}
 use Rattle.design.specs.Cut.{no_pair}
@@ -159,8 +160,8 @@ module _ (d e : Design) (n : ℕ) (same : 0 < n → Same d e) (initial : List �
 
   after_same : (v : Verdict) (line : List ℕ)
       → SameReading (if_passed v (moved_by first line) (λ cause. first)) (if_passed v (moved_by second line) (λ cause. second))
-  after_same Verdict.Passed line = moved_same line
-  after_same (Verdict.Refused cause) line = record { taken = refl; design = λ some. same (omega arith); initial = refl; offsets = refl }
+  after_same (Ok tt) line = moved_same line
+  after_same (Err cause) line = record { taken = refl; design = λ some. same (omega arith); initial = refl; offsets = refl }
 
   read_same : (line : List ℕ) → SameRead first second line
   unfolding verdict_on after
@@ -192,8 +193,8 @@ moved-design s line some = go (is_empty line) refl
 
 after-design : (v : Verdict) (s : Session) (line : List ℕ) → 0 < s.state.taken
     → (if_passed v (moved_by s line) (λ cause. s)).state.design ≡ s.state.design
-after-design Verdict.Passed s line some = moved-design s line some
-after-design (Verdict.Refused cause) s line some = refl
+after-design (Ok tt) s line some = moved-design s line some
+after-design (Err cause) s line some = refl
 
 -- and on an empty line before the first one the whole reading stands.
 pub passed_over : (s : Session) (line : List ℕ) → s.state.taken ≡ 0 → is_empty line ≡ true → after s line ≡ s

@@ -1,7 +1,7 @@
 -- Document 01, "Bits, lines and the report": "Demand 2 means a reading begun with no line taken, each call given the state that the call
 -- before gave back and the same tables, changed by nobody else until it is finished; refused lines do not count."
 use Rattle.std.specs.Prelude.{List, [], ◌∷◌, ◌++◌, ◌≡◌, true, cond, ◌&&◌, ℕ, eqb}
-use Rattle.refusal.specs.declared.Verdict.{Verdict}
+use Rattle.refusal.specs.Verdict.{Verdict}
 use Rattle.refusal.specs.Checks.{if_passed, passes}
 use Rattle.reading.specs.ReadLine.{finished, Session, verdict_on, after}
 

@@ -1,8 +1,7 @@
 -- Document 02, A8, "An empty line between sets": what an empty line does, and what a file of several sets reads back to.
-use Rattle.std.specs.Prelude.{◌≡◌, true, false, cond, List, [], ◌∷◌, ◌++◌, map, ℕ, ◌≤◌, ◌<◌, length, replicate}
+use Rattle.std.specs.Prelude.{◌≡◌, true, false, cond, List, [], ◌∷◌, ◌++◌, map, ℕ, ◌≤◌, ◌<◌, length, replicate, Ok, Err}
 use Rattle.general.specs.Lists.{All}
 use Rattle.refusal.specs.declared.Cause.{Cause}
-use Rattle.refusal.specs.declared.Verdict.{Verdict}
 use Rattle.design.specs.Stored.{initial_count, offset_total}
 use Rattle.frames.specs.Line.{is_empty}
 use Rattle.reading.specs.ReadLine.{possible, finished, none_taken, Session, session, verdict_on, after}
@@ -68,13 +67,13 @@ unfinished_lines s lines = cond (finished (feed s lines).state) [] (taken s line
 -- A8, but for the report, which `DesignText.antt` of `frames` says
 pub record Several : Type 0 where
   -- "An empty line before a set's first line is passed over, the state unchanged."
-  pub before : (s : Session) → Begins s → (verdict_on s [] ≡ Verdict.Passed) × (after s [] ≡ s)
+  pub before : (s : Session) → Begins s → (verdict_on s [] ≡ (Ok tt)) × (after s [] ≡ s)
   -- "An empty line after a finished set gives a reading state with no line taken, the design in it standing as it came." The tables stand.
   pub behind : (s : Session) → Finished s
-      → (verdict_on s [] ≡ Verdict.Passed) × (after s [] ≡ session (none_taken s.state) s.initial s.offsets)
+      → (verdict_on s [] ≡ (Ok tt)) × (after s [] ≡ session (none_taken s.state) s.initial s.offsets)
   -- "Inside a set it is refused with 16"
   pub inside : (s : Session) → possible s.state ≡ true → 0 < s.state.taken → finished s.state ≡ false
-      → (verdict_on s [] ≡ Verdict.Refused Cause.Frame) × (after s [] ≡ s)
+      → (verdict_on s [] ≡ Err Cause.Frame) × (after s [] ≡ s)
   -- the lines of sets with one empty line between them, fed to one reading, are all accepted and come to each set in turn,
   pub in-turn : (sets : List TableSet) (s : Session) → Readable s sets → Begins s
       → (accepted s (separated sets) ≡ separated sets) × InTurn (finishes s (separated sets)) sets

@@ -1,15 +1,13 @@
 -- Demand 2: "Written lines read back to the same set, and a finished reading came from exactly the lines the writer gives." Document 02,
 -- A4, of an initial entry that is 2^(P+2) or more: "A set with such an entry no longer has a stored form, so reading back and writing match
 -- over the remaining sets."
-use Rattle.std.specs.Prelude.{◌≡◌, List, ◌++◌, ℕ, ◌≤◌, ◌<◌, length, get_or, drop, ℤ}
-use Rattle.refusal.specs.declared.Verdict.{Verdict}
+use Rattle.std.specs.Prelude.{◌≡◌, List, ◌++◌, ℕ, ◌≤◌, ◌<◌, length, get_or, drop, ℤ, Ok}
 use Rattle.design.specs.declared.Design.{Design}
 use Rattle.design.specs.Cut.{sum_limit}
 use Rattle.design.specs.Stored.{initial_count, offset_total}
 use Rattle.design.specs.Budget.{Admitted}
 use Rattle.filling.specs.Fill.{fill_verdict, initial_after, offsets_after, Filled}
 use Rattle.lines.specs.Slots.{line_count}
-use Rattle.writing.specs.declared.Written.{Written}
 use Rattle.writing.specs.Write.{write_answer, buffer_after}
 use Rattle.reading.specs.ReadLine.{Session}
 use Rattle.storage.specs.Sets.{TableSet, SameSet, Storable, line_in, lines_in}
@@ -18,7 +16,7 @@ use Rattle.storage.specs.Feeding.{Begins, Finished, feed, accepted, taken}
 
 -- "the lines the writer gives": asked for line n, it answers the line's length and leaves the line at the start of the buffer.
 pub record Gives (t : TableSet) (n : ℕ) (buffer : List ℕ) : Type 0 where
-  pub answer : write_answer t.design t.initial t.offsets n (length buffer) ≡ Written.Length (length (line_in t n))
+  pub answer : write_answer t.design t.initial t.offsets n (length buffer) ≡ Ok (length (line_in t n))
   pub line : buffer_after t.design t.initial t.offsets n buffer ≡ line_in t n ++ drop (length (line_in t n)) buffer
 
 -- The set that a reading has come to
@@ -70,5 +68,5 @@ pub record Storage : Type 0 where
   -- written, so that neither 18 nor 23 turns one of its lines down,
   pub filled : (t : TableSet) → Admitted t.design → Filled t.design t.initial t.offsets → Storable t
   -- and so can what an accepted fill leaves
-  pub fills : (d : Design) (initial : List ℕ) (offsets : List ℤ) → fill_verdict d (length initial) (length offsets) ≡ Verdict.Passed
+  pub fills : (d : Design) (initial : List ℕ) (offsets : List ℤ) → fill_verdict d (length initial) (length offsets) ≡ (Ok tt)
       → Storable (record { design = d; initial = initial_after d initial offsets; offsets = offsets_after d initial offsets })

@@ -1,7 +1,6 @@
 -- Document 01, "A design": "Pairs beyond m are not read; a reader leaves zeros there on an 01 line and keeps them as they came on later
 -- lines, and sets are compared without them."
-use Rattle.std.specs.Prelude.{◌≡◌, false, List, ℕ, ◌≤◌, ◌<◌, get_or, ℤ}
-use Rattle.refusal.specs.declared.Verdict.{Verdict}
+use Rattle.std.specs.Prelude.{◌≡◌, false, List, ℕ, ◌≤◌, ◌<◌, get_or, ℤ, Ok}
 use Rattle.refusal.specs.Checks.{verdict}
 use Rattle.design.specs.declared.Design.{Design}
 use Rattle.design.specs.Cut.{no_pair}
@@ -100,7 +99,7 @@ pub record Unread : Type 0 where
   -- and not by the reader of lines, whose state has the design in it
   pub reader : (s t : Session) → SameReading s t → (line : List ℕ) → SameRead s t line
   -- "a reader leaves zeros there on an 01 line": the first that is not empty
-  pub zeros : (s : Session) (line : List ℕ) → s.state.taken ≡ 0 → is_empty line ≡ false → verdict_on s line ≡ Verdict.Passed
+  pub zeros : (s : Session) (line : List ℕ) → s.state.taken ≡ 0 → is_empty line ≡ false → verdict_on s line ≡ (Ok tt)
       → (i : ℕ) → (after s line).state.design.m ≤ i
       → get_or (after s line).state.design.pairs i no_pair ≡ no_pair
   -- "and keeps them as they came on later lines", also on an empty one after the last

@@ -14,7 +14,7 @@ use design::Design;
 use design::legal::design_verdict;
 use design::measure::offset_total;
 use general::pow2;
-use refusal::{Cause, Verdict};
+use refusal::Cause;
 
 // inner: whether either table is shorter than the set, by their lengths.
 pub fn tables_short(d: Design, initial: usize, offsets: usize) -> bool
@@ -28,14 +28,12 @@ pub fn tables_short(d: Design, initial: usize, offsets: usize) -> bool
 }
 
 // Refusals 1 to 10 of any call that takes a set, by the lengths of its tables.
-pub fn set_verdict(d: Design, initial: usize, offsets: usize) -> Verdict
+pub fn set_verdict(d: Design, initial: usize, offsets: usize) -> Result<(), Cause>
     ensures { result ≡ verdict (set_checks d initial offsets) }
 {
-    if let Verdict::Refused(cause) = design_verdict(d) {
-        return Verdict::Refused(cause);
-    }
+    design_verdict(d)?;
     if tables_short(d, initial, offsets) {
-        return Verdict::Refused(Cause::TablesShort);
+        return Err(Cause::TablesShort);
     }
-    Verdict::Passed
+    Ok(())
 }

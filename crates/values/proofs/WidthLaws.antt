@@ -1,4 +1,5 @@
 -- What the checks of kind and widths leave, and the laws of the rows, computed over their table once.
+use Rattle.std.specs.Prelude.{Ok}
 use mathlib.Core.Path.{◌≡◌, refl, ◌∙◌}
 use mathlib.Core.Bool.{Bool, true, ◌&&◌, cond}
 use mathlib.Core.List.{List, [], ◌∷◌}
@@ -9,7 +10,6 @@ use native.Mathlib.Omega.{arith}
 use borrow.Author.Tests.{leb-true, ltb-false, le-ltb}
 use lib.Dec.{leb}
 use Rattle.general.proofs.Tests.{both, neither}
-use Rattle.refusal.specs.declared.Verdict.{Verdict}
 use Rattle.refusal.specs.Checks.{verdict}
 use Rattle.refusal.proofs.Checks.{verdict-append, none-fails, inside, not-outside}
 use Rattle.values.specs.declared.widths.Limits.{Limits}
@@ -98,7 +98,7 @@ pub record Within (limits : Limits) (kind w q g : ℕ) : Type 0 where
   pub g-high : g ≤ limits.g.1
   pub sum-high : q + g ≤ limits.sum
 
-pub within_of : (limits : Limits) (kind w q g : ℕ) → verdict (width_checks limits kind w q g) ≡ Verdict.Passed → Within limits kind w q g
+pub within_of : (limits : Limits) (kind w q g : ℕ) → verdict (width_checks limits kind w q g) ≡ (Ok tt) → Within limits kind w q g
 unfolding width_checks
 within_of limits kind w q g e =
     let p = none-fails (width_checks limits kind w q g) e in
@@ -118,7 +118,7 @@ within_of limits kind w q g e =
     }
 
 -- and the other way round
-pub within-passes : (limits : Limits) (kind w q g : ℕ) → Within limits kind w q g → verdict (width_checks limits kind w q g) ≡ Verdict.Passed
+pub within-passes : (limits : Limits) (kind w q g : ℕ) → Within limits kind w q g → verdict (width_checks limits kind w q g) ≡ (Ok tt)
 unfolding width_checks
 within-passes limits kind w q g i =
     rw (
@@ -130,14 +130,14 @@ within-passes limits kind w q g i =
     )
 
 -- Kind, w and q that pass, with guard bits within the limits
-pub guard-passes : (limits : Limits) (kind w q g : ℕ) → verdict (function_checks limits kind w q) ≡ Verdict.Passed → limits.g.0 ≤ g
-    → g ≤ limits.g.1 → q + g ≤ limits.sum → verdict (width_checks limits kind w q g) ≡ Verdict.Passed
+pub guard-passes : (limits : Limits) (kind w q g : ℕ) → verdict (function_checks limits kind w q) ≡ (Ok tt) → limits.g.0 ≤ g
+    → g ≤ limits.g.1 → q + g ≤ limits.sum → verdict (width_checks limits kind w q g) ≡ (Ok tt)
 unfolding width_checks
 guard-passes limits kind w q g passed low high few =
     verdict-append (function_checks limits kind w q) (guard_check limits q g ∷ [])
     ∙ rw (passed, not-outside limits.g.0 limits.g.1 g low high, le-ltb limits.sum (q + g) few)
 
-pub function-within : (limits : Limits) (kind w q : ℕ) → verdict (function_checks limits kind w q) ≡ Verdict.Passed
+pub function-within : (limits : Limits) (kind w q : ℕ) → verdict (function_checks limits kind w q) ≡ (Ok tt)
     → (w ≤ limits.w.1) × (q ≤ limits.q.1)
 function-within limits kind w q passed =
     let p = none-fails (function_checks limits kind w q) passed in
@@ -162,7 +162,7 @@ pub record Widths (kind w q g : ℕ) : Type 0 where
   pub q-low : 1 ≤ q
   pub g-low : 2 ≤ g
 
-pub widths-of : (kind w q g : ℕ) → verdict (width_checks (limits_of kind) kind w q g) ≡ Verdict.Passed → Widths kind w q g
+pub widths-of : (kind w q g : ℕ) → verdict (width_checks (limits_of kind) kind w q g) ≡ (Ok tt) → Widths kind w q g
 widths-of kind w q g e =
     let within = within_of (limits_of kind) kind w q g e in
     let has-row = known kind within.kind-high in

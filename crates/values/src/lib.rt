@@ -3,7 +3,8 @@
 
 ghost use Rattle.std.specs.Prelude.{◌≡◌, ◌+◌, T, nat_abs};
 ghost use Rattle.std.specs.Int.Signed.{non_neg};
-ghost use Rattle.values.specs.Value.{value_of, told_by, value_told};
+ghost use Rattle.refusal.specs.Told.{told_by};
+ghost use Rattle.values.specs.Value.{value_of, value_told};
 
 pub mod faithful;
 pub mod floor;
@@ -15,7 +16,7 @@ pub mod widths;
 
 use floor::floor_and_whole;
 use general::pow2;
-use refusal::{Cause, Verdict};
+use refusal::Cause;
 use rows::row_of;
 use widths::{limits_of, width_verdict};
 
@@ -44,24 +45,16 @@ pub struct FloorValue {
     pub whole: bool,
 }
 
-#[derive(Clone, Copy)]
-pub enum Valued {
-    Value(FloorValue),
-    Refused(Cause),
-}
-
 // L(X) for an input word x, in table units, and whether it is E(X).
-pub fn value(kind: u32, w: u32, q: u32, g: u32, x: u32) -> Valued
+pub fn value(kind: u32, w: u32, q: u32, g: u32, x: u32) -> Result<FloorValue, Cause>
     ensures answer { result ≡ value_of kind w q g x }
     ensures told { told_by result ≡ value_told kind w q g x }
 {
-    if let Verdict::Refused(cause) = width_verdict(limits_of(kind), kind, w, q, g) {
-        return Valued::Refused(cause);
-    }
+    width_verdict(limits_of(kind), kind, w, q, g)?;
     let one = pow2(w);
     let word = x as u64;
     if one <= word {
-        return Valued::Refused(Cause::WordRange);
+        return Err(Cause::WordRange);
     }
-    Valued::Value(floor_and_whole(row_of(kind), w, q + g, one + word))
+    Ok(floor_and_whole(row_of(kind), w, q + g, one + word))
 }

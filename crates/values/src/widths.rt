@@ -3,7 +3,7 @@ ghost use Rattle.std.specs.Prelude.{◌≡◌};
 ghost use Rattle.refusal.specs.Checks.{verdict};
 ghost use Rattle.values.specs.Widths.{limits_of, function_checks, width_checks};
 
-use refusal::{Cause, Verdict, outside};
+use refusal::{Cause, outside};
 
 // The lowest and the highest number that pass.
 #[derive(Clone, Copy)]
@@ -33,33 +33,31 @@ pub fn limits_of(kind: u32) -> Limits
 }
 
 // The refusals 1 to 3, by the limits.
-pub fn function_verdict(limits: Limits, kind: u32, w: u32, q: u32) -> Verdict
+pub fn function_verdict(limits: Limits, kind: u32, w: u32, q: u32) -> Result<(), Cause>
     ensures { result ≡ verdict (function_checks limits kind w q) }
 {
     if outside(0, limits.kind, kind) {
-        return Verdict::Refused(Cause::Kind);
+        return Err(Cause::Kind);
     }
     if outside(limits.w.0, limits.w.1, w) {
-        return Verdict::Refused(Cause::InputWidth);
+        return Err(Cause::InputWidth);
     }
     if outside(limits.q.0, limits.q.1, q) {
-        return Verdict::Refused(Cause::OutputWidth);
+        return Err(Cause::OutputWidth);
     }
-    Verdict::Passed
+    Ok(())
 }
 
 // The refusals 1 to 4, by the limits. q + g is formed in 64 bits, so that it cannot wrap into legality, whatever the limits.
-pub fn width_verdict(limits: Limits, kind: u32, w: u32, q: u32, g: u32) -> Verdict
+pub fn width_verdict(limits: Limits, kind: u32, w: u32, q: u32, g: u32) -> Result<(), Cause>
     ensures { result ≡ verdict (width_checks limits kind w q g) }
 {
-    if let Verdict::Refused(cause) = function_verdict(limits, kind, w, q) {
-        return Verdict::Refused(cause);
-    }
+    function_verdict(limits, kind, w, q)?;
     if outside(limits.g.0, limits.g.1, g) {
-        return Verdict::Refused(Cause::GuardBits);
+        return Err(Cause::GuardBits);
     }
     if (limits.sum as u64) < q as u64 + g as u64 {
-        return Verdict::Refused(Cause::GuardBits);
+        return Err(Cause::GuardBits);
     }
-    Verdict::Passed
+    Ok(())
 }

@@ -1,4 +1,5 @@
 -- A line with one more character at its end: what that makes of its digits, of its number, and of what is kept of it.
+use Rattle.std.specs.Prelude.{Option, Some, None}
 use mathlib.Core.Path.{◌≡◌, refl, sym}
 use mathlib.Core.Bool.{Bool, true, false, cond, not, ◌&&◌, and-true, and_assoc, true≢false}
 use mathlib.Core.List.{List, [], ◌∷◌, ◌++◌}
@@ -11,7 +12,6 @@ use borrow.Author.Tests.{lt-ltb, le-ltb, ltb-true, ltb-false, leb-true, leb-fals
 use lib.Dec.{ltb, leb, eqb}
 use lib.ListN.{length, length-append}
 use Rattle.refusal.specs.Checks.{outside}
-use Rattle.word_text.specs.declared.ReadWord.{ReadWord}
 use Rattle.word_text.specs.Decimal.{all_decimal, is_decimal, decimal_number, word_in, at_most_limit, reading_of, after_character, word_of}
 
 -- A number of a digit d in front of n, one place further up
@@ -103,32 +103,32 @@ module _ (t : List ℕ) (c : ℕ) where
   reading-goes-on = by_tests _ _ refl refl
 
 -- What is kept tells whether the line is a word: it is begun, and its value is below the limit.
-word-if : Bool → Bool → ℕ → ReadWord
-word-if begun digits n = cond (begun && digits && ltb n (2 ^ 32)) (ReadWord.Word n) ReadWord.NotAWord
+word-if : Bool → Bool → ℕ → Option ℕ
+word-if begun digits n = cond (begun && digits && ltb n (2 ^ 32)) (Some n) None
 
 word_kept : (begun digits : Bool) (n : ℕ) → begun ≡ true → kept digits n < 2 ^ 32
-    → ReadWord.Word (kept digits n) ≡ word-if begun digits n
+    → Some (kept digits n) ≡ word-if begun digits n
 unfolding word-if
 word_kept false digits n e h = absurd (true≢false (sym e))
 word_kept true false n e h = absurd (omega arith)
 word_kept true true n e h = rw (below-limit n (still-below n h), lt-ltb n (2 ^ 32) (still-below n h))
 
-none_kept : (begun digits : Bool) (n : ℕ) → 2 ^ 32 ≤ kept digits n → ReadWord.NotAWord ≡ word-if begun digits n
+none_kept : (begun digits : Bool) (n : ℕ) → 2 ^ 32 ≤ kept digits n → None ≡ word-if begun digits n
 unfolding word-if
 none_kept false digits n h = refl
 none_kept true false n h = refl
 none_kept true true n h = rw (le-ltb n (2 ^ 32) (still-from n h))
 
 module _ (t : List ℕ) where
-  is_word : (reading_of t).begun ≡ true → (reading_of t).value < 2 ^ 32 → ReadWord.Word (reading_of t).value ≡ word_in t
+  is_word : (reading_of t).begun ≡ true → (reading_of t).value < 2 ^ 32 → Some (reading_of t).value ≡ word_in t
   unfolding reading_of word_in is_decimal word-if
   is_word e h = word_kept (not (eqb (length t) 0)) (all_decimal t) (decimal_number t) e h
 
-  no-character : (reading_of t).begun ≡ false → ReadWord.NotAWord ≡ word_in t
+  no-character : (reading_of t).begun ≡ false → None ≡ word_in t
   unfolding reading_of word_in is_decimal
   no-character e = rw e
 
-  no_word : 2 ^ 32 ≤ (reading_of t).value → ReadWord.NotAWord ≡ word_in t
+  no_word : 2 ^ 32 ≤ (reading_of t).value → None ≡ word_in t
   unfolding reading_of word_in is_decimal word-if
   no_word h = none_kept (not (eqb (length t) 0)) (all_decimal t) (decimal_number t) h
 

@@ -1,7 +1,6 @@
 -- A line as an input word: one digit 0-9 or more and nothing else, which stand for a number below 2^32.
-use Rattle.std.specs.Prelude.{Bool, true, cond, not, ◌&&◌, ◌||◌, List, [], ◌∷◌, ℕ, ◌+◌, ◌-◌, ◌*◌, ◌^◌, ltb, leb, eqb, length}
+use Rattle.std.specs.Prelude.{Bool, true, cond, not, ◌&&◌, ◌||◌, List, [], ◌∷◌, ℕ, ◌+◌, ◌-◌, ◌*◌, ◌^◌, ltb, leb, eqb, length, Option, Some, None}
 use Rattle.refusal.specs.Checks.{outside}
-use Rattle.word_text.specs.declared.ReadWord.{ReadWord}
 use Rattle.word_text.specs.declared.WordText.{WordText}
 
 -- Digits 0-9 and nothing else: 48 is '0', 57 is '9'. No sign, no space, no carriage return.
@@ -19,8 +18,8 @@ decimal_number [] = 0
 decimal_number (c ∷ cs) = (c - 48) * 10 ^ length cs + decimal_number cs
 
 -- What a line is: an input word has 32 bits.
-unfoldable pub word_in : List ℕ → ReadWord
-word_in t = cond (is_decimal t && ltb (decimal_number t) (2 ^ 32)) (ReadWord.Word (decimal_number t)) ReadWord.NotAWord
+unfoldable pub word_in : List ℕ → Option ℕ
+word_in t = cond (is_decimal t && ltb (decimal_number t) (2 ^ 32)) (Some (decimal_number t)) None
 
 -- A number of 2^32 or more is no word, whatever digits follow; it needs to be known no better than that.
 unfoldable pub at_most_limit : ℕ → ℕ
@@ -40,5 +39,5 @@ after_character s c =
     }
 
 -- What a line is, by what is kept of it
-unfoldable pub word_of : WordText → ReadWord
-word_of s = cond (s.begun && ltb s.value (2 ^ 32)) (ReadWord.Word s.value) ReadWord.NotAWord
+unfoldable pub word_of : WordText → Option ℕ
+word_of s = cond (s.begun && ltb s.value (2 ^ 32)) (Some s.value) None

@@ -4,13 +4,6 @@
 ghost use Rattle.std.specs.Prelude.{◌≡◌, []};
 ghost use Rattle.word_text.specs.Decimal.{at_most_limit, reading_of, after_character, word_of};
 
-// What a line is: an input word, or something else.
-#[derive(Clone, Copy)]
-pub enum ReadWord {
-    Word(u32),
-    NotAWord,
-}
-
 // The lowest number that is no input word any more. It stands for "no word, whatever follows", too.
 const LIMIT: u64 = 4294967296;
 
@@ -65,12 +58,12 @@ impl WordText {
     }
 
     // What the whole line is.
-    pub fn word(self) -> ReadWord
+    pub fn word(self) -> Option<u32>
         ensures { result ≡ word_of self }
     {
         if self.begun && self.value < LIMIT {
-            return ReadWord::Word(self.value as u32);
+            return Some(self.value as u32);
         }
-        ReadWord::NotAWord
+        None
     }
 }

@@ -1,4 +1,5 @@
 -- What the checks of the writer come to, what it finds out about the asked line, and what its answer promises of the line buffer.
+use Rattle.std.specs.Prelude.{Ok, Err, Result}
 use mathlib.Core.Path.{◌≡◌, refl, ap, ◌∙◌}
 use mathlib.Core.Bool.{Bool, true, false}
 use mathlib.Core.List.{List, [], ◌∷◌, ◌++◌}
@@ -11,7 +12,7 @@ use borrow.Author.Tests.{le-leb, lt-leb, leb-false, le-ltb, not-false}
 use Rattle.general.specs.Lists.{over}
 use Rattle.general.proofs.WritingLaws.{over-start}
 use Rattle.refusal.specs.declared.Cause.{Cause}
-use Rattle.refusal.specs.declared.Verdict.{Verdict}
+use Rattle.refusal.specs.Verdict.{Verdict}
 use Rattle.refusal.specs.Checks.{Check, ◌↝◌, verdict, leaves}
 use Rattle.refusal.specs.Told.{told}
 use Rattle.refusal.proofs.Checks.{after, verdict-append, passed-append, none-fails}
@@ -32,7 +33,6 @@ use Rattle.lines.specs.Lines.{frame_head, entry_width, entry_number, entry_fits,
 use Rattle.lines.specs.Inputs.{SlotIn}
 use Rattle.lines.proofs.SlotLaws.{slot-in}
 use Rattle.lines.proofs.FrameLaws.{frame-length, frame-short, entry-short}
-use Rattle.writing.specs.declared.Written.{Written}
 use Rattle.writing.specs.Write.{
   number_check,
   room_check,
@@ -53,13 +53,13 @@ pub record Carried (d : Design) (slot : Slot) (initial : List ℕ) (offsets : Li
 
 -- These are the entries that pass 18 and 23.
 module _ (d : Design) (slot : Slot) (initial : List ℕ) (offsets : List ℤ) where
-  pub carried : verdict (asked_checks d slot initial offsets) ≡ Verdict.Passed → Carried d slot initial offsets
+  pub carried : verdict (asked_checks d slot initial offsets) ≡ (Ok tt) → Carried d slot initial offsets
   unfolding asked_checks entry_checks
   carried e =
       let tests = none-fails (asked_checks d slot initial offsets) e in
       record { fits = not-false _ tests.0; below = tests.1.0 }
 
-  pub carried-passes : Carried d slot initial offsets → verdict (asked_checks d slot initial offsets) ≡ Verdict.Passed
+  pub carried-passes : Carried d slot initial offsets → verdict (asked_checks d slot initial offsets) ≡ (Ok tt)
   unfolding asked_checks entry_checks
   carried-passes c = rw (c.fits, c.below)
 
@@ -71,8 +71,8 @@ module _ (d : Design) (initial : List ℕ) (offsets : List ℤ) (n buffer : ℕ)
       number_check d n ∷ asked_checks d (slot_of d n) initial offsets ++ room_check (length (line_at d initial offsets n)) buffer ∷ []
 
   -- A set that is refused by 1 to 10 is refused,
-  pub refused-before : {cause : Cause} → verdict (set_checks d (length initial) (length offsets)) ≡ Verdict.Refused cause
-      → write_verdict d initial offsets n buffer ≡ Verdict.Refused cause
+  pub refused-before : {cause : Cause} → verdict (set_checks d (length initial) (length offsets)) ≡ Err cause
+      → write_verdict d initial offsets n buffer ≡ Err cause
   unfolding write_verdict
   refused-before e = verdict-append (set_checks d (length initial) (length offsets)) line_checks ∙ rw e
 
@@ -82,7 +82,7 @@ module _ (d : Design) (initial : List ℕ) (offsets : List ℤ) (n buffer : ℕ)
     set-settles = verdict-append (set_checks d (length initial) (length offsets)) line_checks ∙ rw (set-passed _ _ _ u)
 
     -- a number past the set is refused by 19,
-    pub past-set : line_count d ≤ n → write_verdict d initial offsets n buffer ≡ Verdict.Refused Cause.LineNumber
+    pub past-set : line_count d ≤ n → write_verdict d initial offsets n buffer ≡ Err Cause.LineNumber
     unfolding number_check
     past-set h = set-settles ∙ rw (le-leb _ _ h)
 
@@ -94,22 +94,22 @@ module _ (d : Design) (initial : List ℕ) (offsets : List ℤ) (n buffer : ℕ)
     unfolding number_check
     within-set h = set-settles ∙ rw (lt-leb _ _ h) (verdict-append (asked_checks d (slot_of d n) initial offsets) _)
 
-    pub entry-refused : n < line_count d → {cause : Cause} → verdict (asked_checks d (slot_of d n) initial offsets) ≡ Verdict.Refused cause
-        → write_verdict d initial offsets n buffer ≡ Verdict.Refused cause
+    pub entry-refused : n < line_count d → {cause : Cause} → verdict (asked_checks d (slot_of d n) initial offsets) ≡ Err cause
+        → write_verdict d initial offsets n buffer ≡ Err cause
     entry-refused h e = within-set h ∙ rw e
 
     -- A line that carries its entry is written into a buffer that is long enough.
     pub line-passes : n < line_count d → Carried d (slot_of d n) initial offsets → length (line_at d initial offsets n) ≤ buffer
-        → write_verdict d initial offsets n buffer ≡ Verdict.Passed
+        → write_verdict d initial offsets n buffer ≡ (Ok tt)
     line-passes h entry room = within-set h ∙ rw (carried-passes _ _ _ _ entry, le-ltb _ _ room)
 
 -- The writer gives a line only where nothing turned it down:
 module _ (d : Design) (initial : List ℕ) (offsets : List ℤ) (n buffer : ℕ) where
-  pub line-given : {digits : ℕ} → write_answer d initial offsets n buffer ≡ Written.Length digits
-      → write_verdict d initial offsets n buffer ≡ Verdict.Passed
+  pub line-given : {digits : ℕ} → write_answer d initial offsets n buffer ≡ Ok digits
+      → write_verdict d initial offsets n buffer ≡ (Ok tt)
   unfolding write_answer
   line-given {digits} e =
-      only-passed (λ (answer : Written). answer ≡ Written.Length digits) _ _ Written.Refused
+      only-passed (λ (answer : Result ℕ Cause). answer ≡ Ok digits) _ _ Err
       (λ cause f. let z : ◌≡◌ {A = ℕ} 0 1 = cc in omega arith) e
 
   -- then the set passes 1 to 10, the line is one of its lines, and it carries its entry.
@@ -118,7 +118,7 @@ module _ (d : Design) (initial : List ℕ) (offsets : List ℤ) (n buffer : ℕ)
     pub within : n < line_count d
     pub entry : Carried d (slot_of d n) initial offsets
 
-  pub given : write_verdict d initial offsets n buffer ≡ Verdict.Passed → Given
+  pub given : write_verdict d initial offsets n buffer ≡ (Ok tt) → Given
   unfolding write_verdict number_check
   given e =
       let asked = asked_checks d (slot_of d n) initial offsets in
@@ -163,7 +163,7 @@ module _ {d : Design} {initial : List ℕ} {offsets : List ℤ} {n : ℕ} {slot 
       ∙ ap (λ count. 2 * (count + 1)) (frame-length d (slot_of d n) initial offsets))
 
   -- Where the entry passes, 14 decides,
-  pub asked-room : (buffer : ℕ) (short : Bool) → verdict (asked_checks d slot initial offsets) ≡ Verdict.Passed
+  pub asked-room : (buffer : ℕ) (short : Bool) → verdict (asked_checks d slot initial offsets) ≡ (Ok tt)
       → ltb buffer (2 * (head.count + width + 1)) ≡ short
       → write_verdict d initial offsets n buffer ≡ verdict (short ↝ Cause.OutputShort ∷ [])
   asked-room buffer short e room =
@@ -177,33 +177,33 @@ module _ {d : Design} {initial : List ℕ} {offsets : List ℤ} {n : ℕ} {slot 
 
 -- The answer, what it tells and what is left in the buffer, by the verdict on what is asked for, which is a line here
 module _ (v : Verdict) (line buffer : List ℕ) where
-  abbrev pub PromisedBy : Written → List ℕ → Type 0
+  abbrev pub PromisedBy : (Result ℕ Cause) → List ℕ → Type 0
   PromisedBy r left = (r ≡ written_if v line) × ((told_by r ≡ told v (length line)) × (left ≡ leaves v line buffer))
 
   -- A refusal leaves the buffer as it was,
-  pub refuses-by : {cause : Cause} → v ≡ Verdict.Refused cause → PromisedBy (Written.Refused cause) buffer
+  pub refuses-by : {cause : Cause} → v ≡ Err cause → PromisedBy (Err cause) buffer
   refuses-by e = rw e (refl, (refl, refl))
 
   -- and otherwise the line stands at its start.
-  pub writes-by : {count : ℕ} {left : List ℕ} → v ≡ Verdict.Passed → length line ≡ count → left ≡ over buffer 0 line
-      → PromisedBy (Written.Length count) left
+  pub writes-by : {count : ℕ} {left : List ℕ} → v ≡ (Ok tt) → length line ≡ count → left ≡ over buffer 0 line
+      → PromisedBy (Ok count) left
   writes-by e count-is left_is = rw e (rw count-is refl, (rw count-is refl, left_is ∙ over-start buffer line))
 
 module _ (d : Design) (initial : List ℕ) (offsets : List ℤ) (n : ℕ) (buffer : List ℕ) where
   -- What is promised of an answer and of what the line buffer is left with
-  abbrev pub Promised : Written → List ℕ → Type 0
+  abbrev pub Promised : (Result ℕ Cause) → List ℕ → Type 0
   Promised r left =
       (r ≡ write_answer d initial offsets n (length buffer))
       × ((told_by r ≡ write_told d initial offsets n (length buffer))
       × (left ≡ buffer_after d initial offsets n buffer))
 
-  pub refuses : {cause : Cause} → write_verdict d initial offsets n (length buffer) ≡ Verdict.Refused cause
-      → Promised (Written.Refused cause) buffer
+  pub refuses : {cause : Cause} → write_verdict d initial offsets n (length buffer) ≡ Err cause
+      → Promised (Err cause) buffer
   unfolding write_answer buffer_after write_told
   refuses e = refuses-by _ (line_at d initial offsets n) buffer e
 
-  pub writes : {count : ℕ} {left : List ℕ} → write_verdict d initial offsets n (length buffer) ≡ Verdict.Passed
+  pub writes : {count : ℕ} {left : List ℕ} → write_verdict d initial offsets n (length buffer) ≡ (Ok tt)
       → length (line_at d initial offsets n) ≡ count → left ≡ over buffer 0 (line_at d initial offsets n)
-      → Promised (Written.Length count) left
+      → Promised (Ok count) left
   unfolding write_answer buffer_after write_told
   writes e count-is left_is = writes-by _ (line_at d initial offsets n) buffer e count-is left_is

@@ -1,8 +1,8 @@
 -- What the call `write_line` answers, "writer 1 to 10, 19, 18, 14", with document 02's 23 "in the writer after 18", and what it leaves in
 -- the line buffer.
-use Rattle.std.specs.Prelude.{Bool, not, List, [], ◌∷◌, ◌++◌, ℕ, leb, ltb, length, ℤ}
+use Rattle.std.specs.Prelude.{Bool, not, List, [], ◌∷◌, ◌++◌, ℕ, leb, ltb, length, ℤ, Result, Ok, Err}
 use Rattle.refusal.specs.declared.Cause.{Cause}
-use Rattle.refusal.specs.declared.Verdict.{Verdict}
+use Rattle.refusal.specs.Verdict.{Verdict}
 use Rattle.refusal.specs.Numbers.{number_of}
 use Rattle.refusal.specs.Checks.{Check, ◌↝◌, verdict, if_passed, leaves}
 use Rattle.refusal.specs.Told.{Told, accepted, refused, told}
@@ -11,7 +11,6 @@ use Rattle.tables.specs.Set.{set_checks}
 use Rattle.lines.specs.declared.Slot.{Slot}
 use Rattle.lines.specs.Slots.{line_count, slot_of}
 use Rattle.lines.specs.Lines.{entry_number, entry_fits, entry_over, line_at}
-use Rattle.writing.specs.declared.Written.{Written}
 
 -- 19, "line number past the set (lines count from 0)"
 unfoldable pub number_check : Design → ℕ → Check
@@ -39,11 +38,11 @@ write_verdict d initial offsets n buffer =
     ++ (number_check d n ∷ asked_checks d (slot_of d n) initial offsets ++ room_check (length (line_at d initial offsets n)) buffer ∷ []))
 
 -- The writer "returns its length", by the verdict on what is asked for
-abbrev pub written_if : Verdict → List ℕ → Written
-written_if v line = if_passed v (Written.Length (length line)) Written.Refused
+abbrev pub written_if : Verdict → List ℕ → Result ℕ Cause
+written_if v line = if_passed v (Ok (length line)) Err
 
 -- n is the asked number, `buffer` the length of the line buffer.
-unfoldable pub write_answer : Design → List ℕ → List ℤ → ℕ → ℕ → Written
+unfoldable pub write_answer : Design → List ℕ → List ℤ → ℕ → ℕ → Result ℕ Cause
 write_answer d initial offsets n buffer = written_if (write_verdict d initial offsets n buffer) (line_at d initial offsets n)
 
 -- "puts the line with the asked number at the start of the line buffer .. and leaves the rest untouched"; a refusal "leaves every
@@ -53,9 +52,9 @@ buffer_after d initial offsets n buffer =
     leaves (write_verdict d initial offsets n (length buffer)) (line_at d initial offsets n) buffer
 
 -- What each answer tells: the line's length, or the refusal's number
-abbrev pub told_by : Written → Told ℕ
-told_by (Written.Length digits) = accepted digits
-told_by (Written.Refused cause) = refused (number_of cause) 0
+abbrev pub told_by : (Result ℕ Cause) → Told ℕ
+told_by (Ok digits) = accepted digits
+told_by (Err cause) = refused (number_of cause) 0
 
 -- What is to be told: a refusal, or the line's length
 unfoldable pub write_told : Design → List ℕ → List ℤ → ℕ → ℕ → Told ℕ

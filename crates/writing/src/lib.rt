@@ -12,38 +12,31 @@ use design::Design;
 use encoding::numbers::{complement, fits, fits_signed};
 use encoding::put_line;
 use lines::{Slot, entry_width, head_of, initial_over, line_count, slot_of};
-use refusal::{Cause, Verdict};
+use refusal::Cause;
 use tables::set_verdict;
-
-// What `write_line` answers: how many digits the line has.
-#[derive(Clone, Copy)]
-pub enum Written {
-    Length(usize),
-    Refused(Cause),
-}
 
 // 18, then 23, by whether an entry fits its 3 bytes and whether it is an initial entry at the limit on sums or beyond it.
 #[tactic(auto, unfolding(crate::specs::Write::entry_checks))]
-fn entry_verdict(fits: bool, over: bool) -> Verdict
+fn entry_verdict(fits: bool, over: bool) -> Result<(), Cause>
     ensures { result ≡ verdict (entry_checks fits over) }
 {
     if !fits {
-        return Verdict::Refused(Cause::EntryWidth);
+        return Err(Cause::EntryWidth);
     }
     if over {
-        return Verdict::Refused(Cause::InitialRange);
+        return Err(Cause::InitialRange);
     }
-    Verdict::Passed
+    Ok(())
 }
 
 // What the entry of a line is refused for. The limit on sums is for initial entries alone.
-fn asked_verdict(d: Design, slot: Slot, initial: &[u32], offsets: &[i32]) -> Verdict
+fn asked_verdict(d: Design, slot: Slot, initial: &[u32], offsets: &[i32]) -> Result<(), Cause>
     requires legal { Legal d }
     requires slot_in { SlotIn slot (length initial.now) (length offsets.now) }
     ensures { result ≡ verdict (asked_checks d slot initial.now offsets.now) }
 {
     match slot {
-        Slot::Design => Verdict::Passed,
+        Slot::Design => Ok(()),
         Slot::Initial(index) => {
             let entry = initial[index as usize];
             entry_verdict(fits(entry), initial_over(d, entry))
@@ -53,7 +46,7 @@ fn asked_verdict(d: Design, slot: Slot, initial: &[u32], offsets: &[i32]) -> Ver
             index: _,
             place,
         } => entry_verdict(fits_signed(offsets[place as usize]), false),
-        Slot::End(_) => Verdict::Passed,
+        Slot::End(_) => Ok(()),
     }
 }
 
@@ -83,28 +76,24 @@ pub fn write_line(
     offsets: &[i32],
     number: usize,
     line: &mut [u8],
-) -> Written
+) -> Result<usize, Cause>
     ensures answer { result ≡ write_answer d initial.now offsets.now number (length line.old) }
     ensures told { told_by result ≡ write_told d initial.now offsets.now number (length line.old) }
     ensures line_buffer { line.new ≡ buffer_after d initial.now offsets.now number line.old }
 {
-    if let Verdict::Refused(cause) = set_verdict(d, initial.len(), offsets.len()) {
-        return Written::Refused(cause);
-    }
+    set_verdict(d, initial.len(), offsets.len())?;
     if line_count(d) <= number as u64 {
-        return Written::Refused(Cause::LineNumber);
+        return Err(Cause::LineNumber);
     }
     let slot = slot_of(d, number);
-    if let Verdict::Refused(cause) = asked_verdict(d, slot, initial, offsets) {
-        return Written::Refused(cause);
-    }
+    asked_verdict(d, slot, initial, offsets)?;
     let head = head_of(d, slot);
     let width = entry_width(slot);
     let digits = 2 * (head.count + width + 1);
     if line.len() < digits {
-        return Written::Refused(Cause::OutputShort);
+        return Err(Cause::OutputShort);
     }
     let frame = head.with(width, entry_number(slot, initial, offsets));
     put_line(frame, line);
-    Written::Length(digits)
+    Ok(digits)
 }

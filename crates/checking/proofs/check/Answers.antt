@@ -1,11 +1,11 @@
 -- `checking::check` meets its contract: refusals 1 to 10, then the search.
+use Rattle.std.specs.Prelude.{Ok, Err}
 use mathlib.Core.Path.{◌≡◌, refl, sym, ap, ◌∙◌}
 use mathlib.Core.List.{List}
 use Prim.Native.Nat.{ℕ, ◌^◌}
 use lib.IntN.{ℤ}
 use lib.ListN.{length}
 use Rattle.refusal.specs.declared.Cause.{Cause}
-use Rattle.refusal.specs.declared.Verdict.{Verdict}
 use Rattle.refusal.proofs.Answers.{answer-told}
 use Rattle.design.specs.declared.Design.{Design}
 use Rattle.design.proofs.LegalLaws.{limits}
@@ -26,11 +26,11 @@ module _ (d : Design) (initial : List ℕ) (offsets : List ℤ) where
   unfolding check_answer check_told
   promised r e = (e, ap told_by e ∙ answer-told told_by (check_verdict d initial offsets) _ Checked.Refused _ (found-told _) (λ cause. refl))
 
-  refused : (cause : Cause) → check_verdict d initial offsets ≡ Verdict.Refused cause → Promised (Checked.Refused cause)
+  refused : (cause : Cause) → check_verdict d initial offsets ≡ Err cause → Promised (Checked.Refused cause)
   unfolding check_answer
   refused cause e = promised _ (rw e)
 
-  searched : check_verdict d initial offsets ≡ Verdict.Passed → (r : Checked)
+  searched : check_verdict d initial offsets ≡ (Ok tt) → (r : Checked)
       → r ≡ found (finding_below (2 ^ d.w) (faithful_at d initial offsets)) → Promised r
   searched e r r-is = promised r (r-is ∙ sym (check-searches d initial offsets e))
 

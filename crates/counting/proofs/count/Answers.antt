@@ -1,37 +1,36 @@
 -- `counting::count` meets its contract: refusals 1 to 10, then the counts.
+use Rattle.std.specs.Prelude.{Ok, Err, Result}
 use mathlib.Core.Path.{◌≡◌, refl, sym, ap, ◌∙◌}
 use mathlib.Core.List.{List}
 use Prim.Native.Nat.{ℕ, ◌^◌}
 use lib.IntN.{ℤ}
 use lib.ListN.{length}
 use Rattle.refusal.specs.declared.Cause.{Cause}
-use Rattle.refusal.specs.declared.Verdict.{Verdict}
 use Rattle.refusal.proofs.Answers.{answer-told}
 use Rattle.design.specs.declared.Design.{Design}
 use Rattle.design.proofs.LegalLaws.{limits}
 use Rattle.tables.specs.Inputs.{Usable}
 use Rattle.tables.proofs.SetLaws.{usable}
 use Rattle.counting.specs.declared.Counts.{Counts}
-use Rattle.counting.specs.declared.Counted.{Counted}
 use Rattle.counting.specs.Count.{class_at, counts_below, count_verdict, count_answer, told_by, count_told}
 use Rattle.counting.proofs.count.Goals as goal
 use Rattle.counting.proofs.count.Goals.{In_default}
 
 module _ (d : Design) (initial : List ℕ) (offsets : List ℤ) where
   -- what is promised of an answer
-  abbrev Promised : Counted → Type 0
+  abbrev Promised : (Result Counts Cause) → Type 0
   Promised r = (r ≡ count_answer d initial offsets) × (told_by r ≡ count_told d initial offsets)
 
-  promised : (r : Counted) → r ≡ count_answer d initial offsets → Promised r
+  promised : (r : Result Counts Cause) → r ≡ count_answer d initial offsets → Promised r
   unfolding count_answer count_told
-  promised r e = (e, ap told_by e ∙ answer-told told_by (count_verdict d initial offsets) _ Counted.Refused _ refl (λ cause. refl))
+  promised r e = (e, ap told_by e ∙ answer-told told_by (count_verdict d initial offsets) _ Err _ refl (λ cause. refl))
 
-  refused : (cause : Cause) → count_verdict d initial offsets ≡ Verdict.Refused cause → Promised (Counted.Refused cause)
+  refused : (cause : Cause) → count_verdict d initial offsets ≡ Err cause → Promised (Err cause)
   unfolding count_answer
   refused cause e = promised _ (rw e)
 
-  counted : count_verdict d initial offsets ≡ Verdict.Passed → (counts : Counts)
-      → counts ≡ counts_below (2 ^ d.w) (class_at d initial offsets) → Promised (Counted.Counts counts)
+  counted : count_verdict d initial offsets ≡ (Ok tt) → (counts : Counts)
+      → counts ≡ counts_below (2 ^ d.w) (class_at d initial offsets) → Promised (Ok counts)
   unfolding count_answer
   counted e counts counts-are = promised _ (rw (e, counts-are))
 

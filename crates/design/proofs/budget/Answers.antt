@@ -1,16 +1,15 @@
 -- `design::budget` meets its contract: the verdict's refusal, or the budget of a legal design.
+use Rattle.std.specs.Prelude.{Err}
 use mathlib.Core.Path.{◌≡◌, sym, ◌∙◌}
 use Rattle.refusal.specs.declared.Cause.{Cause}
-use Rattle.refusal.specs.declared.Verdict.{Verdict}
 use Rattle.design.specs.declared.Design.{Design}
-use Rattle.design.specs.declared.Measured.{Measured}
 use Rattle.design.specs.Legal.{design_verdict, Legal}
 use Rattle.design.specs.Answers.{budget_answer, told_by, budget_told}
 use Rattle.design.proofs.budget.Goals as goal
 use Rattle.design.proofs.budget.Goals.{In_default}
 
-refused : (d : Design) (cause : Cause) → design_verdict d ≡ Verdict.Refused cause
-    → (Measured.Refused cause ≡ budget_answer d) × (told_by (Measured.Refused cause) ≡ budget_told d)
+refused : (d : Design) (cause : Cause) → design_verdict d ≡ Err cause
+    → (Err cause ≡ budget_answer d) × (told_by (Err cause) ≡ budget_told d)
 unfolding budget_answer budget_told
 refused d cause e = (rw e, rw e)
 

@@ -1,11 +1,11 @@
 -- `evaluating::word_answer` meets its contract: the word's range, then that of its sum, then the word.
+use Rattle.std.specs.Prelude.{Ok}
 use mathlib.Core.Path.{◌≡◌, refl, sym, ap, ◌∙◌}
 use mathlib.Core.Bool.{false}
 use Prim.Native.Nat.{◌^◌, ◌<◌}
 use native.Mathlib.Omega.{arith}
 use Rattle.design.proofs.LegalLaws.{limits}
 use Rattle.tables.specs.Sum.{sum_at, sum_outside, word_at}
-use Rattle.evaluating.specs.declared.Evaluated.{Evaluated}
 use Rattle.evaluating.proofs.WordLaws.{word-past, sum-refused, word-passed}
 use Rattle.evaluating.proofs.word_answer.Goals as goal
 use Rattle.evaluating.proofs.word_answer.Goals.{After-sum_outside, Else-pow2-x, Else-sum_outside}
@@ -43,4 +43,4 @@ pub returns : goal.returns
 unfolding word_at
 returns c =
     rw (word-passed _ _ _ _ ((let within' : (c.args.x < 2 ^ c.args.d.w) = omega (arith, c.pow2.ensures) in within')) ((let in-range' : (let a = c.args in sum_outside a.d (sum_at a.d a.initial.now a.offsets.now a.x) ≡ false) = sym ((let tested' : (let a = c.args in c.sum_outside.result ≡ sum_outside a.d (sum_at a.d a.initial.now a.offsets.now a.x)) = rw c.sum_of-sum.ensures at c.sum_outside.ensures in tested')) ∙ c.if-sum_outside.false in in-range')))
-    (ap Evaluated.Word (rw c.sum_of-sum.ensures at c.word_of.ensures))
+    (ap Ok (rw c.sum_of-sum.ensures at c.word_of.ensures))

@@ -1,11 +1,11 @@
 -- `exports::dorykleth_sum` meets its contract: the verdict of the set, then the word, then the sum.
+use Rattle.std.specs.Prelude.{Ok}
 use mathlib.Core.Path.{◌≡◌, refl, sym, ap, ◌∙◌}
 use native.Mathlib.Omega.{arith}
 use borrow.Author.Rules.{rules}
 use mir.Syntax.{w64}
 use mir.ValLaws.{to_z-of_z}
 use lib.ListN.{length}
-use Rattle.refusal.specs.declared.Verdict.{Verdict}
 use Rattle.refusal.specs.Checks.{verdict}
 use Rattle.values.specs.declared.TableUnits.{TableUnits}
 use Rattle.tables.specs.Set.{set_checks}
@@ -26,7 +26,7 @@ returns-in-Refused c =
 set-passed : (c : In_default) →
     let d = c.before.before.before in
     let a = d.args in
-    verdict (set_checks d.design_of-d.result (length a.initial.now) (length a.offsets.now)) ≡ Verdict.Passed
+    verdict (set_checks d.design_of-d.result (length a.initial.now) (length a.offsets.now)) ≡ (Ok tt)
 set-passed c = sym c.set_verdict.ensures ∙ c.in_default.is
 
 pub pow2-requires : goal.pow2-requires
@@ -41,12 +41,12 @@ returns-then-pow2-x c =
     record { number = rw (← c.design_of-d.ensures) p.0; sum = rw (← c.design_of-d.ensures) p.1 }
 
 pub lookups_of-requires : goal.lookups_of-requires
-lookups_of-requires c = (usable _ _ _ ((let set-passed' : (let d = c.before.before.before in let a = d.args in verdict (set_checks d.design_of-d.result (length a.initial.now) (length a.offsets.now)) ≡ Verdict.Passed) = sym c.set_verdict.ensures ∙ c.in_default.is in set-passed'))).legal
+lookups_of-requires c = (usable _ _ _ ((let set-passed' : (let d = c.before.before.before in let a = d.args in verdict (set_checks d.design_of-d.result (length a.initial.now) (length a.offsets.now)) ≡ (Ok tt)) = sym c.set_verdict.ensures ∙ c.in_default.is in set-passed'))).legal
 
 pub sum_of-units-requires : goal.sum_of-units-requires
 sum_of-units-requires c =
     let b = c.before.before in
-    record { usable = usable _ _ _ ((let set-passed' : (let d = c.before.before.before in let a = d.args in verdict (set_checks d.design_of-d.result (length a.initial.now) (length a.offsets.now)) ≡ Verdict.Passed) = sym c.set_verdict.ensures ∙ c.in_default.is in set-passed')); lookups_value = c.lookups_of.ensures; x_bound = rw b.pow2.ensures at b.if-pow2-x.false }
+    record { usable = usable _ _ _ ((let set-passed' : (let d = c.before.before.before in let a = d.args in verdict (set_checks d.design_of-d.result (length a.initial.now) (length a.offsets.now)) ≡ (Ok tt)) = sym c.set_verdict.ensures ∙ c.in_default.is in set-passed')); lookups_value = c.lookups_of.ensures; x_bound = rw b.pow2.ensures at b.if-pow2-x.false }
 
 pub returns : goal.returns
 returns c =

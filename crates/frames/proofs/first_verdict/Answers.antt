@@ -1,9 +1,9 @@
 -- `frames::first_verdict` meets its contract: the frame is tried, and then the design in it.
+use Rattle.std.specs.Prelude.{Ok, Err}
 use mathlib.Core.Path.{◌≡◌, sym, ◌∙◌}
 use mathlib.Core.List.{List}
 use Prim.Native.Nat.{ℕ}
 use Rattle.refusal.specs.declared.Cause.{Cause}
-use Rattle.refusal.specs.declared.Verdict.{Verdict}
 use Rattle.refusal.specs.Checks.{verdict}
 use Rattle.refusal.proofs.Checks.{verdict-append}
 use Rattle.design.specs.Legal.{design_verdict}
@@ -12,12 +12,12 @@ use Rattle.frames.proofs.first_verdict.Goals as goal
 
 -- The verdict by that of the frame: a refusal stands, and else the design decides.
 module _ (bytes : List ℕ) (count : ℕ) where
-  not-due : (cause : Cause) → verdict (frame_checks bytes count) ≡ Verdict.Refused cause
-      → Verdict.Refused cause ≡ verdict (first_checks bytes count)
+  not-due : (cause : Cause) → verdict (frame_checks bytes count) ≡ Err cause
+      → Err cause ≡ verdict (first_checks bytes count)
   unfolding first_checks
   not-due cause e = rw (verdict-append, e)
 
-  design-decides : verdict (frame_checks bytes count) ≡ Verdict.Passed
+  design-decides : verdict (frame_checks bytes count) ≡ (Ok tt)
       → design_verdict (frame_design bytes) ≡ verdict (first_checks bytes count)
   unfolding first_checks design_verdict
   design-decides e = rw (verdict-append, e)

@@ -1,11 +1,11 @@
 -- `frames::frame_verdict` meets its contract: a test that fails makes `frame_fails` true, and where both pass it is false.
+use Rattle.std.specs.Prelude.{Ok, Err}
 use mathlib.Core.Path.{◌≡◌, ap}
 use mathlib.Core.Bool.{true, false, not}
 use mathlib.Core.List.{List}
 use lib.Dec.{eqb}
 use lib.ListN.{get_or}
 use Rattle.refusal.specs.declared.Cause.{Cause}
-use Rattle.refusal.specs.declared.Verdict.{Verdict}
 use Rattle.refusal.specs.Checks.{verdict}
 use Prim.Native.Nat.{ℕ, ◌+◌, ◌*◌, ◌≤◌}
 use native.Mathlib.Omega.{arith}
@@ -31,16 +31,16 @@ overflow_add-due c = due-fits _ _ (omega arith) (search rules)
 
 -- The verdict by the two tests: the frame kind is 1, and the number of bytes is 8 + 2m.
 module _ (bytes : List ℕ) (count : ℕ) where
-  other-kind : (get_or bytes 0 0 ≡ 1 → ⊥) → Verdict.Refused Cause.Frame ≡ verdict (frame_checks bytes count)
+  other-kind : (get_or bytes 0 0 ≡ 1 → ⊥) → Err Cause.Frame ≡ verdict (frame_checks bytes count)
   unfolding frame_fails frame_checks
   other-kind other = rw (frame_fails, ne_eqb _ _ other)
 
   other-count : get_or bytes 0 0 ≡ 1 → not (eqb count (8 + 2 * get_or bytes 6 0)) ≡ true
-      → Verdict.Refused Cause.Frame ≡ verdict (frame_checks bytes count)
+      → Err Cause.Frame ≡ verdict (frame_checks bytes count)
   unfolding frame_fails frame_checks
   other-count kind other = rw (frame_fails, eq-eqb _ _ kind, other)
 
-  is-due : get_or bytes 0 0 ≡ 1 → not (eqb count (8 + 2 * get_or bytes 6 0)) ≡ false → Verdict.Passed ≡ verdict (frame_checks bytes count)
+  is-due : get_or bytes 0 0 ≡ 1 → not (eqb count (8 + 2 * get_or bytes 6 0)) ≡ false → (Ok tt) ≡ verdict (frame_checks bytes count)
   unfolding frame_fails frame_checks
   is-due kind due = rw (frame_fails, eq-eqb _ _ kind, due)
 

@@ -1,10 +1,10 @@
 -- `reading::is_possible` meets its contract: with a line taken the design is tried, and then the number of lines.
+use Rattle.std.specs.Prelude.{Err}
 use mathlib.Core.Path.{◌≡◌, sym, ◌∙◌}
 use mathlib.Core.Bool.{false, ◌&&◌}
 use native.Mathlib.Omega.{arith}
 use lib.Dec.{leb}
 use Rattle.refusal.specs.declared.Cause.{Cause}
-use Rattle.refusal.specs.declared.Verdict.{Verdict}
 use Rattle.refusal.specs.Checks.{passes}
 use Rattle.design.specs.Legal.{design_verdict, Legal}
 use Rattle.lines.specs.Slots.{line_count}
@@ -18,7 +18,7 @@ module _ (state : Reading) (some : state.taken ≡ 0 → ⊥) where
   tried : possible state ≡ passes (design_verdict state.design) && leb state.taken (line_count state.design)
   tried = later-possible state (omega arith)
 
-  illegal : (cause : Cause) → design_verdict state.design ≡ Verdict.Refused cause → false ≡ possible state
+  illegal : (cause : Cause) → design_verdict state.design ≡ Err cause → false ≡ possible state
   illegal cause e = rw (tried, e)
 
   -- and then the number of lines.

@@ -1,4 +1,5 @@
 -- `record_writing::write_record` meets its contract: the verdict of the set, then 20, the number, the record's own checks, the record.
+use Rattle.std.specs.Prelude.{Ok, Err}
 use mathlib.Core.Path.{◌≡◌, sym, ap, ◌∙◌}
 use mathlib.Core.Bool.{true, false}
 use mathlib.Core.List.{[], ◌∷◌, ◌++◌}
@@ -10,7 +11,6 @@ use lib.ListN.{length, take}
 use lib.Seq.{length-take-le}
 use Rattle.general.specs.Lists.{over}
 use Rattle.refusal.specs.declared.Cause.{Cause}
-use Rattle.refusal.specs.declared.Verdict.{Verdict}
 use Rattle.refusal.specs.Checks.{verdict}
 use Rattle.tables.specs.Inputs.{Usable}
 use Rattle.tables.proofs.SetLaws.{usable}
@@ -146,7 +146,7 @@ returns-then-not-fits c =
     let a = c.args in
     let fits = c.put_entries-fits.ensures.value ∙ asked-fits a.d a.initial.now a.offsets.now a.number _ c.extent_of-extent.ensures in
     rw (fits, ← length-is) (within-records _ _ _ _ (length a.«record».now) (set) (few) (within)) in
-    let too_wide : c.put_entries-fits.result ≡ false → (let a = c.args in hex_write_verdict a.d a.initial.now a.offsets.now a.number (length a.«record».now)) ≡ Verdict.Refused Cause.EntryWidth =
+    let too_wide : c.put_entries-fits.result ≡ false → (let a = c.args in hex_write_verdict a.d a.initial.now a.offsets.now a.number (length a.«record».now)) ≡ Err Cause.EntryWidth =
     λ wide. settles ∙ rw wide in
     let both = refuses _ _ _ _ _ (too_wide c.if-not-fits.true) in record { answer = both.0; told = both.1.0; record_buffer = both.1.1 }
 
@@ -171,7 +171,7 @@ returns-then-record-characters c =
     let a = c.args in
     let fits = c.put_entries-fits.ensures.value ∙ asked-fits a.d a.initial.now a.offsets.now a.number _ c.extent_of-extent.ensures in
     rw (fits, ← length-is) (within-records _ _ _ _ (length a.«record».now) (set) (few) (within)) in
-    let no_room : c.put_entries-fits.result ≡ true → (let a = c.args in length a.«record».now) < (11 + 2 * (c.bytes_before.result - c.bytes_before-2.result)) → (let a = c.args in hex_write_verdict a.d a.initial.now a.offsets.now a.number (length a.«record».now)) ≡ Verdict.Refused Cause.OutputShort =
+    let no_room : c.put_entries-fits.result ≡ true → (let a = c.args in length a.«record».now) < (11 + 2 * (c.bytes_before.result - c.bytes_before-2.result)) → (let a = c.args in hex_write_verdict a.d a.initial.now a.offsets.now a.number (length a.«record».now)) ≡ Err Cause.OutputShort =
     λ narrow short. settles ∙ rw (narrow, lt-ltb _ _ short) in
     let both = refuses _ _ _ _ _ (no_room (search rules) c.if-record-characters.true) in record { answer = both.0; told = both.1.0; record_buffer = both.1.1 }
 
@@ -245,7 +245,7 @@ returns c =
     let a = c.args in
     let fits = c.put_entries-fits.ensures.value ∙ asked-fits a.d a.initial.now a.offsets.now a.number _ c.extent_of-extent.ensures in
     rw (fits, ← length-is) (within-records _ _ _ _ (length a.«record».now) (set) (few) (within)) in
-    let writable : c.put_entries-fits.result ≡ true → (11 + 2 * (c.bytes_before.result - c.bytes_before-2.result)) ≤ (let a = c.args in length a.«record».now) → (let a = c.args in hex_write_verdict a.d a.initial.now a.offsets.now a.number (length a.«record».now)) ≡ Verdict.Passed =
+    let writable : c.put_entries-fits.result ≡ true → (11 + 2 * (c.bytes_before.result - c.bytes_before-2.result)) ≤ (let a = c.args in length a.«record».now) → (let a = c.args in hex_write_verdict a.d a.initial.now a.offsets.now a.number (length a.«record».now)) ≡ (Ok tt) =
     λ narrow long. settles ∙ rw (narrow, le-ltb _ _ long) in
     let a = c.args in
     let extent = c.extent_of-extent.result in

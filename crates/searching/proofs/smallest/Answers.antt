@@ -1,8 +1,8 @@
 -- `searching::smallest` meets its contract: a refusal of kind, w or q stands, and then the best design tells whether there is one.
+use Rattle.std.specs.Prelude.{Ok, Err}
 use mathlib.Core.Path.{◌≡◌, sym, ◌∙◌}
 use Prim.Native.Nat.{ℕ, ◌≤◌, ◌<◌}
 use Rattle.refusal.specs.declared.Cause.{Cause}
-use Rattle.refusal.specs.declared.Verdict.{Verdict}
 use Rattle.refusal.specs.Checks.{verdict}
 use Rattle.values.specs.Widths.{limits_of, function_checks}
 use Rattle.searching.specs.declared.SizedDesign.{SizedDesign}
@@ -25,11 +25,11 @@ module _ (kind w q : ℕ) where
   Promised r = (r ≡ smallest_answer kind w q) × (told_by r ≡ smallest_told kind w q)
 
   -- by the verdict of all checks
-  refuses : (cause : Cause) (r : Found) → smallest_verdict kind w q ≡ Verdict.Refused cause → r ≡ refused_with cause → Promised r
+  refuses : (cause : Cause) (r : Found) → smallest_verdict kind w q ≡ Err cause → r ≡ refused_with cause → Promised r
   unfolding smallest_answer smallest_told refused_with
   refuses cause r v is = (is ∙ rw v, rw (is, v))
 
-  finds : (r : Found) → smallest_verdict kind w q ≡ Verdict.Passed → r ≡ record { verdict = Verdict.Passed; best = smallest_of kind w q }
+  finds : (r : Found) → smallest_verdict kind w q ≡ (Ok tt) → r ≡ record { verdict = (Ok tt); best = smallest_of kind w q }
       → Promised r
   unfolding smallest_answer smallest_told
   finds r v is = (is ∙ rw v, rw (is, v))
@@ -47,7 +47,7 @@ judged : (c : After-function_verdict) → let a = c.args in
 judged c = rw (← c.limits_of.ensures) c.function_verdict.ensures
 
 passed : (c : In_default) → let a = c.args in
-    verdict (function_checks (limits_of a.kind) a.kind a.w a.q) ≡ Verdict.Passed
+    verdict (function_checks (limits_of a.kind) a.kind a.w a.q) ≡ (Ok tt)
 passed c = sym (judged c.before) ∙ c.in_default.is
 
 pub returns-in-Refused : goal.returns-in-Refused

@@ -1,10 +1,9 @@
 -- `sizing::size` meets its contract: the verdict's refusal, 11 of a legal design that is not admitted, or the size.
+use Rattle.std.specs.Prelude.{Ok, Err, Result}
 use mathlib.Core.Path.{◌≡◌, refl, sym, ◌∙◌}
 use Prim.Native.Nat.{ℕ}
 use Rattle.refusal.specs.declared.Cause.{Cause}
-use Rattle.refusal.specs.declared.Verdict.{Verdict}
 use Rattle.design.specs.declared.Design.{Design}
-use Rattle.design.specs.declared.Measured.{Measured}
 use Rattle.design.specs.Legal.{Legal, design_checks, design_verdict}
 use Rattle.design.specs.Answers.{told_by}
 use Rattle.design.proofs.LegalLaws.{limits, guard_small}
@@ -15,14 +14,14 @@ use Rattle.sizing.proofs.size.Goals.{In_default}
 
 -- what is promised by the verdict
 module _ (d : Design) where
-  abbrev Promised : Measured → Type 0
+  abbrev Promised : (Result ℕ Cause) → Type 0
   Promised r = (r ≡ size_answer d) × (told_by r ≡ size_told d)
 
-  refused-with : (cause : Cause) → size_verdict d ≡ Verdict.Refused cause → Promised (Measured.Refused cause)
+  refused-with : (cause : Cause) → size_verdict d ≡ Err cause → Promised (Err cause)
   unfolding size_answer size_told
   refused-with cause e = (rw e, rw e)
 
-  answered : (bits : ℕ) → size_verdict d ≡ Verdict.Passed → bits ≡ size d → Promised (Measured.Is bits)
+  answered : (bits : ℕ) → size_verdict d ≡ (Ok tt) → bits ≡ size d → Promised (Ok bits)
   unfolding size_answer size_told
   answered bits e is = rw (e, is) (refl, refl)
 

@@ -1,4 +1,5 @@
 -- `design::legal::cut_verdict` meets its contract: each answer rewrites with the tests that led there.
+use Rattle.std.specs.Prelude.{Ok}
 use mathlib.Core.Path.{◌≡◌}
 use mathlib.Core.Bool.{false, not}
 use Prim.Native.Nat.{◌-◌}
@@ -7,7 +8,6 @@ use lib.Dec.{leb, eqb}
 use Rattle.general.specs.Below.{some_below}
 use Rattle.general.proofs.Tests.{tested}
 use Rattle.refusal.specs.declared.Cause.{Cause}
-use Rattle.refusal.specs.declared.Verdict.{Verdict}
 use Rattle.refusal.specs.Checks.{outside, refuses, verdict}
 use Rattle.refusal.proofs.Checks.{inside}
 use Rattle.design.specs.declared.legal.TableRule.{TableRule}
@@ -85,7 +85,7 @@ offset_bits-requires c = (inside 1 most_tables _ (m-passed c.before.before.befor
 -- only the sum is left to be tested
 sum_left : (c : Else-some_table_breaks-2)
     → let d = c.args.d in
-    verdict (cut_checks d) ≡ refuses (not (eqb (position d d.m) (d.w - d.alpha))) Cause.CutSum Verdict.Passed
+    verdict (cut_checks d) ≡ refuses (not (eqb (position d d.m) (d.w - d.alpha))) Cause.CutSum (Ok tt)
 unfolding cut_checks
 sum_left c =
     rw (

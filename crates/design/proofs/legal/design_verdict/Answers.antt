@@ -1,7 +1,7 @@
 -- `design::legal::design_verdict` meets its contract: a refusal of the widths stands, and the cut is judged after they pass.
+use Rattle.std.specs.Prelude.{Ok, Err}
 use mathlib.Core.Path.{◌≡◌, sym, ◌∙◌}
 use Rattle.refusal.specs.declared.Cause.{Cause}
-use Rattle.refusal.specs.declared.Verdict.{Verdict}
 use Rattle.refusal.specs.Checks.{verdict}
 use Rattle.refusal.proofs.Checks.{verdict-append}
 use Rattle.values.specs.Widths.{limits_of, width_checks}
@@ -11,12 +11,12 @@ use Rattle.design.proofs.legal.design_verdict.Goals as goal
 use Rattle.design.proofs.legal.design_verdict.Goals.{After-width_verdict}
 
 module _ (d : Design) where
-  refused : (cause : Cause) → verdict (width_checks (limits_of d.kind) d.kind d.w d.q d.g) ≡ Verdict.Refused cause
-      → Verdict.Refused cause ≡ design_verdict d
+  refused : (cause : Cause) → verdict (width_checks (limits_of d.kind) d.kind d.w d.q d.g) ≡ Err cause
+      → Err cause ≡ design_verdict d
   unfolding design_verdict design_checks
   refused cause e = rw (verdict-append, e)
 
-  passed : verdict (width_checks (limits_of d.kind) d.kind d.w d.q d.g) ≡ Verdict.Passed
+  passed : verdict (width_checks (limits_of d.kind) d.kind d.w d.q d.g) ≡ (Ok tt)
       → verdict (cut_checks d) ≡ design_verdict d
   unfolding design_verdict design_checks
   passed e = rw (verdict-append, e)

@@ -1,5 +1,6 @@
 -- `evaluating::range::width_answer` meets its contract: every word before the present one has w bits, so the first that has more is the
 -- lowest.
+use Rattle.std.specs.Prelude.{Ok, Err}
 use mathlib.Core.Path.{◌≡◌, sym}
 use mathlib.Core.List.{[], ◌∷◌}
 use Prim.Native.Nat.{ℕ, ◌^◌, ◌≤◌, ◌<◌}
@@ -8,7 +9,6 @@ use borrow.Author.Count.{below_none, below_more}
 use borrow.Author.Tests.{le-leb, lt-leb}
 use lib.ListN.{length}
 use Rattle.refusal.specs.declared.Cause.{Cause}
-use Rattle.refusal.specs.declared.Verdict.{Verdict}
 use Rattle.refusal.specs.Checks.{verdict}
 use Rattle.values.specs.Value.{word_check}
 use Rattle.evaluating.specs.Range.{width_answer}
@@ -16,11 +16,11 @@ use Rattle.evaluating.proofs.BatchLaws.{batch-all, batch-bad}
 use Rattle.evaluating.proofs.range.width_answer.Goals as goal
 
 -- 12 of one word
-wide : (w x : ℕ) → 2 ^ w ≤ x → verdict (word_check w x ∷ []) ≡ Verdict.Refused Cause.WordRange
+wide : (w x : ℕ) → 2 ^ w ≤ x → verdict (word_check w x ∷ []) ≡ Err Cause.WordRange
 unfolding word_check
 wide w x h = simp (le-leb _ _ h)
 
-narrow : (w x : ℕ) → x < 2 ^ w → verdict (word_check w x ∷ []) ≡ Verdict.Passed
+narrow : (w x : ℕ) → x < 2 ^ w → verdict (word_check w x ∷ []) ≡ (Ok tt)
 unfolding word_check
 narrow w x h = simp (lt-leb _ _ h)
 

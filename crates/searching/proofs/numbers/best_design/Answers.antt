@@ -1,11 +1,11 @@
 -- `searching::numbers::best_design` meets its contract: before the turn of g, the best is that of all g before it.
+use Rattle.std.specs.Prelude.{Ok}
 use mathlib.Core.Path.{◌≡◌, sym, ◌∙◌}
 use Prim.Native.Nat.{ℕ, ◌+◌, ◌≤◌, ◌<◌}
 use borrow.Author.Count.{falls}
 use native.Mathlib.Nat.{le_of_suc-le-suc}
 use native.Mathlib.Numerals.{add-one}
 use native.Mathlib.Omega.{arith}
-use Rattle.refusal.specs.declared.Verdict.{Verdict}
 use Rattle.refusal.specs.Checks.{verdict}
 use Rattle.values.specs.declared.widths.Limits.{Limits}
 use Rattle.values.specs.Widths.{limits_of, function_checks}
@@ -63,7 +63,7 @@ module _ (kind : ℕ) (limits : Limits) (is : limits ≡ limits_of kind) where
   few-guards = rw is (omega arith)
 
 -- kind, w and q that pass
-few_bits : (kind w q : ℕ) → verdict (function_checks (limits_of kind) kind w q) ≡ Verdict.Passed → q ≤ 16
+few_bits : (kind w q : ℕ) → verdict (function_checks (limits_of kind) kind w q) ≡ (Ok tt) → q ≤ 16
 unfolding limits_of
 few_bits kind w q passed = (function-within (limits_of kind) kind w q passed).1
 

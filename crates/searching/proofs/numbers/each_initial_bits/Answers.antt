@@ -1,11 +1,11 @@
 -- `searching::numbers::each_initial_bits` meets its contract: before the turn of alpha, the best is that of all alpha before it.
+use Rattle.std.specs.Prelude.{Ok}
 use mathlib.Core.Path.{◌≡◌, sym, ◌∙◌}
 use mathlib.Core.List.{List}
 use Prim.Native.Nat.{ℕ, ◌+◌, ◌≤◌, ◌<◌, min}
 use borrow.Author.Count.{falls}
 use native.Mathlib.Omega.{arith}
 use Rattle.general.specs.Below.{for_each}
-use Rattle.refusal.specs.declared.Verdict.{Verdict}
 use Rattle.refusal.specs.Checks.{verdict}
 use Rattle.values.specs.Widths.{limits_of, width_checks}
 use Rattle.design.specs.declared.Design.{Design}
@@ -19,7 +19,7 @@ use Rattle.searching.proofs.BeginLaws.{by-alpha, no-alpha}
 use Rattle.searching.proofs.numbers.each_initial_bits.Invariants.{Inv}
 use Rattle.searching.proofs.numbers.each_initial_bits.Goals as goal
 
-module _ (kind w q g end : ℕ) (passed : verdict (width_checks (limits_of kind) kind w q g) ≡ Verdict.Passed)
+module _ (kind w q g end : ℕ) (passed : verdict (width_checks (limits_of kind) kind w q g) ≡ (Ok tt))
     (end_is : end ≡ min w (most_initial_bits + 1)) where
   begin : (slopes : List ℕ) (best : SizedDesign) → SlopesOf kind w (q + g) slopes → Inv kind w q g slopes best best least_initial_bits
   begin slopes best known =
