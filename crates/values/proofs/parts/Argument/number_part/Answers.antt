@@ -1,4 +1,4 @@
--- `values::parts::number_part` meets its contract: by the degree, n and n² times the divisor. For a number that is at most the exact value
+-- `values::parts::Argument::number_part` meets its contract: by the degree, n and n² times the divisor. For a number that is at most the exact value
 -- the part is at most the value's, for which there is room.
 use mathlib.Core.Path.{◌≡◌}
 use Prim.Native.Nat.{ℕ, zero, suc, ◌*◌, ◌^◌, ◌≤◌, ◌<◌}
@@ -11,7 +11,7 @@ use Rattle.values.specs.Inputs.{FloorInput}
 use Rattle.values.specs.Parts.{divisor_part, number_part}
 use Rattle.values.proofs.PartLaws.{compared, linear, quadratic}
 use Rattle.values.proofs.Bounds.{value-part-fits}
-use Rattle.values.proofs.parts.number_part.Goals as goal
+use Rattle.values.proofs.parts.Argument.number_part.Goals as goal
 
 one-le : (m : ℕ) → 1 ≤ suc m
 one-le m = omega arith
@@ -40,15 +40,15 @@ module _ (row : Row) (w s X n divisor : ℕ) (divisor-is : divisor ≡ divisor_p
     twice-fits : (row.k ≡ 1 → ⊥) → n * (n * divisor) < 2 ^ 64
     twice-fits other = rw (twice-is other) room
 
-pub returns-then-row-eq1 : goal.returns-then-row-eq1
-returns-then-row-eq1 c =
+pub returns-then-self-eq1 : goal.returns-then-self-eq1
+returns-then-self-eq1 c =
     let p = c.before.before in
-    once_is _ _ _ _ _ _ p.divisor_part.ensures p.requires.floor_input c.if-row-eq1.true
+    once_is _ _ _ _ _ _ p.divisor_part.ensures p.requires.floor_input c.if-self-eq1.true
 
-pub returns-else-row-eq1 : goal.returns-else-row-eq1
-returns-else-row-eq1 c =
+pub returns-else-self-eq1 : goal.returns-else-self-eq1
+returns-else-self-eq1 c =
     let p = c.before.before in
-    twice-is _ _ _ _ _ _ p.divisor_part.ensures p.requires.floor_input c.if-row-eq1.false
+    twice-is _ _ _ _ _ _ p.divisor_part.ensures p.requires.floor_input c.if-self-eq1.false
 
 pub overflow_mul-once : goal.overflow_mul-once
 overflow_mul-once c = record { fits = once-fits _ _ _ _ _ _ c.divisor_part.ensures c.requires.floor_input c.requires.at_most }
@@ -56,4 +56,4 @@ overflow_mul-once c = record { fits = once-fits _ _ _ _ _ _ c.divisor_part.ensur
 pub overflow_mul-result : goal.overflow_mul-result
 overflow_mul-result c =
     let p = c.before.before in
-    record { fits = twice-fits _ _ _ _ _ _ p.divisor_part.ensures p.requires.floor_input p.requires.at_most c.if-row-eq1.false }
+    record { fits = twice-fits _ _ _ _ _ _ p.divisor_part.ensures p.requires.floor_input p.requires.at_most c.if-self-eq1.false }

@@ -1,4 +1,4 @@
--- `values::parts::neighbour_parts` meets its contract: by the degree, n ∓ 1 and (n ∓ 1)² times the divisor, and no number on the way is
+-- `values::parts::Argument::neighbour_parts` meets its contract: by the degree, n ∓ 1 and (n ∓ 1)² times the divisor, and no number on the way is
 -- larger than the part of n + 1, for which there is room.
 use mathlib.Core.Path.{◌≡◌, ap₂, ◌∙◌}
 use Prim.Native.Nat.{ℕ, ◌+◌, ◌-◌, ◌*◌, ◌^◌, ◌≤◌, ◌<◌}
@@ -10,8 +10,8 @@ use Rattle.values.specs.Inputs.{FloorInput}
 use Rattle.values.specs.Parts.{divisor_part, number_part}
 use Rattle.values.proofs.PartLaws.{linear, quadratic}
 use Rattle.values.proofs.Bounds.{coarser-input, number-part-fits}
-use Rattle.values.proofs.parts.neighbour_parts.Goals as goal
-use Rattle.values.proofs.parts.neighbour_parts.Goals.{After-divisor_part-divisor}
+use Rattle.values.proofs.parts.Argument.neighbour_parts.Goals as goal
+use Rattle.values.proofs.parts.Argument.neighbour_parts.Goals.{After-divisor_part-divisor}
 
 parts : ℕ → ℕ → Parts
 parts low high = record { low = low; high = high }
@@ -72,15 +72,15 @@ pub divisor_part-divisor-requires : goal.divisor_part-divisor-requires
 divisor_part-divisor-requires c = coarser-input c.args.s (omega arith) c.requires.floor_input
 
 -- this call's number: by the degree, nothing on the way is larger than the part of n + 1
-linear-room : (c : After-divisor_part-divisor) → let a = c.args in a.row.k ≡ 1 → (a.n + 1) * c.divisor_part-divisor.result < 2 ^ 64
+linear-room : (c : After-divisor_part-divisor) → let a = c.args in a.self.row.k ≡ 1 → (a.n + 1) * c.divisor_part-divisor.result < 2 ^ 64
 linear-room c = let p = c.requires in room-linear _ _ _ _ _ c.divisor_part-divisor.ensures p.floor_input _ p.le_n.0 p.le_n.1
 
 quadratic-room : (c : After-divisor_part-divisor) → let a = c.args in
-    (a.row.k ≡ 1 → ⊥) → (a.n + 1) * (a.n + 1) * c.divisor_part-divisor.result < 2 ^ 64
+    (a.self.row.k ≡ 1 → ⊥) → (a.n + 1) * (a.n + 1) * c.divisor_part-divisor.result < 2 ^ 64
 quadratic-room c = let p = c.requires in room-quadratic _ _ _ _ _ c.divisor_part-divisor.ensures p.floor_input _ p.le_n.0 p.le_n.1
 
 pub overflow_mul-once : goal.overflow_mul-once
-overflow_mul-once c = elim (dec_lt 1 c.args.row.k) [
+overflow_mul-once c = elim (dec_lt 1 c.args.self.row.k) [
   | yes more ↦ omega (arith, quadratic-room c (λ e. omega arith))
   | no one ↦ omega (arith, linear-room c (omega (arith, c.requires.floor_input.lawful.k-pos)))
 ]
@@ -89,36 +89,36 @@ pub overflow_sub-result : goal.overflow_sub-result
 overflow_sub-result c = omega (arith, (one_less _ c.divisor_part-divisor.result c.requires.le_n.0).0)
 
 pub overflow_add-result : goal.overflow_add-result
-overflow_add-result c = omega (arith, linear-room c.before.before c.if-row-eq1.true)
+overflow_add-result c = omega (arith, linear-room c.before.before c.if-self-eq1.true)
 
-pub returns-then-row-eq1 : goal.returns-then-row-eq1
+pub returns-then-self-eq1 : goal.returns-then-self-eq1
 unfolding parts
-returns-then-row-eq1 c =
+returns-then-self-eq1 c =
     let q = c.before.before in
     let p = q.requires in
-    of-degree-1 _ _ _ _ _ q.divisor_part-divisor.ensures p.floor_input _ p.le_n.0 p.le_n.1 c.if-row-eq1.true
+    of-degree-1 _ _ _ _ _ q.divisor_part-divisor.ensures p.floor_input _ p.le_n.0 p.le_n.1 c.if-self-eq1.true
 
 pub overflow_mul-middle : goal.overflow_mul-middle
-overflow_mul-middle c = omega (arith, quadratic-room c.before.before c.if-row-eq1.false)
+overflow_mul-middle c = omega (arith, quadratic-room c.before.before c.if-self-eq1.false)
 
 pub overflow_add-middle : goal.overflow_add-middle
-overflow_add-middle c = omega (arith, quadratic-room c.before.before c.if-row-eq1.false)
+overflow_add-middle c = omega (arith, quadratic-room c.before.before c.if-self-eq1.false)
 
 pub overflow_mul-result : goal.overflow_mul-result
-overflow_mul-result c = omega (arith, quadratic-room c.before.before c.if-row-eq1.false)
+overflow_mul-result c = omega (arith, quadratic-room c.before.before c.if-self-eq1.false)
 
 pub overflow_sub-result-2 : goal.overflow_sub-result-2
 overflow_sub-result-2 c = (square-less _ _ c.requires.le_n.0).0
 
 pub overflow_mul-result-2 : goal.overflow_mul-result-2
-overflow_mul-result-2 c = omega (arith, quadratic-room c.before.before c.if-row-eq1.false)
+overflow_mul-result-2 c = omega (arith, quadratic-room c.before.before c.if-self-eq1.false)
 
 pub overflow_add-result-2 : goal.overflow_add-result-2
-overflow_add-result-2 c = omega (arith, quadratic-room c.before.before c.if-row-eq1.false)
+overflow_add-result-2 c = omega (arith, quadratic-room c.before.before c.if-self-eq1.false)
 
 pub returns : goal.returns
 unfolding parts
 returns c =
     let q = c.before.before in
     let p = q.requires in
-    of-degree-2 _ _ _ _ _ q.divisor_part-divisor.ensures p.floor_input _ p.le_n.0 p.le_n.1 c.if-row-eq1.false
+    of-degree-2 _ _ _ _ _ q.divisor_part-divisor.ensures p.floor_input _ p.le_n.0 p.le_n.1 c.if-self-eq1.false

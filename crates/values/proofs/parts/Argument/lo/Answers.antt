@@ -1,4 +1,4 @@
--- `values::slopes::lo` meets its contract: a floor value is small, so nothing wraps.
+-- `values::parts::Argument::lo` meets its contract: a floor value is small, so nothing wraps.
 use mathlib.Core.Path.{◌≡◌, ap, ◌∙◌}
 use Prim.Native.Nat.{◌<◌}
 use native.Mathlib.Omega.{arith}
@@ -8,16 +8,16 @@ use Rattle.values.specs.Room.{floor_bound}
 use Rattle.values.specs.Floor.{floor_value}
 use Rattle.values.specs.Slopes as Slopes
 use Rattle.values.proofs.Bounds.{step_small, step-pos, floor-small}
-use Rattle.values.proofs.slopes.lo.Goals as goal
-use Rattle.values.proofs.slopes.lo.Goals.{After-count}
+use Rattle.values.proofs.parts.Argument.lo.Goals as goal
+use Rattle.values.proofs.parts.Argument.lo.Goals.{After-count}
 
 -- the floor value as a plain number
-counted : (c : After-count) → let a = c.args in c.count.result ≡ floor_value a.row a.w a.p a.end
+counted : (c : After-count) → let a = c.args in c.count.result ≡ floor_value a.self.row a.self.w a.p a.self.x
 counted c = c.count.ensures ∙ ap (λ (u : TableUnits). nat_abs u.0) c.floor_value.ensures
 
 pub returns : goal.returns
 unfolding Slopes.lo
-returns c = rw (counted c.before)
+returns c = rw (counted c.before.before)
 
 pub count-requires : goal.count-requires
 count-requires c = rw c.floor_value.ensures tt

@@ -1,4 +1,4 @@
--- `values::faithful::is_too_low` meets its contract: where the word is not 0, its test is that of `is_too_low`, since the parts compare as
+-- `values::parts::Argument::is_too_low` meets its contract: where the word is not 0, its test is that of `is_too_low`, since the parts compare as
 -- the sides do.
 use mathlib.Core.Path.{◌≡◌, ap}
 use mathlib.Core.Bool.{true}
@@ -12,7 +12,7 @@ use Rattle.values.specs.Parts.{number_part, value_part}
 use Rattle.values.specs.Faithful.{is_too_low}
 use Rattle.values.proofs.PartLaws.{compared, same-test-le}
 use Rattle.values.proofs.Bounds.{coarser-input}
-use Rattle.values.proofs.faithful.is_too_low.Goals as goal
+use Rattle.values.proofs.parts.Argument.is_too_low.Goals as goal
 
 module _ (row : Row) (w q X y : ℕ) where
   zero_word : y ≡ 0 → true ≡ is_too_low row w q X y

@@ -1,4 +1,4 @@
--- `values::faithful::is_nearest` meets its contract: its three tests, each tried where those before it hold, are those of `is_nearest`,
+-- `values::parts::Argument::is_nearest` meets its contract: its three tests, each tried where those before it hold, are those of `is_nearest`,
 -- since the parts compare as the sides do.
 use mathlib.Core.Path.{◌≡◌, ap, ◌∙◌}
 use mathlib.Core.Bool.{false}
@@ -13,8 +13,8 @@ use Rattle.values.specs.Parts.{number_part, value_part}
 use Rattle.values.specs.Faithful.{is_nearest}
 use Rattle.values.proofs.PartLaws.{compared, same-test-le}
 use Rattle.values.proofs.Bounds.{coarser-input}
-use Rattle.values.proofs.faithful.is_nearest.Goals as goal
-use Rattle.values.proofs.faithful.is_nearest.Goals.{After-neighbour_parts-parts, Else-word-eq0}
+use Rattle.values.proofs.parts.Argument.is_nearest.Goals as goal
+use Rattle.values.proofs.parts.Argument.is_nearest.Goals.{After-neighbour_parts-parts, Else-word-eq0}
 
 module _ (row : Row) (w q X y : ℕ) where
   zero_word : y ≡ 0 → false ≡ is_nearest row w q X y
@@ -61,11 +61,11 @@ neighbour_parts-parts-requires c =
 
 -- the two parts are those of its halves' neighbours
 low_part : (c : After-neighbour_parts-parts) → let a = c.args in
-    c.neighbour_parts-parts.result.low ≡ number_part a.row a.w (a.q + 1) a.x (2 * a.y.0 - 1)
+    c.neighbour_parts-parts.result.low ≡ number_part a.self.row a.self.w (a.q + 1) a.self.x (2 * a.y.0 - 1)
 low_part c = ap (λ (p : Parts). p.low) c.neighbour_parts-parts.ensures
 
 high_part : (c : After-neighbour_parts-parts) → let a = c.args in
-    c.neighbour_parts-parts.result.high ≡ number_part a.row a.w (a.q + 1) a.x (2 * a.y.0 + 1)
+    c.neighbour_parts-parts.result.high ≡ number_part a.self.row a.self.w (a.q + 1) a.self.x (2 * a.y.0 + 1)
 high_part c = ap (λ (p : Parts). p.high) c.neighbour_parts-parts.ensures
 
 pub returns-then-parts-exact : goal.returns-then-parts-exact

@@ -1,4 +1,4 @@
--- `values::slopes::hi` meets its contract: the floor value, or one more, is the value rounded up, which is small, so nothing wraps.
+-- `values::parts::Argument::hi` meets its contract: the floor value, or one more, is the value rounded up, which is small, so nothing wraps.
 use mathlib.Core.Path.{◌≡◌, ap, ◌∙◌}
 use mathlib.Core.Bool.{true, false}
 use Prim.Native.Nat.{ℕ, ◌+◌, ◌*◌, ◌/◌, ◌≤◌}
@@ -14,8 +14,8 @@ use Rattle.values.specs.Floor.{floor_value, is_whole}
 use Rattle.values.specs.Slopes as Slopes
 use Rattle.values.specs.Slopes.{ceiling_value}
 use Rattle.values.proofs.Bounds.{step_small, step-pos, quotient_fits, floor-small, ceiling-low}
-use Rattle.values.proofs.slopes.hi.Goals as goal
-use Rattle.values.proofs.slopes.hi.Goals.{After-count, then-floor, else-floor}
+use Rattle.values.proofs.parts.Argument.hi.Goals as goal
+use Rattle.values.proofs.parts.Argument.hi.Goals.{After-count, then-floor, else-floor}
 
 module _ (row : Row) (w P s count more : ℕ) (count-is : count ≡ floor_value row w P s) where
   -- nothing more where the value is whole, else one
@@ -37,11 +37,11 @@ module _ (row : Row) (w P s count more : ℕ) (count-is : count ≡ floor_value 
 
 -- the floor value as a plain number, and the value rounded c
 counted : (c : After-count) → let a = c.args in
-    c.count.result ≡ floor_value a.row a.w a.p a.start
+    c.count.result ≡ floor_value a.self.row a.self.w a.p a.self.x
 counted c = c.count.ensures ∙ ap (λ (f : FloorValue). nat_abs f.units.0) c.floor_and_whole-floor.ensures
 
 rounded : (c : After-count) → let a = c.args in
-    c.count.result + c.if-floor.more ≡ ceiling_value a.row a.w a.p a.start
+    c.count.result + c.if-floor.more ≡ ceiling_value a.self.row a.self.w a.p a.self.x
 rounded c =
     let told = ap (λ (f : FloorValue). f.whole) c.floor_and_whole-floor.ensures in
     elim c.if-floor.branch [
@@ -50,7 +50,7 @@ rounded c =
     ]
 
 pub returns : goal.returns
-returns c = let n = c.before.before in hi-is _ _ _ _ _ _ (counted c.before.before) (rounded c.before.before)
+returns c = let n = c.before.before.before in hi-is _ _ _ _ _ _ (counted n) (rounded n)
 
 pub count-requires : goal.count-requires
 count-requires c = rw c.floor_and_whole-floor.ensures tt
@@ -71,4 +71,4 @@ pub nonzero_div-result : goal.nonzero_div-result
 nonzero_div-result c = step-pos _ _ _ _ c.requires
 
 pub overflow_add-result-2 : goal.overflow_add-result-2
-overflow_add-result-2 c = record { fits = quotient_fits _ _ _ (omega (arith, within c.before.before)) }
+overflow_add-result-2 c = record { fits = quotient_fits _ _ _ (omega (arith, within c.before.before.before)) }

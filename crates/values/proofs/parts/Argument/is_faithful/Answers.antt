@@ -1,4 +1,4 @@
--- `values::faithful::is_faithful` meets its contract: its three tests, each tried where those before it hold, are those of `is_faithful`,
+-- `values::parts::Argument::is_faithful` meets its contract: its three tests, each tried where those before it hold, are those of `is_faithful`,
 -- since the parts compare as the sides do.
 use mathlib.Core.Path.{◌≡◌, ap, ◌∙◌}
 use mathlib.Core.Bool.{false}
@@ -12,8 +12,8 @@ use Rattle.values.specs.Parts.{number_part, value_part}
 use Rattle.values.specs.Faithful.{is_faithful}
 use Rattle.values.proofs.PartLaws.{compared, same_test}
 use Rattle.values.proofs.Bounds.{coarser-input}
-use Rattle.values.proofs.faithful.is_faithful.Goals as goal
-use Rattle.values.proofs.faithful.is_faithful.Goals.{After-neighbour_parts-parts, Else-word-eq0}
+use Rattle.values.proofs.parts.Argument.is_faithful.Goals as goal
+use Rattle.values.proofs.parts.Argument.is_faithful.Goals.{After-neighbour_parts-parts, Else-word-eq0}
 
 module _ (row : Row) (w q X y : ℕ) where
   zero_word : y ≡ 0 → false ≡ is_faithful row w q X y
@@ -54,11 +54,11 @@ neighbour_parts-parts-requires c =
 
 -- the two parts are those of its neighbours
 low_part : (c : After-neighbour_parts-parts) → let a = c.args in
-    c.neighbour_parts-parts.result.low ≡ number_part a.row a.w a.q a.x (a.y.0 - 1)
+    c.neighbour_parts-parts.result.low ≡ number_part a.self.row a.self.w a.q a.self.x (a.y.0 - 1)
 low_part c = ap (λ (p : Parts). p.low) c.neighbour_parts-parts.ensures
 
 high_part : (c : After-neighbour_parts-parts) → let a = c.args in
-    c.neighbour_parts-parts.result.high ≡ number_part a.row a.w a.q a.x (a.y.0 + 1)
+    c.neighbour_parts-parts.result.high ≡ number_part a.self.row a.self.w a.q a.self.x (a.y.0 + 1)
 high_part c = ap (λ (p : Parts). p.high) c.neighbour_parts-parts.ensures
 
 pub returns-then-parts-exact : goal.returns-then-parts-exact

@@ -1,4 +1,4 @@
--- `values::floor::floor_value` meets its contract: the root is small, so its count fits a signed number.
+-- `values::parts::Argument::floor_value` meets its contract: the root is small, so its count fits a signed number.
 use mathlib.Core.Path.{◌≡◌, ap, ◌∙◌}
 use Prim.Native.Nat.{ℕ, ◌<◌}
 use native.Mathlib.Omega.{arith}
@@ -12,7 +12,7 @@ use Rattle.values.specs.Room.{floor_bound}
 use Rattle.values.specs.Floor.{scaled, floor_value}
 use Rattle.values.proofs.FloorLaws.{scaled-high}
 use Rattle.values.proofs.Bounds.{floor-small}
-use Rattle.values.proofs.floor.floor_value.Goals as goal
+use Rattle.values.proofs.parts.Argument.floor_value.Goals as goal
 
 units : ℤ → TableUnits
 units z = record { 0 = z }

@@ -1,4 +1,4 @@
--- `values::floor::floor_and_whole` meets its contract: the parts are equal where the sides are.
+-- `values::parts::Argument::floor_and_whole` meets its contract: the parts are equal where the sides are.
 use mathlib.Core.Path.{◌≡◌, ap, ap₂, ◌∙◌}
 use mathlib.Core.Bool.{Bool}
 use Prim.Native.Nat.{ℕ}
@@ -13,8 +13,8 @@ use Rattle.values.specs.Parts.{number_part, value_part}
 use Rattle.values.specs.Floor.{floor_value, is_whole}
 use Rattle.values.proofs.PartLaws.{compared, same-test-eq}
 use Rattle.values.proofs.FloorLaws.{floor-greatest}
-use Rattle.values.proofs.floor.floor_and_whole.Goals as goal
-use Rattle.values.proofs.floor.floor_and_whole.Goals.{After-count}
+use Rattle.values.proofs.parts.Argument.floor_and_whole.Goals as goal
+use Rattle.values.proofs.parts.Argument.floor_and_whole.Goals.{After-count}
 
 both : TableUnits → Bool → FloorValue
 both units whole = record { units = units; whole = whole }
@@ -30,7 +30,7 @@ module _ (row : Row) (w P X : ℕ) where
   at_most input count e = rw e (floor-greatest row input.lawful w P X input.range).holds
 
 -- the floor value as a plain number
-counted : (c : After-count) → let a = c.args in c.count.result ≡ floor_value a.row a.w a.p a.x
+counted : (c : After-count) → let a = c.args in c.count.result ≡ floor_value a.self.row a.self.w a.p a.self.x
 counted c = c.count.ensures ∙ ap (λ (u : TableUnits). nat_abs u.0) c.floor_value-units.ensures
 
 pub returns : goal.returns
