@@ -2,7 +2,8 @@
 #![tactic(auto)]
 
 ghost use Rattle.std.specs.Prelude.{◌≡◌};
-ghost use Rattle.design.specs.Answers.{budget_answer, told_by, budget_told};
+ghost use Rattle.refusal.specs.Told.{told_by};
+ghost use Rattle.design.specs.Answers.{budget_answer, budget_told};
 
 pub mod legal;
 pub mod limits;
@@ -13,7 +14,7 @@ use measure::budget_of;
 use refusal::Cause;
 
 // One offset table: the top a bits of x choose the segment, b bits further down the place in it.
-#[derive(Clone, Copy)]
+#[derive(Clone, Copy, Debug, PartialEq, Eq)]
 pub struct Pair {
     pub a: u32,
     pub b: u32,
@@ -22,8 +23,8 @@ pub struct Pair {
 // A pair of no bits, which stands where there is none.
 pub const NO_PAIR: Pair = Pair { a: 0, b: 0 };
 
-// Document 01's design. Pairs at m and beyond are not read.
-#[derive(Clone, Copy)]
+// Document 01's design. Pairs at m and beyond are not read, so that designs are not compared by `==`.
+#[derive(Clone, Copy, Debug)]
 pub struct Design {
     pub kind: u32,
     pub w: u32,

@@ -11,7 +11,7 @@ use crate::Design;
 use crate::legal::pair_at;
 use general::pow2;
 use values::rows::row_of;
-use values::slopes::{LargestSlopes, largest_slopes};
+use values::slopes::{LargestSlopes, Segments};
 
 // inner: the largest Hi - Lo and the largest Hi + Lo over the segments of table i of a legal design.
 pub fn table_slopes(d: Design, i: u32) -> LargestSlopes
@@ -20,7 +20,13 @@ pub fn table_slopes(d: Design, i: u32) -> LargestSlopes
     ensures { result ≡ largest_slopes (Cut.row d) d.w (Cut.fraction_bits d) (Cut.a_of d i) }
 {
     let pair = pair_at(d, i);
-    largest_slopes(row_of(d.kind), d.w, d.q + d.g, pair.a)
+    let segments = Segments {
+        row: row_of(d.kind),
+        w: d.w,
+        p: d.q + d.g,
+        a: pair.a,
+    };
+    segments.largest()
 }
 
 // D_i times the largest Hi - Lo, for table i of a legal design, whose b_i bits begin at p_i.

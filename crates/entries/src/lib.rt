@@ -3,7 +3,7 @@
 
 ghost use Rattle.std.specs.Prelude.{◌≡◌, ◌*◌, ◌^◌, ◌≤◌, ◌<◌, pos, nat_abs};
 ghost use Rattle.values.specs.Room.{widest_word, floor_bound};
-ghost use Rattle.values.specs.Inputs.{InRange, SlopeInput};
+ghost use Rattle.values.specs.Inputs.{InRange};
 ghost use Rattle.values.specs.Slopes.{slope_sum};
 ghost use Rattle.design.specs.Stored.{initial_count};
 ghost use Rattle.design.specs.Cut as Cut;
@@ -15,9 +15,9 @@ ghost use Rattle.entries.specs.Inputs.{WordInput, OffsetInput, reach_bound, offs
 
 use design::Design;
 use general::pow2;
-use values::floor::floor_value;
+use values::parts::Argument;
 use values::rows::Row;
-use values::slopes::{bounds_of, segment_end, segment_start};
+use values::slopes::{Segments, segment_end, segment_start};
 
 // L(X), for the kind and widths of a legal design.
 fn value_at(d: Design, row: Row, x: u64) -> u64
@@ -25,7 +25,8 @@ fn value_at(d: Design, row: Row, x: u64) -> u64
     requires row_value { (row ≡ Cut.row d) × InRange d.w x }
     ensures { (result ≡ value_at d x) × (result < floor_bound) }
 {
-    floor_value(row, d.w, d.q + d.g, x).count()
+    let argument = Argument { row, w: d.w, x };
+    argument.floor_value(d.q + d.g).count()
 }
 
 // inner: the initial entry of A = word.
@@ -40,15 +41,17 @@ pub fn initial_at(d: Design, row: Row, word: u64) -> u32
     ((values + 1 + d.m as u64) / 2 + pow2(d.g - 1)) as u32
 }
 
-// inner: Hi + Lo of the segment that a value of the top a bits of x names; P = fraction.
-pub fn slope_sum(row: Row, w: u32, fraction: u32, a: u32, segment: u64) -> u64
-    requires slope_input { SlopeInput row w fraction a }
-    requires segment_bound { segment < 2 ^ a }
-    ensures { result ≡ slope_sum row w fraction a segment }
+// inner: Hi + Lo of the segment that a value of the top a bits of x names.
+pub fn slope_sum(segments: Segments, segment: u64) -> u64
+    requires { segment < 2 ^ segments.a }
+    ensures { result ≡ slope_sum segments.row segments.w segments.p segments.a segment }
 {
-    let bounds = bounds_of(row, w, fraction, a, segment);
+    let bounds = segments.bounds_of(segment);
     bounds.hi + bounds.lo
 }
+
+// From here to the end of the file numbers are passed one by one, and not in a struct: `.ci/straight` reads in the compiled code that the
+// way to an offset goes over whole locals, and a struct's field is none.
 
 // j, an odd number of either sign.
 fn odd_number(b: u32, word: u64) -> i32

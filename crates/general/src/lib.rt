@@ -1,7 +1,7 @@
-// What every crate above may need of numbers: powers of two, binary digits, the smaller or larger of two, and mirrored offsets.
+// What every crate above may need of numbers: powers of two, binary digits and mirrored offsets.
 #![tactic(auto)]
 
-ghost use Rattle.std.specs.Prelude.{◌≡◌, ◌^◌, ◌<◌, min, max, negsuc, ◌-ℤ◌};
+ghost use Rattle.std.specs.Prelude.{◌≡◌, ◌^◌, ◌<◌, negsuc, ◌-ℤ◌};
 ghost use Rattle.general.specs.Digits.{Digits};
 
 // inner: 2^n.
@@ -10,26 +10,6 @@ pub fn pow2(n: u32) -> u64
     ensures { result ≡ 2 ^ n }
 {
     1 << n
-}
-
-// inner: the smaller of two numbers.
-pub fn smaller(n: u32, k: u32) -> u32
-    ensures { result ≡ min n k }
-{
-    if n < k {
-        return n;
-    }
-    k
-}
-
-// inner: the larger of two numbers.
-pub fn larger(n: u64, k: u64) -> u64
-    ensures { result ≡ max n k }
-{
-    if k < n {
-        return n;
-    }
-    k
 }
 
 // inner: how many binary digits a number has, 0 for 0.

@@ -5,38 +5,39 @@ ghost use Rattle.values.specs.Floor as Floor;
 ghost use Rattle.values.specs.Inputs.{FloorInput};
 
 use crate::newton::floor_root;
-use crate::parts::{divisor_part, excess, number_part, value_part};
-use crate::rows::Row;
+use crate::parts::Argument;
 use crate::{FloorValue, TableUnits};
 
-// floor(E(X)^k): n is at most E(X) exactly when n^k is at most this. Where the function rises, the division is a shift.
-fn scaled(row: Row, w: u32, p: u32, x: u64) -> u64
-    requires { FloorInput row w p x }
-    ensures { result ≡ Floor.scaled row w p x }
-{
-    let value = value_part(row, w, p, x);
-    if row.rising {
-        value >> excess(w, row.k * p)
-    } else {
-        value / divisor_part(row, w, p, x)
+impl Argument {
+    // floor(E(X)^k): n is at most E(X) exactly when n^k is at most this. Where the function rises, the division is a shift.
+    fn scaled(self, p: u32) -> u64
+        requires { FloorInput self.row self.w p self.x }
+        ensures { result ≡ Floor.scaled self.row self.w p self.x }
+    {
+        let value = self.value_part(p);
+        if self.row.rising {
+            value >> self.w.saturating_sub(self.row.k * p)
+        } else {
+            value / self.divisor_part(p)
+        }
     }
-}
 
-// inner: L(X) in table units, P = p.
-pub fn floor_value(row: Row, w: u32, p: u32, x: u64) -> TableUnits
-    requires { FloorInput row w p x }
-    ensures { result ≡ record { 0 = pos (floor_value row w p x) } }
-{
-    let root = floor_root(row.k, p, scaled(row, w, p, x));
-    TableUnits(root as i64)
-}
+    // inner: L(X) in table units, P = p.
+    pub fn floor_value(self, p: u32) -> TableUnits
+        requires { FloorInput self.row self.w p self.x }
+        ensures { result ≡ record { 0 = pos (floor_value self.row self.w p self.x) } }
+    {
+        let root = floor_root(self.row.k, p, self.scaled(p));
+        TableUnits(root as i64)
+    }
 
-// The same, and whether E(X) is that whole number: it is where the part of L is the value's. No second root.
-pub(crate) fn floor_and_whole(row: Row, w: u32, p: u32, x: u64) -> FloorValue
-    requires { FloorInput row w p x }
-    ensures { result ≡ floor_and_whole row w p x }
-{
-    let units = floor_value(row, w, p, x);
-    let whole = number_part(row, w, p, x, units.count()) == value_part(row, w, p, x);
-    FloorValue { units, whole }
+    // The same, and whether E(X) is that whole number: it is where the part of L is the value's. No second root.
+    pub(crate) fn floor_and_whole(self, p: u32) -> FloorValue
+        requires { FloorInput self.row self.w p self.x }
+        ensures { result ≡ floor_and_whole self.row self.w p self.x }
+    {
+        let units = self.floor_value(p);
+        let whole = self.number_part(p, units.count()) == self.value_part(p);
+        FloorValue { units, whole }
+    }
 }

@@ -9,19 +9,19 @@ ghost use Rattle.values.specs.Value.{value_of, value_told};
 pub mod faithful;
 pub mod floor;
 mod newton;
-mod parts;
+pub mod parts;
 pub mod rows;
 pub mod slopes;
 pub mod widths;
 
-use floor::floor_and_whole;
 use general::pow2;
+use parts::Argument;
 use refusal::Cause;
 use rows::row_of;
 use widths::{limits_of, width_verdict};
 
 // A count of table units, of either sign. 2^g of them are one output unit.
-#[derive(Clone, Copy)]
+#[derive(Clone, Copy, Debug, PartialEq, Eq)]
 pub struct TableUnits(pub i64);
 
 impl TableUnits {
@@ -35,11 +35,11 @@ impl TableUnits {
 }
 
 // A count of output units.
-#[derive(Clone, Copy)]
+#[derive(Clone, Copy, Debug, PartialEq, Eq)]
 pub struct OutputUnits(pub u32);
 
 // A floor value: L(X), and whether E(X) is that whole number.
-#[derive(Clone, Copy)]
+#[derive(Clone, Copy, Debug, PartialEq, Eq)]
 pub struct FloorValue {
     pub units: TableUnits,
     pub whole: bool,
@@ -56,5 +56,10 @@ pub fn value(kind: u32, w: u32, q: u32, g: u32, x: u32) -> Result<FloorValue, Ca
     if one <= word {
         return Err(Cause::WordRange);
     }
-    Ok(floor_and_whole(row_of(kind), w, q + g, one + word))
+    let argument = Argument {
+        row: row_of(kind),
+        w,
+        x: one + word,
+    };
+    Ok(argument.floor_and_whole(q + g))
 }

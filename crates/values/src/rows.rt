@@ -2,8 +2,8 @@
 ghost use Rattle.std.specs.Prelude.{◌≡◌, ◌<◌};
 ghost use Rattle.values.specs.Rows.{kinds, row_of};
 
-// The argument is typeof.c.X / 2^w; the function is its k-th root, or one over that where it falls.
-#[derive(Clone, Copy)]
+// The argument is c·X / 2^w; the function is its k-th root, or one over that where it falls.
+#[derive(Clone, Copy, Debug, PartialEq, Eq)]
 pub struct Row {
     pub c: u64,
     pub k: u32,

@@ -4,9 +4,9 @@ ghost use Rattle.values.specs.Slopes.{segment_start, segment_end, largest_slopes
 ghost use Rattle.values.specs.Slopes as Slopes;
 ghost use Rattle.values.specs.Inputs.{FloorInput, SegmentInput, SlopeInput};
 
-use crate::floor::{floor_and_whole, floor_value};
+use crate::parts::Argument;
 use crate::rows::Row;
-use general::{larger, pow2};
+use general::pow2;
 
 // inner: the first X of the segment that a value of the top a bits of x names.
 pub fn segment_start(w: u32, a: u32, segment: u64) -> u64
@@ -24,22 +24,24 @@ pub fn segment_end(w: u32, a: u32, segment: u64) -> u64
     segment_start(w, a, segment) + pow2(w - a) - 1
 }
 
-// Hi, at the segment's start, from the exact value there rounded up: L, and one more where it is not that whole number.
-fn hi(row: Row, w: u32, p: u32, start: u64) -> u64
-    requires { FloorInput row w p start }
-    ensures { result ≡ Slopes.hi row w p start }
-{
-    let floor = floor_and_whole(row, w, p, start);
-    let more = if floor.whole { 0 } else { 1 };
-    (floor.units.count() + more) * 65536 / (row.k as u64 * start) + 1
-}
+impl Argument {
+    // Hi, at the segment's start, from the exact value there rounded up: L, and one more where it is not that whole number.
+    fn hi(self, p: u32) -> u64
+        requires { FloorInput self.row self.w p self.x }
+        ensures { result ≡ Slopes.hi self.row self.w p self.x }
+    {
+        let floor = self.floor_and_whole(p);
+        let more = if floor.whole { 0 } else { 1 };
+        (floor.units.count() + more) * 65536 / (self.row.k as u64 * self.x) + 1
+    }
 
-// Lo, at the segment's end.
-fn lo(row: Row, w: u32, p: u32, end: u64) -> u64
-    requires { FloorInput row w p end }
-    ensures { result ≡ Slopes.lo row w p end }
-{
-    floor_value(row, w, p, end).count() * 65536 / (row.k as u64 * end)
+    // Lo, at the segment's end.
+    fn lo(self, p: u32) -> u64
+        requires { FloorInput self.row self.w p self.x }
+        ensures { result ≡ Slopes.lo self.row self.w p self.x }
+    {
+        self.floor_value(p).count() * 65536 / (self.row.k as u64 * self.x)
+    }
 }
 
 // Hi and Lo of a segment: 65536 times the slope on it is at most Hi and at least Lo.
@@ -49,20 +51,6 @@ pub struct SlopeBounds {
     pub lo: u64,
 }
 
-// inner: those of the segment that a value of the top a bits of x names.
-pub fn bounds_of(row: Row, w: u32, p: u32, a: u32, segment: u64) -> SlopeBounds
-    requires slope_input { SlopeInput row w p a }
-    requires segment_bound { segment < 2 ^ a }
-    ensures { result ≡ record { hi = Slopes.hi row w p (segment_start w a segment); lo = Slopes.lo row w p (segment_end w a segment) } }
-{
-    let start = segment_start(w, a, segment);
-    let end = segment_end(w, a, segment);
-    SlopeBounds {
-        hi: hi(row, w, p, start),
-        lo: lo(row, w, p, end),
-    }
-}
-
 // The largest Hi - Lo and the largest Hi + Lo over the segments of a bits.
 #[derive(Clone, Copy)]
 pub struct LargestSlopes {
@@ -70,17 +58,52 @@ pub struct LargestSlopes {
     pub sum: u64,
 }
 
-// inner: both in one pass; two floor values a segment.
-pub fn largest_slopes(row: Row, w: u32, p: u32, a: u32) -> LargestSlopes
-    requires { SlopeInput row w p a }
-    ensures { result ≡ largest_slopes row w p a }
-{
-    let mut spread = 0;
-    let mut sum = 0;
-    for segment in 0..pow2(a) {
-        let here = bounds_of(row, w, p, a, segment);
-        spread = larger(spread, here.hi - here.lo);
-        sum = larger(sum, here.hi + here.lo);
+// The segments of the top a bits of an input word of w bits, for a function's row and table entries of p fraction bits.
+#[derive(Clone, Copy)]
+pub struct Segments {
+    pub row: Row,
+    pub w: u32,
+    pub p: u32,
+    pub a: u32,
+    ghost fit: { SlopeInput row w p a },
+}
+
+impl Segments {
+    // inner: the bounds of the slope on the segment that a value of the top a bits of x names.
+    pub fn bounds_of(self, segment: u64) -> SlopeBounds
+        requires { segment < 2 ^ self.a }
+        ensures { result ≡ record {
+          hi = Slopes.hi self.row self.w self.p (segment_start self.w self.a segment);
+          lo = Slopes.lo self.row self.w self.p (segment_end self.w self.a segment);
+        } }
+    {
+        let start = Argument {
+            row: self.row,
+            w: self.w,
+            x: segment_start(self.w, self.a, segment),
+        };
+        let end = Argument {
+            row: self.row,
+            w: self.w,
+            x: segment_end(self.w, self.a, segment),
+        };
+        SlopeBounds {
+            hi: start.hi(self.p),
+            lo: end.lo(self.p),
+        }
     }
-    LargestSlopes { spread, sum }
+
+    // inner: both largest, in one pass; two floor values a segment.
+    pub fn largest(self) -> LargestSlopes
+        ensures { result ≡ largest_slopes self.row self.w self.p self.a }
+    {
+        let mut spread = 0u64;
+        let mut sum = 0u64;
+        for segment in 0..pow2(self.a) {
+            let here = self.bounds_of(segment);
+            spread = spread.max(here.hi - here.lo);
+            sum = sum.max(here.hi + here.lo);
+        }
+        LargestSlopes { spread, sum }
+    }
 }

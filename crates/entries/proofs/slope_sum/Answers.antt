@@ -9,4 +9,4 @@ unfolding slope_sum
 returns c = rw c.bounds_of-bounds.ensures
 
 pub overflow_add-result : goal.overflow_add-result
-overflow_add-result c = let e = c.requires in rw c.bounds_of-bounds.ensures (omega (arith, slopes-small _ _ _ _ _ e.slope_input e.segment_bound))
+overflow_add-result c = rw c.bounds_of-bounds.ensures (omega (arith, slopes-small _ _ _ _ _ c.args.segments.fit c.requires))

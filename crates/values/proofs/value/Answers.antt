@@ -89,8 +89,8 @@ row_of-requires c = (limits c.before.before).kind-known
 pub overflow_add-q : goal.overflow_add-q
 overflow_add-q c = omega (arith, limits c.before.before.before)
 
-pub overflow_add-one : goal.overflow_add-one
-overflow_add-one c = omega (arith, words-few (limits c.before.before.before).room)
+pub overflow_add-argument : goal.overflow_add-argument
+overflow_add-argument c = omega (arith, words-few (limits c.before.before.before).room)
 
 pub floor_and_whole-requires : goal.floor_and_whole-requires
 floor_and_whole-requires c =

@@ -5,6 +5,7 @@ use Rattle.refusal.specs.declared.Cause.{Cause}
 use Rattle.refusal.specs.Checks.{verdict}
 use Rattle.refusal.proofs.Checks.{verdict-append}
 use Rattle.values.specs.Widths.{limits_of, width_checks}
+use Rattle.std.proofs.lemmas.Result.{err_from_is_err_and}
 use Rattle.design.specs.declared.Design.{Design}
 use Rattle.design.specs.Legal.{cut_checks, design_checks, design_verdict}
 use Rattle.design.proofs.legal.design_verdict.Goals as goal
@@ -26,9 +27,11 @@ judged : (c : After-width_verdict) → let d = c.args.d in
     c.width_verdict.result ≡ verdict (width_checks (limits_of d.kind) d.kind d.w d.q d.g)
 judged c = rw (← c.limits_of.ensures) c.width_verdict.ensures
 
-pub returns-in-Refused : goal.returns-in-Refused
-returns-in-Refused c = refused _ _ (sym (judged c.before) ∙ c.in-Refused.is)
+pub returns-in_err-width_verdict : goal.returns-in_err-width_verdict
+returns-in_err-width_verdict c =
+    let r = err_from_is_err_and c.from_residual.result c.from_residual.ensures.1 in
+    rw (r.1, r.2) (refused _ _ (sym (judged c.before.before.before) ∙ c.in_err-width_verdict.was))
 
 pub returns : goal.returns
 returns c =
-    c.cut_verdict.ensures ∙ passed _ (sym (judged c.before.before) ∙ c.in_default.is)
+    c.cut_verdict.ensures ∙ passed _ (sym (judged c.before.before.before) ∙ c.in_ok-width_verdict.was)
