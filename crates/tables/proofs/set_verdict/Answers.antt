@@ -17,9 +17,6 @@ returns-in_err-design_verdict c =
 legal : (c : In_ok-design_verdict) → Legal c.args.d
 legal c = sym c.design_verdict.ensures ∙ c.in_ok-design_verdict.was
 
-pub tables_short-requires : goal.tables_short-requires
-tables_short-requires c = legal c
-
 pub returns-then-tables_short : goal.returns-then-tables_short
 returns-then-tables_short c =
     sym (set-lengths _ _ _ true (legal c.before.before) (tested c.tables_short.ensures c.if-tables_short.true))

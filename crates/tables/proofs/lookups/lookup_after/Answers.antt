@@ -21,8 +21,8 @@ overflow_add-previous-2 c =
     let l = limits _ p.legal in
     omega (arith, lookup-small _ l _ _ p.i_bound.1 (omega (arith, p.i_bound.0)), count-again-small _ l _ _ p.i_bound.1)
 
-pub lookup_of-requires : goal.lookup_of-requires
-lookup_of-requires c =
+pub lookup_of-requires-clause-position_value : goal.lookup_of-requires-clause-position_value
+lookup_of-requires-clause-position_value c =
     let p = c.requires in
     let l = limits _ p.legal in
-    record { legal = p.legal; position_value = (position-next _ l _ _ p.i_bound.1, start-next _ l _ _ p.i_bound.1) }
+    (position-next _ l _ _ p.i_bound.1, start-next _ l _ _ p.i_bound.1)
