@@ -1,4 +1,4 @@
--- `design::measure::table_budget` meets its contract. The product of the two powers is D_i, below 2^w, and there is room for its product
+-- `design::LegalDesign::table_budget` meets its contract. The product of the two powers is D_i, below 2^w, and there is room for its product
 -- with the largest spread.
 use mathlib.Core.Path.{◌≡◌}
 use Prim.Native.Nat.{ℕ, ◌-◌, ◌*◌, ◌^◌}
@@ -14,8 +14,8 @@ use Rattle.design.specs.Cut.{a_of, row, fraction_bits, pair_at, position}
 use Rattle.design.specs.Budget.{reach, table_budget}
 use Rattle.design.proofs.LegalLaws.{limits, bits-end}
 use Rattle.design.proofs.BudgetLaws.{reach-small, table-budget-small}
-use Rattle.design.proofs.measure.table_budget.Goals as goal
-use Rattle.design.proofs.measure.table_budget.Goals.{After-pow2-2}
+use Rattle.design.proofs.LegalDesign.table_budget.Goals as goal
+use Rattle.design.proofs.LegalDesign.table_budget.Goals.{After-pow2-2}
 
 -- the factors that the calls give, as the definition has them
 module _ (d : Design) (i at high low : ℕ) (pair : Pair) (place : at ≡ position d i) (pair_is : pair ≡ pair_at d i)
@@ -29,28 +29,28 @@ module _ (d : Design) (i at high low : ℕ) (pair : Pair) (place : at ≡ positi
   unfolding table_budget
   budget-is slopes slopes-are = rw (reach-is, slopes-are)
 
-pub pair_at-pair-requires : goal.pair_at-pair-requires
-pair_at-pair-requires c = (c.requires.i_lt_m.0, (limits _ c.requires.legal).m-high)
+pub pair-pair-requires : goal.pair-pair-requires
+pair-pair-requires c = c.requires.0
 
 pub pow2-requires : goal.pow2-requires
 pow2-requires c =
-    let e = c.requires in
-    rw c.pair_at-pair.ensures (omega (arith, (limits _ e.legal).table _ e.i_lt_m.0))
+    let e = c.args in
+    rw c.pair-pair.ensures (omega (arith, (limits _ e.self.legal).table _ c.requires.0))
 
 pub overflow_sub-result : goal.overflow_sub-result
 overflow_sub-result c = rw c.pow2.ensures (pow_pos _)
 
 pub pow2-requires-2 : goal.pow2-requires-2
 pow2-requires-2 c =
-    let e = c.requires in
-    omega (arith, e.i_lt_m.1, bits-end _ (limits _ e.legal) _ e.i_lt_m.0, (limits _ e.legal).widths)
+    let e = c.args in
+    omega (arith, c.requires.1, bits-end _ (limits _ e.self.legal) _ c.requires.0, (limits _ e.self.legal).widths)
 
 -- the product of this call
 product : (c : After-pow2-2) → let s = c.before.before.before.before in
-    (c.pow2.result - 1) * c.pow2-2.result * c.table_slopes-slopes.result.spread ≡ table_budget s.args.d s.args.i
+    (c.pow2.result - 1) * c.pow2-2.result * c.table_slopes-slopes.result.spread ≡ table_budget s.args.self.design s.args.i
 product c =
     let slopes = c.before.before in
-    budget-is _ _ _ _ _ _ slopes.requires.i_lt_m.1 slopes.pair_at-pair.ensures c.pow2.ensures
+    budget-is _ _ _ _ _ _ slopes.requires.1 slopes.pair-pair.ensures c.pow2.ensures
     c.pow2-2.ensures _ slopes.table_slopes-slopes.ensures
 
 pub returns : goal.returns
@@ -59,11 +59,11 @@ returns c = product c.before
 pub overflow_mul-result : goal.overflow_mul-result
 overflow_mul-result c =
     let pair = c.before.before.before in
-    let e = pair.requires in
-    rw (reach-is _ _ _ _ _ _ e.i_lt_m.1 pair.pair_at-pair.ensures c.pow2.ensures c.pow2-2.ensures)
-    (record { fits = lt_trans (reach-small _ (limits _ e.legal) _ e.i_lt_m.0) (lit< tt) })
+    let e = c.args in
+    rw (reach-is _ _ _ _ _ _ c.requires.1 pair.pair-pair.ensures c.pow2.ensures c.pow2-2.ensures)
+    (record { fits = lt_trans (reach-small _ (limits _ e.self.legal) _ c.requires.0) (lit< tt) })
 
 pub overflow_mul-result-2 : goal.overflow_mul-result-2
 overflow_mul-result-2 c =
-    let e = c.requires in
-    rw (product c.before) (record { fits = lt_of_le_of_lt (table-budget-small _ (limits _ e.legal) _ e.i_lt_m.0) (lit< tt) })
+    let e = c.args in
+    rw (product c.before) (record { fits = lt_of_le_of_lt (table-budget-small _ (limits _ e.self.legal) _ c.requires.0) (lit< tt) })

@@ -1,4 +1,4 @@
--- `design::measure::offset_total` meets its contract: after n turns `entries` counts the offsets of the first n tables.
+-- `design::LegalDesign::offset_total` meets its contract: after n turns `entries` counts the offsets of the first n tables.
 use mathlib.Core.Path.{◌≡◌, refl}
 use Prim.Native.Nat.{ℕ, ◌+◌, ◌≤◌}
 use native.Mathlib.Omega.{arith}
@@ -9,8 +9,8 @@ use Rattle.design.specs.Limits.{most_in_table}
 use Rattle.design.specs.Stored.{offset_count, table_start, offset_total}
 use Rattle.design.proofs.StoredLaws.{count_small}
 use Rattle.design.proofs.LegalLaws.{limits}
-use Rattle.design.proofs.measure.offset_total.Goals as goal
-use Rattle.design.proofs.measure.offset_total.Goals.{After-offset_count-entries}
+use Rattle.design.proofs.LegalDesign.offset_total.Goals as goal
+use Rattle.design.proofs.LegalDesign.offset_total.Goals.{After-offset_count-entries}
 
 one_more : (d : Design) (i entries more : ℕ) → entries ≡ table_start d i → more ≡ offset_count d i
     → entries + more ≡ table_start d (i + 1)
@@ -22,14 +22,14 @@ unfolding sum_below table_start
 loop-i-init c = record { count = refl; within = omega arith; small = omega arith }
 
 pub offset_count-entries-requires : goal.offset_count-entries-requires
-offset_count-entries-requires c = record { legal = c.requires; i_lt_m = c.loop-i-test.true }
+offset_count-entries-requires c = c.loop-i-test.true
 
 -- this turn's table
 few : (c : After-offset_count-entries) → c.offset_count-entries.result ≤ most_in_table
-few c = rw c.offset_count-entries.ensures (count_small _ (limits _ c.requires) _ c.loop-i-test.true)
+few c = rw c.offset_count-entries.ensures (count_small _ (limits _ c.args.self.legal) _ c.loop-i-test.true)
 
 pub overflow_add-entries : goal.overflow_add-entries
-overflow_add-entries c = omega (arith, few c, (limits _ c.requires).m-high)
+overflow_add-entries c = omega (arith, few c, (limits _ c.args.self.legal).m-high)
 
 pub loop-i-smaller : goal.loop-i-smaller
 loop-i-smaller c = omega arith
@@ -46,5 +46,5 @@ loop-i-preserved c =
 pub returns : goal.returns
 unfolding offset_total
 returns c =
-    let e : c.loop-i.i ≡ c.args.d.m = omega arith in
+    let e : c.loop-i.i ≡ c.args.self.design.m = omega arith in
     rw e at c.loop-i.invariant.count

@@ -1,7 +1,7 @@
--- `design::legal::breaks` meets its contract: by the rule, and for 8 the first test settles the answer where it holds.
+-- `design::Pair::breaks` meets its contract: by the rule, and for 8 the first test settles the answer where it holds.
 use Rattle.general.proofs.Tests.{tested}
 use Rattle.design.specs.Legal as Legal
-use Rattle.design.proofs.legal.breaks.Goals as goal
+use Rattle.design.proofs.Pair.breaks.Goals as goal
 
 pub returns-in-SegmentBits : goal.returns-in-SegmentBits
 unfolding Legal.breaks
