@@ -1,6 +1,6 @@
 -- A line that has to hold a design: its verdict by those of its two lists of checks, and the design of one that passes.
 use Rattle.std.specs.Prelude.{Ok, Err}
-use mathlib.Core.Path.{◌≡◌, refl, sym, ap, ◌∙◌}
+use mathlib.Core.Path.{◌≡◌, sym, ◌∙◌}
 use mathlib.Core.List.{List}
 use Prim.Native.Nat.{ℕ}
 use lib.ListN.{length}
@@ -8,15 +8,15 @@ use Rattle.refusal.specs.declared.Cause.{Cause}
 use Rattle.refusal.specs.Verdict.{Verdict}
 use Rattle.refusal.specs.Checks.{verdict}
 use Rattle.refusal.proofs.Checks.{verdict-append, passed-append}
+use Rattle.refusal.proofs.Answers.{answer-refused, answer-given}
 use Rattle.design.specs.declared.Design.{Design}
 use Rattle.design.specs.Legal.{Legal}
 use Rattle.frames.specs.declared.Decoded.{Decoded}
-use Rattle.frames.specs.declared.DesignLine.{DesignLine}
 use Rattle.frames.specs.Hex.{bytes_of}
 use Rattle.frames.specs.Line.{line_checks, decoded}
 use Rattle.frames.specs.DesignFrame.{frame_design, first_checks}
 use Rattle.frames.specs.DesignText.{design_line_verdict, design_line}
-use Rattle.frames.proofs.LineLaws.{line-told, held_whole}
+use Rattle.frames.proofs.LineLaws.{line-passed, held_whole}
 use Rattle.frames.proofs.FrameLaws.{frame_design-padded, first_checks-padded, first_frame}
 
 module _ (line : List ℕ) where
@@ -29,37 +29,44 @@ module _ (line : List ℕ) where
   unfolding design_line_verdict
   frame-decides e = rw (verdict-append, e)
 
--- What `decode` gives for the line, and the verdict on its frame
-module _ (line : List ℕ) (held : Decoded) (held-is : held ≡ decoded line) (design : Design) (design-is : design ≡ frame_design held.bytes)
-  where
-    same-design : design ≡ frame_design (decoded line).bytes
-    same-design = design-is ∙ ap (λ (h : Decoded). frame_design h.bytes) held-is
+-- What `design_line` answers, by the verdicts of the line and of its frame, which is there whole
+module _ (line : List ℕ) where
+  pub unsound-line : (cause : Cause) → verdict (line_checks line) ≡ Err cause → Err cause ≡ design_line line
+  unfolding design_line
+  unsound-line cause e = rw (line_refused line cause e)
 
-    pub unsound-line : (cause : Cause) → held.verdict ≡ Err cause
-        → ◌≡◌ {A = DesignLine} (record { verdict = Err cause; design = design }) (design_line line)
-    unfolding design_line
-    unsound-line cause e = rw (line_refused line cause (line-told line held held-is _ e), same-design)
-
-    pub sound-line : (r : Verdict) → held.verdict ≡ (Ok tt) → r ≡ verdict (first_checks held.bytes held.count)
-        → ◌≡◌ {A = DesignLine} (record { verdict = r; design = design }) (design_line line)
-    unfolding design_line
-    sound-line r e promise =
+  module _ (held : Decoded) (held-is : decoded line ≡ Ok held) where
+    decides : (r : Verdict) → r ≡ verdict (first_checks held.bytes held.count) → design_line_verdict line ≡ r
+    decides r promise =
         let told : r ≡ verdict (first_checks (bytes_of line) (length (bytes_of line))) =
-        rw (held_whole line held held-is e, first_checks-padded) at promise in
-        rw (frame-decides line (line-told line held held-is _ e), told, same-design)
+        rw (held_whole line held held-is, first_checks-padded) at promise in
+        frame-decides line (line-passed line held held-is) ∙ sym told
+
+    pub unsound_frame : (cause : Cause) → Err cause ≡ verdict (first_checks held.bytes held.count) → Err cause ≡ design_line line
+    unfolding design_line
+    unsound_frame cause e = rw (decides (Err cause) e)
+
+    pub sound-line : Ok tt ≡ verdict (first_checks held.bytes held.count) → (design : Design) → design ≡ frame_design held.bytes
+        → Ok design ≡ design_line line
+    unfolding design_line
+    sound-line e design design-is =
+        rw (decides (Ok tt) e, design-is, held_whole line held held-is, frame_design-padded)
 
 -- A line that passes holds a legal design.
-module _ (line : List ℕ) (passed : design_line_verdict line ≡ (Ok tt)) where
-  both-passed : (verdict (line_checks line) ≡ (Ok tt))
-      × (verdict (first_checks (bytes_of line) (length (bytes_of line))) ≡ (Ok tt))
+module _ (line : List ℕ) where
+  pub frame-legal : design_line_verdict line ≡ (Ok tt) → Legal (frame_design (bytes_of line))
   unfolding design_line_verdict
-  both-passed = passed-append (line_checks line) (first_checks (bytes_of line) (length (bytes_of line))) passed
+  frame-legal passed =
+      (first_frame _ _ (passed-append (line_checks line) (first_checks (bytes_of line) (length (bytes_of line))) passed).1).legal
 
-  pub design-in : (design_line line).design ≡ frame_design (bytes_of line)
+  -- What `design_line` tells
+  pub line-told : (cause : Cause) → design_line line ≡ Err cause → design_line_verdict line ≡ Err cause
   unfolding design_line
-  design-in =
-      let sound : (decoded line).verdict ≡ (Ok tt) = sym (line-told line (decoded line) refl _ refl) ∙ both-passed.0 in
-      rw (held_whole line (decoded line) refl sound, frame_design-padded)
+  line-told cause e = answer-refused _ (frame_design (bytes_of line)) e
 
-  pub design-legal : Legal (design_line line).design
-  design-legal = rw design-in (first_frame _ _ both-passed.1).legal
+  pub line-design : (d : Design) → design_line line ≡ Ok d
+      → (design_line_verdict line ≡ Ok tt) × (frame_design (bytes_of line) ≡ d) × Legal d
+  unfolding design_line
+  line-design d e =
+      let given = answer-given (design_line_verdict line) (frame_design (bytes_of line)) e in
+      (given.0, given.1, rw given.1 at frame-legal given.0)

@@ -1,14 +1,10 @@
--- How many bytes digits are, which of them stand where, and the next two digits of a line: the byte that they make, and whether they are
--- digits at all.
-use mathlib.Core.Path.{◌≡◌, refl, sym, ap, ◌∙◌}
+-- How many bytes digits are, and the next two digits of a text: the byte that they make, and whether they are digits at all.
+use mathlib.Core.Path.{◌≡◌, refl, ap}
 use mathlib.Core.Bool.{false, and-false}
-use mathlib.Core.List.{List, [], ◌∷◌}
+use mathlib.Core.List.{List, [], ◌∷◌, ◌++◌}
 use Prim.Native.Nat.{ℕ, zero, suc, ◌+◌, ◌*◌, ◌≤◌, ◌<◌}
-use native.Mathlib.Nat.{add-zero}
 use native.Mathlib.Omega.{arith}
-use native.Mathlib.Numerals.{add-one, add-two}
-use lib.ListN.{length, drop, get_or}
-use lib.Seq.{drop-cons, drop-nil, get_or-drop}
+use lib.ListN.{length, get_or}
 use borrow.Author.Tests.{lt-ltb, le-ltb}
 use Rattle.frames.specs.Hex.{digit_value, all_digits, bytes_of}
 
@@ -21,52 +17,34 @@ bytes-length n (c ∷ []) e = absurd (omega arith)
 bytes-length zero (high ∷ low ∷ rest) e = absurd (omega arith)
 bytes-length (suc n) (high ∷ low ∷ rest) e = ap suc (bytes-length n rest (omega arith))
 
--- Without its first 2i digits a line is without its first i bytes.
-bytes_drop : (line : List ℕ) (i : ℕ) → bytes_of (drop (2 * i) line) ≡ drop i (bytes_of line)
-unfolding bytes_of
-bytes_drop line zero = refl
-bytes_drop [] (suc i) = rw (drop-nil {A = ℕ} (2 * suc i))
-bytes_drop (c ∷ []) (suc i) =
-    let two-more : 2 * suc i ≡ suc (suc (2 * i)) = omega arith in
-    rw two-more
-bytes_drop (high ∷ low ∷ rest) (suc i) =
-    let two-more : 2 * suc i ≡ suc (suc (2 * i)) = omega arith in
-    rw two-more (bytes_drop rest i)
+-- Digits begin with two, and the numbers that these stand for.
+pub record Digits (rest after : List ℕ) (high low : ℕ) : Type 0 where
+  pub a : ℕ
+  pub b : ℕ
+  pub rest_is : rest ≡ a ∷ b ∷ after
+  pub first : high ≡ digit_value a
+  pub second : low ≡ digit_value b
 
-drop-two : (l : List ℕ) (n : ℕ) → n + 1 < length l → drop n l ≡ get_or l n 0 ∷ get_or l (n + 1) 0 ∷ drop (n + 2) l
-drop-two l n more =
-    rw (add-one, add-two)
-    (drop-cons l n 0 (omega arith) ∙ ap (λ (r : List ℕ). get_or l n 0 ∷ r) (drop-cons l (suc n) 0 (omega arith)))
+pub two-digits : (pair : List ℕ) {rest after : List ℕ} {high low : ℕ} → rest ≡ pair ++ after → length pair ≡ 2
+    → high ≡ digit_value (get_or pair 0 0) → low ≡ digit_value (get_or pair 1 0) → Digits rest after high low
+two-digits [] e two first second = absurd (omega arith)
+two-digits (a ∷ []) e two first second = absurd (omega arith)
+two-digits (a ∷ b ∷ []) e two first second = record { a = a; b = b; rest_is = e; first = first; second = second }
+two-digits (a ∷ b ∷ c ∷ more) e two first second = absurd (omega arith)
 
-pub record Digits (line : List ℕ) (i high low : ℕ) : Type 0 where
-  pub more : 2 * i + 1 < length line
-  pub first : high ≡ digit_value (get_or line (2 * i) 0)
-  pub second : low ≡ digit_value (get_or line (2 * i + 1) 0)
-
-module _ {line : List ℕ} {i high low : ℕ} (next : Digits line i high low) where
-  next-two : drop (2 * i) line ≡ get_or line (2 * i) 0 ∷ get_or line (2 * i + 1) 0 ∷ drop (2 * (i + 1)) line
-  next-two =
-      let two-more : 2 * (i + 1) ≡ 2 * i + 2 = omega arith in
-      rw two-more (drop-two line (2 * i) next.more)
-
-  pub next-byte : bytes_of (drop (2 * i) line) ≡ (16 * high + low) ∷ bytes_of (drop (2 * (i + 1)) line)
+module _ {rest after : List ℕ} {high low : ℕ} (next : Digits rest after high low) where
+  pub next-byte : bytes_of rest ≡ (16 * high + low) ∷ bytes_of after
   unfolding bytes_of
-  next-byte = rw (next-two, bytes_of, ← next.first, ← next.second)
+  next-byte = rw (next.rest_is, next.first, next.second)
 
-  pub byte_at : get_or (bytes_of line) i 0 ≡ 16 * high + low
-  byte_at =
-      let first = get_or-drop i (bytes_of line) 0 0 in
-      sym (rw add-zero at first) ∙ ap (λ (l : List ℕ). get_or l 0 0) (sym (bytes_drop line i) ∙ next-byte)
-
-  pub next-sound : high < 16 → low < 16 → all_digits (drop (2 * i) line) ≡ all_digits (drop (2 * (i + 1)) line)
+  pub next-sound : high < 16 → low < 16 → all_digits rest ≡ all_digits after
   unfolding all_digits
-  next-sound h l =
-      rw (next-two, all_digits, ← next.first, lt-ltb _ _ h, all_digits, ← next.second, lt-ltb _ _ l)
+  next-sound h l = rw (next.rest_is, ← next.first, ← next.second, lt-ltb _ _ h, lt-ltb _ _ l)
 
-  pub high-unsound : 16 ≤ high → all_digits (drop (2 * i) line) ≡ false
+  pub high-unsound : 16 ≤ high → all_digits rest ≡ false
   unfolding all_digits
-  high-unsound h = rw (next-two, all_digits, ← next.first, le-ltb _ _ h)
+  high-unsound h = rw (next.rest_is, ← next.first, le-ltb _ _ h)
 
-  pub low-unsound : 16 ≤ low → all_digits (drop (2 * i) line) ≡ false
+  pub low-unsound : 16 ≤ low → all_digits rest ≡ false
   unfolding all_digits
-  low-unsound l = rw (next-two, all_digits, all_digits, ← next.second, le-ltb _ _ l, and-false)
+  low-unsound l = rw (next.rest_is, ← next.second, le-ltb _ _ l, and-false)

@@ -1,8 +1,8 @@
 -- Which tests of a line refuse it, and what it decodes to then and otherwise.
-use Rattle.std.specs.Prelude.{Ok}
-use mathlib.Core.Path.{◌≡◌}
-use mathlib.Core.Bool.{true, false, or-true}
-use mathlib.Core.List.{List, []}
+use Rattle.std.specs.Prelude.{Ok, Err, Some, None, ok_or}
+use mathlib.Core.Path.{◌≡◌, refl, sym, ◌∙◌}
+use mathlib.Core.Bool.{Bool, true, false, cond, or-true}
+use mathlib.Core.List.{List, [], ◌∷◌}
 use Prim.Native.Nat.{ℕ, ◌*◌, ◌/◌, ◌%◌, ◌≤◌, ◌<◌}
 use native.Mathlib.Omega.{arith}
 use lib.Dec.{ltb, eqb}
@@ -10,8 +10,9 @@ use lib.ListN.{length}
 use borrow.Author.Tests.{lt-ltb, ltb-false, eqb-false}
 use Rattle.general.proofs.Tests.{neither}
 use Rattle.refusal.specs.declared.Cause.{Cause}
-use Rattle.refusal.specs.Verdict.{Verdict}
-use Rattle.refusal.specs.Checks.{verdict}
+use Rattle.refusal.specs.Checks.{◌↝◌, verdict, answer}
+use Rattle.refusal.proofs.Checks.{none-fails}
+use Rattle.refusal.proofs.Answers.{answer-refused, answer-given}
 use Rattle.frames.specs.declared.Decoded.{Decoded}
 use Rattle.frames.specs.Hex.{bytes_of}
 use Rattle.frames.specs.Inputs.{EvenDigits}
@@ -24,11 +25,12 @@ use Rattle.frames.specs.Line.{
   line_fails,
   line_checks,
   capacity,
-  decoded_if,
+  kept,
+  decoded_digits,
   decoded,
 }
 use Rattle.frames.proofs.HexLaws.{bytes-length}
-use Rattle.frames.proofs.DecodedLaws.{whole, if-refused, if-told, if-passed, if-whole}
+use Rattle.frames.proofs.DecodedLaws.{whole, kept_whole}
 
 pub record SoundLength (digits : ℕ) : Type 0 where
   pub even : digits ≡ 2 * (digits / 2)
@@ -64,35 +66,40 @@ bytes-short line e =
     omega (arith, bytes-length (length line / 2) line sound.even, sound.short)
 
 module _ (line : List ℕ) where
-  refused : line_fails line ≡ true → decoded_if true Cause.Line [] ≡ decoded line
-  unfolding decoded
-  refused e = if-refused (line_fails line) Cause.Line line e
+  refused : line_fails line ≡ true → Err Cause.Line ≡ decoded line
+  unfolding decoded line_checks
+  refused e = rw e
 
   -- A line that is empty or of a wrong length is refused, whatever stands in it.
-  pub empty-refused : is_empty line ≡ true → decoded_if true Cause.Line [] ≡ decoded line
+  pub empty-refused : is_empty line ≡ true → Err Cause.Line ≡ decoded line
   unfolding line_fails
   empty-refused e = refused (rw e)
 
-  pub length-refused : length_fails (length line) ≡ true → decoded_if true Cause.Line [] ≡ decoded line
+  pub length-refused : length_fails (length line) ≡ true → Err Cause.Line ≡ decoded line
   unfolding line_fails digits_fail
   length-refused e = refused (rw (e, or-true))
 
   -- Any other is what its digits are.
-  pub text-decides : is_empty line ≡ false → length_fails (length line) ≡ false → decoded_if (text_fails line) Cause.Line line ≡ decoded line
-  unfolding decoded line_fails digits_fail
-  text-decides some l = rw (some, l)
+  pub text-decides : is_empty line ≡ false → length_fails (length line) ≡ false → ok_or (decoded_digits line) Cause.Line ≡ decoded line
+  unfolding decoded decoded_digits line_checks line_fails digits_fail
+  text-decides some l = rw (some, l) (either (text_fails line))
+    where
+      either : (fails : Bool) → ok_or (cond fails None (Some (kept line))) Cause.Line ≡ answer (verdict (fails ↝ Cause.Line ∷ [])) (kept line)
+      either true = refl
+      either false = refl
 
--- What `decode` gives for a line: the verdict of the line's checks, and a line that passes them whole
-module _ (line : List ℕ) (held : Decoded) (held-is : held ≡ decoded line) where
-  by_tests : held ≡ decoded_if (line_fails line) Cause.Line line
+  -- What `decode` tells: a line that it refuses fails its checks, and one that it does not passes them and is there whole.
+  pub line-refused : (cause : Cause) → decoded line ≡ Err cause → verdict (line_checks line) ≡ Err cause
   unfolding decoded
-  by_tests = held-is
+  line-refused cause e = answer-refused _ (kept line) e
 
-  pub line-told : (v : Verdict) → held.verdict ≡ v → verdict (line_checks line) ≡ v
-  unfolding line_checks
-  line-told v e = if-told (line_fails line) Cause.Line line held by_tests v e
+  module _ (held : Decoded) (e : decoded line ≡ Ok held) where
+    pub line-passed : verdict (line_checks line) ≡ Ok tt
+    unfolding decoded
+    line-passed = (answer-given (verdict (line_checks line)) (kept line) e).0
 
-  pub held_whole : held.verdict ≡ (Ok tt) → held ≡ whole line
-  held_whole e =
-      let fails = line_fails line in
-      if-whole fails Cause.Line line held by_tests e (bytes-short line (if-passed fails Cause.Line line held by_tests e))
+    pub held_whole : held ≡ whole line
+    unfolding decoded line_checks
+    held_whole =
+        let given = answer-given (verdict (line_checks line)) (kept line) e in
+        sym given.1 ∙ kept_whole line (bytes-short line (none-fails (line_checks line) given.0).0)

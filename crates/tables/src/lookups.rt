@@ -12,7 +12,7 @@ use design::legal::pair_at;
 
 // One offset table: how far down the top a + b bits of x are shifted, how many bits of x are its offset word, where in x they begin, and
 // where the table begins among the offsets.
-#[derive(Clone, Copy)]
+#[derive(Clone, Copy, Debug, PartialEq, Eq)]
 pub struct Lookup {
     pub shift: u32,
     pub b: u32,
@@ -21,7 +21,7 @@ pub struct Lookup {
 }
 
 // The tables by name, so that none of their numbers is read at a place that only the run tells. Those at m and beyond are not looked up.
-#[derive(Clone, Copy)]
+#[derive(Clone, Copy, Debug, PartialEq, Eq)]
 pub struct Lookups {
     pub first: Lookup,
     pub second: Lookup,

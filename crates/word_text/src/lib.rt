@@ -2,26 +2,24 @@
 #![tactic(auto)]
 
 ghost use Rattle.std.specs.Prelude.{◌≡◌, []};
-ghost use Rattle.word_text.specs.Decimal.{at_most_limit, reading_of, after_character, word_of};
+ghost use Rattle.word_text.specs.Decimal.{reading_of, longer, after_character, word_of};
 
-// The lowest number that is no input word any more. It stands for "no word, whatever follows", too.
-const LIMIT: u64 = 4294967296;
-
-// What is known of a line so far: its number, or LIMIT where it is no word, and whether it has a character yet.
-#[derive(Clone, Copy)]
+// What is known of a line so far: its number, unless it is no word, whatever follows; and whether it has a character yet.
+#[derive(Clone, Copy, Debug, PartialEq, Eq)]
 pub struct WordText {
-    pub value: u64,
+    pub number: Option<u32>,
     pub begun: bool,
 }
 
-// The number, held at the limit, so that it stops growing however many digits follow.
-fn at_most_limit(n: u64) -> u64
-    ensures { result ≡ at_most_limit n }
+// A number with one more digit, unless the character is none or more than 32 bits are needed.
+fn longer(number: Option<u32>, c: u8) -> Option<u32>
+    ensures { result ≡ longer number c }
 {
-    if n < LIMIT {
-        return n;
-    }
-    LIMIT
+    let digit = match c {
+        b'0'..=b'9' => c - b'0',
+        _ => return None,
+    };
+    number?.checked_mul(10)?.checked_add(u32::from(digit))
 }
 
 impl WordText {
@@ -30,29 +28,17 @@ impl WordText {
         ensures { result ≡ reading_of [] }
     {
         WordText {
-            value: 0,
+            number: Some(0),
             begun: false,
         }
     }
 
-    // The line with one more character. Below the limit, ten times the value and a digit are far below 2^64.
+    // The line with one more character.
     pub fn with(self, c: u8) -> WordText
         ensures { result ≡ after_character self c }
     {
-        if LIMIT <= self.value {
-            return WordText {
-                value: LIMIT,
-                begun: true,
-            };
-        }
-        if refusal::outside(48, 57, c as u32) {
-            return WordText {
-                value: LIMIT,
-                begun: true,
-            };
-        }
         WordText {
-            value: at_most_limit(10 * self.value + (c - 48) as u64),
+            number: longer(self.number, c),
             begun: true,
         }
     }
@@ -61,9 +47,6 @@ impl WordText {
     pub fn word(self) -> Option<u32>
         ensures { result ≡ word_of self }
     {
-        if self.begun && self.value < LIMIT {
-            return Some(self.value as u32);
-        }
-        None
+        if self.begun { self.number } else { None }
     }
 }

@@ -1,25 +1,21 @@
 -- `frames::decode` meets its contract: a line that is empty or of a wrong length is refused, and for any other its digits decide.
-use mathlib.Core.Path.{◌≡◌, sym, ◌∙◌}
-use mathlib.Core.Bool.{false}
-use lib.ListN.{length}
-use borrow.Author.Tests.{eq-eqb, ne_eqb}
-use Rattle.frames.specs.Line.{length_fails}
+use mathlib.Core.Path.{sym, ap, ◌∙◌}
+use Rattle.std.specs.Prelude.{Option, ok_or}
+use Rattle.refusal.specs.declared.Cause.{Cause}
+use Rattle.frames.specs.declared.Decoded.{Decoded}
 use Rattle.frames.proofs.LineLaws.{even-digits, empty-refused, length-refused, text-decides}
 use Rattle.frames.proofs.decode.Goals as goal
-use Rattle.frames.proofs.decode.Goals.{Else-length_fails}
-
-length-passed : (c : Else-length_fails) → length_fails (length c.args.line.now) ≡ false
-length-passed c = sym c.length_fails.ensures ∙ c.if-length_fails.false
+use Rattle.frames.proofs.decode.Goals.{then-is_empty-via-else-is_empty+then-length_fails, then-is_empty-via-then-is_empty}
 
 pub decode_digits-requires : goal.decode_digits-requires
-decode_digits-requires c = even-digits _ (length-passed c)
+decode_digits-requires c = even-digits _ (sym c.length_fails.ensures ∙ c.if-length_fails.false)
 
 pub returns : goal.returns
 returns c =
-    c.decode_digits.ensures ∙ text-decides _ (ne_eqb _ _ c.if-line-eq0.false) (sym c.length_fails.ensures ∙ c.if-length_fails.false)
+    c.ok_or.ensures.value
+    ∙ ap (λ (o : Option Decoded). ok_or o Cause.Line) c.decode_digits.ensures
+    ∙ text-decides _ (sym c.is_empty.ensures ∙ c.if-is_empty.false) (sym c.length_fails.ensures ∙ c.if-length_fails.false)
 
-pub returns-then-line-eq0 : goal.returns-then-line-eq0
-returns-then-line-eq0 c = c.unsound.ensures ∙ empty-refused _ (eq-eqb _ _ c.if-line-eq0.true)
-
-pub returns-then-length_fails : goal.returns-then-length_fails
-returns-then-length_fails c = c.unsound-then-length_fails.ensures ∙ length-refused _ (sym c.length_fails.ensures ∙ c.if-length_fails.true)
+pub returns-then-is_empty : goal.returns-then-is_empty
+returns-then-is_empty c =
+    elim c.then-is_empty.branch [ then-is_empty-via-then-is_empty w ↦ empty-refused _ (sym c.is_empty.ensures ∙ w.if-is_empty.true) | then-is_empty-via-else-is_empty+then-length_fails w ↦ length-refused _ (sym w.length_fails.ensures ∙ w.if-length_fails.true) ]

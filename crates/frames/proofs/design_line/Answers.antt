@@ -1,14 +1,22 @@
 -- `frames::design_line` meets its contract: the line is tried, and then the frame on it.
-use Rattle.frames.proofs.DesignLaws.{unsound-line, sound-line}
+use Rattle.std.proofs.lemmas.Result.{err_from_is_err_and}
+use mathlib.Core.Path.{sym, ◌∙◌}
+use Rattle.frames.proofs.LineLaws.{line-refused}
+use Rattle.frames.proofs.DesignLaws.{unsound-line, unsound_frame, sound-line}
 use Rattle.frames.proofs.design_line.Goals as goal
 
-pub returns-in-Refused : goal.returns-in-Refused
-returns-in-Refused c =
-    let f = c.before.before in
-    unsound-line _ _ f.decode-held.ensures _ f.frame_design-design.ensures _ c.in-Refused.is
+pub returns-in_err-frame : goal.returns-in_err-frame
+returns-in_err-frame c =
+    let r = err_from_is_err_and c.from_residual.result c.from_residual.ensures.1 in
+    rw (r.1, r.2) (unsound-line _ _ (line-refused _ _ (sym c.decode.ensures ∙ c.in_err-frame.was)))
+
+pub returns-in_err-first_verdict : goal.returns-in_err-first_verdict
+returns-in_err-first_verdict c =
+    let r = err_from_is_err_and c.from_residual-in_err-first_verdict.result c.from_residual-in_err-first_verdict.ensures.1 in
+    rw (r.1, r.2)
+    (unsound_frame _ _ (sym c.decode.ensures ∙ c.in_ok-frame.was) _ (sym c.in_err-first_verdict.was ∙ c.first_verdict.ensures))
 
 pub returns : goal.returns
 returns c =
-    let t = c.before.before in
-    let f = t.before in
-    sound-line _ _ f.decode-held.ensures _ f.frame_design-design.ensures _ t.in_default.is c.first_verdict-verdict.ensures
+    sound-line _ _ (sym c.decode.ensures ∙ c.in_ok-frame.was) (sym c.in_ok-first_verdict.was ∙ c.first_verdict.ensures) _
+    c.frame_design.ensures

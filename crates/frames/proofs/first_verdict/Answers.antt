@@ -1,5 +1,6 @@
 -- `frames::first_verdict` meets its contract: the frame is tried, and then the design in it.
 use Rattle.std.specs.Prelude.{Ok, Err}
+use Rattle.std.proofs.lemmas.Result.{err_from_is_err_and}
 use mathlib.Core.Path.{◌≡◌, sym, ◌∙◌}
 use mathlib.Core.List.{List}
 use Prim.Native.Nat.{ℕ}
@@ -22,13 +23,12 @@ module _ (bytes : List ℕ) (count : ℕ) where
   unfolding first_checks design_verdict
   design-decides e = rw (verdict-append, e)
 
-pub returns-in-Refused : goal.returns-in-Refused
-returns-in-Refused c =
-    let v = c.before in
-    not-due _ _ _ (sym v.frame_verdict.ensures ∙ c.in-Refused.is)
+pub returns-in_err-frame_verdict : goal.returns-in_err-frame_verdict
+returns-in_err-frame_verdict c =
+    let r = err_from_is_err_and c.from_residual.result c.from_residual.ensures.1 in
+    rw (r.1, r.2) (not-due _ _ _ (sym c.frame_verdict.ensures ∙ c.in_err-frame_verdict.was))
 
 pub returns : goal.returns
 returns c =
-    let t = c.before.before in
     rw c.frame_design.ensures at c.design_verdict.ensures
-    ∙ design-decides _ _ (sym t.frame_verdict.ensures ∙ t.in_default.is)
+    ∙ design-decides _ _ (sym c.frame_verdict.ensures ∙ c.in_ok-frame_verdict.was)

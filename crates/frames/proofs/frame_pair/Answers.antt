@@ -7,8 +7,8 @@ use Rattle.frames.proofs.frame_pair.Goals as goal
 
 pub returns-then-m-i : goal.returns-then-m-i
 unfolding frame_pair
-returns-then-m-i c = rw (le-ltb c.args.i (get_or c.args.bytes 6 0) (omega arith))
+returns-then-m-i c = rw (le-ltb c.args.i (get_or c.args.bytes.now 6 0) (omega arith))
 
 pub returns : goal.returns
 unfolding frame_pair
-returns c = rw (lt-ltb c.args.i (get_or c.args.bytes 6 0) (omega arith))
+returns c = rw (lt-ltb c.args.i (get_or c.args.bytes.now 6 0) (omega arith))

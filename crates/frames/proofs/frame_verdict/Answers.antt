@@ -15,7 +15,7 @@ use borrow.Author.Rules.{rules}
 use borrow.Author.Tests.{eq-eqb, ne_eqb}
 use Rattle.frames.specs.DesignFrame.{frame_fails, frame_checks}
 use Rattle.frames.proofs.frame_verdict.Goals as goal
-use Rattle.frames.proofs.frame_verdict.Goals.{then-bytes-ne1-via-else-bytes-ne1+then-count-due, then-bytes-ne1-via-then-bytes-ne1}
+use Rattle.frames.proofs.frame_verdict.Goals.{then-frame-ne1-via-else-frame-ne1+then-frame-due, then-frame-ne1-via-then-frame-ne1}
 
 twice-fits : (m : ℕ) → Fits w8 m → Fits w64 (2 * m)
 twice-fits m fits = omega arith
@@ -44,12 +44,12 @@ module _ (bytes : List ℕ) (count : ℕ) where
   unfolding frame_fails frame_checks
   is-due kind due = rw (frame_fails, eq-eqb _ _ kind, due)
 
-pub returns-then-bytes-ne1 : goal.returns-then-bytes-ne1
-returns-then-bytes-ne1 c =
+pub returns-then-frame-ne1 : goal.returns-then-frame-ne1
+returns-then-frame-ne1 c =
     let a = c.args in
-    elim c.then-bytes-ne1.branch [ then-bytes-ne1-via-then-bytes-ne1 w ↦ other-kind a.bytes a.count (λ e. w.if-bytes-ne1.true (omega (arith, e))) | then-bytes-ne1-via-else-bytes-ne1+then-count-due w ↦ other-count a.bytes a.count (omega (arith, w.if-bytes-ne1.false)) (ap not (ne_eqb _ _ w.if-count-due.true)) ]
+    elim c.then-frame-ne1.branch [ then-frame-ne1-via-then-frame-ne1 w ↦ other-kind a.frame.now.bytes a.frame.now.count (λ e. w.if-frame-ne1.true (omega (arith, e))) | then-frame-ne1-via-else-frame-ne1+then-frame-due w ↦ other-count a.frame.now.bytes a.frame.now.count (omega (arith, w.if-frame-ne1.false)) (ap not (ne_eqb _ _ w.if-frame-due.true)) ]
 
 pub returns : goal.returns
 returns c =
     let a = c.args in
-    is-due a.bytes a.count (omega (arith, c.if-bytes-ne1.false)) (ap not (eq-eqb _ _ c.if-count-due.false))
+    is-due a.frame.now.bytes a.frame.now.count (omega (arith, c.if-frame-ne1.false)) (ap not (eq-eqb _ _ c.if-frame-due.false))

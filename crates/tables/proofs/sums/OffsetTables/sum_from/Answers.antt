@@ -1,4 +1,4 @@
--- `tables::sums::sum_from` meets its contract: table 0 and those from 1 on make Y.
+-- `tables::sums::OffsetTables::sum_from` meets its contract: table 0 and those from 1 on make Y.
 use mathlib.Core.Path.{◌≡◌, ap, ◌∙◌}
 use mathlib.Core.List.{List}
 use Prim.Native.Nat.{ℕ, ◌≤◌}
@@ -14,8 +14,8 @@ use Rattle.tables.specs.Inputs.{sum_above}
 use Rattle.tables.specs.Sum.{offset_for, sum_from}
 use Rattle.tables.proofs.LookupLaws.{looked}
 use Rattle.tables.proofs.SumLaws.{units, first-first}
-use Rattle.tables.proofs.sums.sum_from.Goals as goal
-use Rattle.tables.proofs.sums.sum_from.Goals.{Start}
+use Rattle.tables.proofs.sums.OffsetTables.sum_from.Goals as goal
+use Rattle.tables.proofs.sums.OffsetTables.sum_from.Goals.{Start}
 
 with-above : (d : Design) (entry : ℕ) (offsets : List ℤ) (x : ℕ) (none : ℤ) (first sum : TableUnits) → 1 ≤ d.m → none ≡ pos entry
     → first ≡ units (none +ℤ offset_for d offsets x 0) → sum ≡ units (sum_above d first.0 offsets x)
@@ -30,15 +30,15 @@ held c = to_z_pos w64 c.args.entry (omega arith)
 pub add_table-first-requires : goal.add_table-first-requires
 add_table-first-requires c =
     let p = c.requires in
-    record { legal = p.legal; lookup_value = ((looked p.lookups_value).first-is, p.same_interval); i_lt_m = ((limits _ p.legal.0).m-low, rw (held c.before) (omega arith)) }
+    record { lookup_value = ((looked c.args.self.lookups_value).first-is, p); i_lt_m = ((limits _ c.args.self.legal).m-low, rw (held c.before) (omega arith)) }
 
 pub add_above-requires : goal.add_above-requires
 add_above-requires c =
     let p = c.requires in
-    record { legal = p.legal; lookups_value = p.lookups_value; same_interval = (p.same_interval, omega (arith, rw (held c.before.before) at c.add_table-first.ensures.1)) }
+    (p, omega (arith, rw (held c.before.before) at c.add_table-first.ensures.1))
 
 pub returns : goal.returns
 returns c =
     let b = c.before in
     let s = b.before in
-    with-above _ _ _ _ _ _ _ (limits _ s.requires.legal.0).m-low (held c.before.before.before) b.add_table-first.ensures.0 c.add_above.ensures.0
+    with-above _ _ _ _ _ _ _ (limits _ s.args.self.legal).m-low (held c.before.before.before) b.add_table-first.ensures.0 c.add_above.ensures.0

@@ -1,4 +1,4 @@
--- `tables::runs::run_of` meets its contract: its words are as many as table 0's lookup has, and what they share is found from the first.
+-- `tables::sums::OffsetTables::run_of` meets its contract: its words are as many as table 0's lookup has, and what they share is found from the first.
 use mathlib.Core.Path.{◌≡◌, refl, ap, ◌∙◌}
 use Prim.Native.Nat.{◌*◌, ◌%◌, ◌^◌, ◌<◌}
 use native.Mathlib.Omega.{arith}
@@ -13,8 +13,8 @@ use Rattle.design.proofs.LegalLaws.{Limits, limits}
 use Rattle.tables.specs.declared.lookups.Lookup.{Lookup}
 use Rattle.tables.specs.Lookup.{lookup_of}
 use Rattle.tables.proofs.LookupLaws.{looked, lookup-small, shl_one}
-use Rattle.tables.proofs.runs.run_of.Goals as goal
-use Rattle.tables.proofs.runs.run_of.Goals.{Start}
+use Rattle.tables.proofs.sums.OffsetTables.run_of.Goals as goal
+use Rattle.tables.proofs.sums.OffsetTables.run_of.Goals.{Start}
 
 -- How many words there are, by the lookup of table 0
 module _ (d : Design) (l : Limits d) (first : Lookup) (first-is : first ≡ lookup_of d 0) where
@@ -30,22 +30,23 @@ held : (c : Start) → to_z w64 c.args.entry ≡ pos c.args.entry
 held c = to_z_pos w64 c.args.entry (omega arith)
 
 pub overflow_shl-result : goal.overflow_shl-result
-overflow_shl-result c = let p = c.requires in b-small _ (limits _ p.legal.0) _ (looked p.lookups_value).first-is
+overflow_shl-result c = let t = c.args.self in b-small _ (limits _ t.legal) _ (looked t.lookups_value).first-is
 
 pub add_above-requires : goal.add_above-requires
-add_above-requires c = let s = c.before in record { legal = s.requires.legal; lookups_value = s.requires.lookups_value; same_interval = (s.requires.same_interval.0, rw (held c.before) (omega arith)) }
+add_above-requires c = (c.requires.0, rw (held c) (omega arith))
 
 pub returns : goal.returns
 returns c =
-    let s = c.before.before in
+    let s = c.before in
+    let t = s.args.self in
     let p = s.requires in (
       refl,
       refl,
       record {
-        interval = p.same_interval.0;
-        starts = p.same_interval.1;
-        size_is = size-found _ (limits _ p.legal.0) _ (looked p.lookups_value).first-is;
-        above-is = rw (held c.before.before) at (ap (λ (u : TableUnits). u.0) c.add_above.ensures.0);
+        interval = p.0;
+        starts = p.1;
+        size_is = size-found _ (limits _ t.legal) _ (looked t.lookups_value).first-is;
+        above-is = rw (held c.before) at (ap (λ (u : TableUnits). u.0) c.add_above.ensures.0);
         above-small = c.add_above.ensures.1;
       },
     )

@@ -1,4 +1,4 @@
--- `tables::sums::sum_outside` meets its contract: the two tests of the definition, on a sum and a limit that 64 bits hold.
+-- `tables::sums::OffsetTables::sum_outside` meets its contract: the two tests of the definition, on a sum and a limit that 64 bits hold.
 use mathlib.Core.Path.{◌≡◌, refl, sym, ap, subst, ◌∙◌}
 use mathlib.Core.Bool.{Bool, true, false, ◌||◌, true≢false}
 use Prim.Native.Nat.{◌≤◌}
@@ -12,8 +12,8 @@ use Rattle.design.specs.declared.Design.{Design}
 use Rattle.design.specs.Cut.{sum_limit}
 use Rattle.design.proofs.LegalLaws.{limits, sum-limit-small}
 use Rattle.tables.specs.Sum.{sum_outside}
-use Rattle.tables.proofs.sums.sum_outside.Goals as goal
-use Rattle.tables.proofs.sums.sum_outside.Goals.{After-sum_limit-limit}
+use Rattle.tables.proofs.sums.OffsetTables.sum_outside.Goals as goal
+use Rattle.tables.proofs.sums.OffsetTables.sum_outside.Goals.{After-sum_limit-limit}
 
 first : (a b : Bool) → a ≡ true → a ≡ a || b
 first true b e = refl
@@ -35,7 +35,7 @@ module _ (d : Design) (Y held : ℤ) (same : held ≡ Y) where
       subst (λ (z : ℤ). le_z limit held ≡ sum_outside d z) same (ap (λ (z : ℤ). le_z z held) limit_is ∙ second _ _ e)
 
 limit-small : (c : After-sum_limit-limit) → c.sum_limit-limit.result ≤ entry_bound
-limit-small c = rw c.sum_limit-limit.ensures (sum-limit-small _ (limits _ c.requires))
+limit-small c = rw c.sum_limit-limit.ensures (sum-limit-small _ (limits _ c.args.self.legal))
 
 pub overflow_cast-limit : goal.overflow_cast-limit
 overflow_cast-limit c = record { sfits = omega (arith, limit-small c) }
@@ -44,10 +44,10 @@ pub returns-else-sum-lt0 : goal.returns-else-sum-lt0
 returns-else-sum-lt0 c =
     let b = c.before.before.before.before.before in
     let a = b.args in
-    above a.d a.sum.0 _ (to_z-of_z w64 a.sum.0 (record { sfits = c.struct_told-else-sum-lt0-1.given.0.1 })) _
+    above a.self.design a.sum.0 _ (to_z-of_z w64 a.sum.0 (record { sfits = c.struct_told-else-sum-lt0-1.given.0.1 })) _
     (to_z_pos w64 b.sum_limit-limit.result (omega (arith, limit-small c.before.before.before.before.before)) ∙ ap pos b.sum_limit-limit.ensures) c.if-sum-lt0.false
 
 pub returns-then-sum-lt0 : goal.returns-then-sum-lt0
 returns-then-sum-lt0 c =
     let a = c.args in
-    below a.d a.sum.0 _ (to_z-of_z w64 a.sum.0 (record { sfits = c.struct_told-1.given.0.1 })) c.if-sum-lt0.true
+    below a.self.design a.sum.0 _ (to_z-of_z w64 a.sum.0 (record { sfits = c.struct_told-1.given.0.1 })) c.if-sum-lt0.true

@@ -1,4 +1,4 @@
--- `tables::sums::add_table` meets its contract: the lookup leads to the offset that x reads, whose sum with the others is still small.
+-- `tables::sums::OffsetTables::add_table` meets its contract: the lookup leads to the offset that x reads, whose sum with the others is still small.
 use mathlib.Core.Path.{◌≡◌}
 use mathlib.Core.List.{List}
 use Prim.Native.Nat.{ℕ, ◌≤◌, ◌<◌}
@@ -14,7 +14,7 @@ use Rattle.tables.specs.Inputs.{SameInterval}
 use Rattle.tables.specs.Lookup.{lookup_of, place_at}
 use Rattle.tables.specs.Sum.{offset_for}
 use Rattle.tables.proofs.LookupLaws.{lookup-asks, place_is, place-lt}
-use Rattle.tables.proofs.sums.add_table.Goals as goal
+use Rattle.tables.proofs.sums.OffsetTables.add_table.Goals as goal
 
 -- A table that is read: where its lookup leads
 module _ {d : Design} (offsets : List ℤ) {near x i : ℕ} (usable : Legal d × (offset_total d ≤ length offsets)) (more : i < d.m)
@@ -28,17 +28,17 @@ module _ {d : Design} (offsets : List ℤ) {near x i : ℕ} (usable : Legal d ×
 
 pub place_of-requires : goal.place_of-requires
 place_of-requires c =
-    let p = c.requires in let p = lookup-asks _ (limits _ p.legal.0) _ _ _ p.i_lt_m.0 p.lookup_value.1 _ p.lookup_value.0 in record { small = p.0; near_lt_word_bound = p.1 }
+    let p = c.requires in let p = lookup-asks _ (limits _ c.args.self.legal) _ _ _ p.i_lt_m.0 p.lookup_value.1 _ p.lookup_value.0 in record { small = p.0; near_lt_word_bound = p.1 }
 
 pub add_offset-requires : goal.add_offset-requires
 add_offset-requires c =
     let s = c.before in
     let p = s.requires in
-    (inside s.args.offsets.now p.legal p.i_lt_m.0 p.lookup_value.0 p.lookup_value.1 c.place_of.ensures, p.i_lt_m.1)
+    (inside s.args.self.offsets.now (s.args.self.legal, s.args.self.offsets_long) p.i_lt_m.0 p.lookup_value.0 p.lookup_value.1 c.place_of.ensures, p.i_lt_m.1)
 
 pub returns : goal.returns
 returns c =
     let s = c.before.before in
     let p = s.requires in
-    rw (← read s.args.offsets.now p.legal p.i_lt_m.0 p.lookup_value.0 p.lookup_value.1 c.place_of.ensures)
+    rw (← read s.args.self.offsets.now (s.args.self.legal, s.args.self.offsets_long) p.i_lt_m.0 p.lookup_value.0 p.lookup_value.1 c.place_of.ensures)
     c.add_offset.ensures
