@@ -43,7 +43,7 @@ module _ (d : Design) where
   unfolding initial_entries
   initial-at A = list_at (initial_at d) (initial_count d) A 0
 
-  table-length : (i : ℕ) → length (table_entries d i) ≡ offset_count d i
+  pub table-length : (i : ℕ) → length (table_entries d i) ≡ offset_count d i
   unfolding table_entries
   table-length i = list_length _ (offset_count d i)
 

@@ -37,19 +37,28 @@ module _ (d : Design) (initial : List ℕ) (offsets : List ℤ) where
   -- what is promised of an answer and of what the tables are left with
   abbrev pub Promised : Verdict → List ℕ → List ℤ → Type 0
   Promised r initial' offsets' =
-      let answer = fill_verdict d (length initial) (length offsets) in
-      (r ≡ answer)
-      × ((verdict_number r ≡ verdict_number answer)
-      × ((initial' ≡ initial_after d initial offsets) × (offsets' ≡ offsets_after d initial offsets)))
+      let due = fill_verdict d (length initial) (length offsets) in
+      record {
+        answer : r ≡ due;
+        number : verdict_number r ≡ verdict_number due;
+        initial_table : initial' ≡ initial_after d initial offsets;
+        offset_tables : offsets' ≡ offsets_after d initial offsets;
+      }
 
   pub refuses : {cause : Cause} → fill_verdict d (length initial) (length offsets) ≡ Err cause
       → Promised (Err cause) initial offsets
   unfolding initial_after offsets_after
-  refuses e = rw e (refl, (refl, (refl, refl)))
+  refuses e = rw e (record { answer = refl; number = refl; initial_table = refl; offset_tables = refl })
 
   pub fills : {initial' : List ℕ} {offsets' : List ℤ} → fill_verdict d (length initial) (length offsets) ≡ (Ok tt)
       → initial' ≡ over initial 0 (initial_entries d) → offsets' ≡ over offsets 0 (offset_entries d)
       → Promised (Ok tt) initial' offsets'
   unfolding initial_after offsets_after
   fills e initial-is offsets-is =
-      rw e (refl, (refl, (initial-is ∙ over-start initial (initial_entries d), offsets-is ∙ over-start offsets (offset_entries d))))
+      rw e
+      (record {
+        answer = refl;
+        number = refl;
+        initial_table = initial-is ∙ over-start initial (initial_entries d);
+        offset_tables = offsets-is ∙ over-start offsets (offset_entries d);
+      })

@@ -1,13 +1,13 @@
 -- What inner calls may count on. Their callers are proved to see to it.
-use Rattle.std.specs.Prelude.{◌≡◌, ℕ, ◌≤◌, ◌<◌}
+use Rattle.std.specs.Prelude.{◌≡◌, ℕ, ◌<◌}
 use Rattle.design.specs.declared.Design.{Design}
 use Rattle.design.specs.Cut.{position}
-use Rattle.design.specs.Stored.{offset_total}
+use Rattle.design.specs.Stored.{offset_count}
 use Rattle.design.specs.Legal.{Legal}
 
--- A table is to be written: table i, whose bits begin at p, into offsets of this length.
+-- A table is to be written: table i, whose bits begin at p, into this many offsets, which are all of it.
 pub record TableInput (d : Design) (i p offsets : ℕ) : Type 0 where
   pub legal : Legal d
   pub i_lt : i < d.m
   pub p-is : p ≡ position d i
-  pub long : offset_total d ≤ offsets
+  pub long : offsets ≡ offset_count d i

@@ -15,7 +15,7 @@ use Rattle.question_text.specs.Question.{
   field,
   question_in,
   kept_of,
-  grown,
+  number_at,
   with_character,
   question_of,
   fed,
@@ -37,7 +37,7 @@ module _ (f : List ℕ) (c : ℕ) where
   -- Any other character belongs to the last field.
   other : eqb c 32 ≡ false → (before : List (List ℕ))
       → with_character (kept_of (before ++ f ∷ [])) c ≡ kept_of (before ++ (f ++ c ∷ []) ∷ [])
-  unfolding with_character kept_of field grown
+  unfolding with_character kept_of field number_at
   other e [] = rw (e, reading-goes-on f c)
   other e (a ∷ []) = rw (e, reading-goes-on f c)
   other e (a ∷ b ∷ []) = rw (e, reading-goes-on f c)
@@ -70,7 +70,7 @@ three-fields n = elim (ℕ_discrete n 3) [
 
 -- What is kept tells what the line is.
 pub kept-tells : (t : List ℕ) → question_of (kept_of (fields t)) ≡ question_in t
-unfolding question_of kept_of question_in
+unfolding question_of kept_of question_in number_at
 kept-tells t =
     rw (
       three-fields (length (fields t)),

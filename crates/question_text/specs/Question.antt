@@ -1,6 +1,6 @@
 -- A line as a question: three decimal numbers, with exactly one space between them and nothing else.
 use Rattle.question_text.specs.declared.Question.{Question}
-use Rattle.std.specs.Prelude.{cond, List, [], ◌∷◌, ◌++◌, ℕ, ◌+◌, ◌-◌, min, eqb, length, get_or, Option, Some, None}
+use Rattle.std.specs.Prelude.{cond, List, [], ◌∷◌, ◌++◌, ℕ, ◌+◌, ◌-◌, min, eqb, length, get_or, slice_set, Option, Some, None}
 use Rattle.word_text.specs.declared.WordText.{WordText}
 use Rattle.word_text.specs.Decimal.{word_in, reading_of, after_character, word_of}
 use Rattle.question_text.specs.declared.QuestionText.{QuestionText}
@@ -37,32 +37,26 @@ question_in t =
 unfoldable pub kept_of : List (List ℕ) → QuestionText
 kept_of fs =
     record {
-      kind = reading_of (field fs 0);
-      w = reading_of (field fs 1);
-      q = reading_of (field fs 2);
+      numbers = reading_of (field fs 0) ∷ reading_of (field fs 1) ∷ reading_of (field fs 2) ∷ [];
       spaces = min (length fs - 1) 3;
     }
 
--- What is kept of the field behind `place` spaces, with one character more where so many spaces came
-unfoldable pub grown : ℕ → ℕ → WordText → ℕ → WordText
-grown place spaces word c = cond (eqb spaces place) (after_character word c) word
+-- What is kept of field n; of no character, where there is no such field
+unfoldable pub number_at : List WordText → ℕ → WordText
+number_at numbers n = get_or numbers n (reading_of [])
 
--- What is kept with one character more: a space, or a character of the field that the spaces so far lead to
+-- What is kept with one character more: a space, or a character of the field that the spaces so far lead to, if it is one of the three
 unfoldable pub with_character : QuestionText → ℕ → QuestionText
 with_character s c =
     cond (eqb c 32)
-    (record { kind = s.kind; w = s.w; q = s.q; spaces = min (s.spaces + 1) 3 })
-    (record {
-      kind = grown 0 s.spaces s.kind c;
-      w = grown 1 s.spaces s.w c;
-      q = grown 2 s.spaces s.q c;
-      spaces = s.spaces;
-    })
+    (record { numbers = s.numbers; spaces = min (s.spaces + 1) 3 })
+    (record { numbers = slice_set s.numbers s.spaces (after_character (number_at s.numbers s.spaces) c); spaces = s.spaces })
 
 -- What a line is, by what is kept of it
 unfoldable pub question_of : QuestionText → Option Question
 question_of s =
-    cond (eqb s.spaces 2) (three_numbers (word_of s.kind) (word_of s.w) (word_of s.q)) None
+    let word = λ (n : ℕ). word_of (number_at s.numbers n) in
+    cond (eqb s.spaces 2) (three_numbers (word 0) (word 1) (word 2)) None
 
 -- What is kept when the characters of a text have come, one after another
 unfoldable pub fed : QuestionText → List ℕ → QuestionText

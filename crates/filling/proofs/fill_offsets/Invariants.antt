@@ -1,10 +1,6 @@
 -- `filling::fill_offsets` meets its contract: the loop keeps `Tables`, the first n tables written, and where the next one begins.
-use Prim.Native.Nat.{◌-◌, ◌≤◌}
 use Rattle.filling.proofs.TableLaws.{Tables}
 use Rattle.filling.proofs.fill_offsets.Given as goal
 
 abbrev pub invariant-loop-i : goal.invariant-loop-i
-invariant-loop-i l = Tables l.d l.initial.offsets l.offsets l.at l.p l.i × (l.i ≤ l.m)
-
-abbrev pub decreases-loop-i : goal.decreases-loop-i
-decreases-loop-i l = l.m - l.i
+invariant-loop-i l = Tables l.d l.initial.offsets l.offsets l.at l.p l.i

@@ -1,109 +1,85 @@
--- `filling::fill_table` meets its contract: the loop keeps `Segments`, the first n segments written and the place of the next.
-use mathlib.Core.Path.{◌≡◌, ap}
-use Prim.Native.Nat.{◌+◌, ◌^◌, ◌≤◌, ◌<◌}
+-- `filling::fill_table` meets its contract: the loop keeps `Segments`, the first n segments written.
+use mathlib.Core.Path.{◌≡◌, ap, ◌∙◌}
+use Prim.Native.Nat.{ℕ, ◌+◌, ◌*◌, ◌^◌, ◌≤◌, ◌<◌}
 use native.Mathlib.Omega.{arith}
-use lib.ListN.{length}
-use lib.Pow.{pow_mono}
 use Rattle.values.specs.declared.rows.Row.{Row}
+use Rattle.design.specs.declared.Design.{Design}
 use Rattle.design.specs.declared.Pair.{Pair}
-use Rattle.design.specs.Limits.{most_in_table, most_table_bits}
-use Rattle.design.specs.Cut.{a_of}
+use Rattle.design.specs.Cut.{pair_at, a_of}
+use Rattle.design.specs.Stored.{offset_count}
 use Rattle.design.proofs.LegalLaws.{limits, slopewise}
 use Rattle.entries.specs.Entries.{hi_at, lo_at}
 use Rattle.entries.proofs.EntryBounds.{offset-input}
 use Rattle.filling.proofs.TableLaws.{slopes-are, segments-start, segments-next, segments-end, segment-room}
 use Rattle.filling.proofs.fill_table.Goals as goal
-use Rattle.filling.proofs.fill_table.Goals.{After-pow2-segments, After-slope_sum-slopes, In-loop-segment}
+use Rattle.filling.proofs.fill_table.Goals.{After-slope_sum-slopes}
+
+-- This turn's segment is one of the table's, and lies within it.
+module _ (d : Design) (i : ℕ) {pair : Pair} (pair-is : pair ≡ pair_at d i) {segments n : ℕ} (segments-told : segments ≡ 2 ^ pair.a)
+    (n-lt : n < segments) where
+  here : n < 2 ^ a_of d i
+  here = rw (segments-told, pair-is) at n-lt
+
+  inside : {size : ℕ} → size ≡ 2 ^ pair.b → n * size + size ≤ offset_count d i
+  inside size-told = rw (size-told, pair-is) (segment-room d i n here)
 
 pub pair_at-pair-requires : goal.pair_at-pair-requires
-pair_at-pair-requires c = (c.requires.table_input.i_lt, (limits _ c.requires.table_input.legal).m-high)
+pair_at-pair-requires c = (c.requires.i_lt, (limits _ c.requires.legal).m-high)
 
 pub row_of-row-requires : goal.row_of-row-requires
-row_of-row-requires c = (limits _ c.requires.table_input.legal).widths.kind-known
+row_of-row-requires c = (limits _ c.requires.legal).widths.kind-known
 
-pub overflow_add-fraction_bits : goal.overflow_add-fraction_bits
-overflow_add-fraction_bits c = omega (arith, (limits _ c.requires.table_input.legal).widths)
+pub overflow_add-segments : goal.overflow_add-segments
+overflow_add-segments c = omega (arith, (limits _ c.requires.legal).widths)
 
-pub pow2-segments-requires : goal.pow2-segments-requires
-pow2-segments-requires c =
-    let pair = c.before.before in
-    let table = pair.requires.table_input in
-    rw pair.pair_at-pair.ensures (omega (arith, (limits _ table.legal).table _ table.i_lt))
+pub invariant_of-segments : goal.invariant_of-segments
+invariant_of-segments c =
+    rw (c.pair_at-pair.ensures, c.row_of-row.ensures) (record { fit = slopewise _ (limits _ c.requires.legal) _ c.requires.i_lt })
+
+pub pow2-size-requires : goal.pow2-size-requires
+pow2-size-requires c = rw c.pair_at-pair.ensures (omega (arith, (limits _ c.requires.legal).table _ c.requires.i_lt))
+
+pub pow2-segment-end-requires : goal.pow2-segment-end-requires
+pow2-segment-end-requires c = rw c.pair_at-pair.ensures (omega (arith, (limits _ c.requires.legal).table _ c.requires.i_lt))
 
 pub loop-segment-init : goal.loop-segment-init
-loop-segment-init c = (segments-start _ _ _ _ c.requires.start_value, omega arith)
+loop-segment-init c = segments-start _ _ _
 
--- the number of segments
-count-is : (c : After-pow2-segments)
-    → c.pow2-segments.result ≡ 2 ^ a_of c.args.d c.args.i
-count-is c = rw c.pair_at-pair.ensures at c.pow2-segments.ensures
+pub overflow_mul-at : goal.overflow_mul-at
+overflow_mul-at c =
+    omega (arith, inside _ _ c.pair_at-pair.ensures c.pow2-segment-end.ensures c.loop-segment-test.true c.pow2-size.ensures, c.requires.long, c.well_formed)
 
-few : (c : After-pow2-segments) → c.pow2-segments.result ≤ most_in_table
-few c =
-    let table = c.requires.table_input in
-    rw (count-is c) (pow_mono {j = most_table_bits} (omega (arith, (limits _ table.legal).table _ table.i_lt)))
+pub overflow_add-at : goal.overflow_add-at
+overflow_add-at c =
+    omega (arith, inside _ _ c.pair_at-pair.ensures c.pow2-segment-end.ensures c.loop-segment-test.true c.pow2-size.ensures, c.requires.long, c.well_formed)
 
--- this turn's segment is one of them
-here : (c : In-loop-segment) → let a = c.args in
-    c.loop-segment.segment < 2 ^ a_of a.d a.i
-here c = rw (count-is c.before.before) at c.loop-segment-test.true
+pub offset_bounds-table-at : goal.offset_bounds-table-at
+offset_bounds-table-at c =
+    omega (arith, inside _ _ c.pair_at-pair.ensures c.pow2-segment-end.ensures c.loop-segment-test.true c.pow2-size.ensures, c.requires.long, c.well_formed)
 
-pub slope_sum-slopes-requires : goal.slope_sum-slopes-requires
-slope_sum-slopes-requires c =
-    let row = c.before.before.before.before in
-    let table = row.requires.table_input in record { slope_input = rw (row.pair_at-pair.ensures, row.row_of-row.ensures) (slopewise _ (limits _ table.legal) _ table.i_lt); segment_bound = rw row.pair_at-pair.ensures (here c) }
+pub slice_bounds-fill_segment-end : goal.slice_bounds-fill_segment-end
+slice_bounds-fill_segment-end c =
+    omega (arith, inside _ _ c.pair_at-pair.ensures c.pow2-segment-end.ensures c.loop-segment-test.true c.pow2-size.ensures, c.requires.long)
 
--- its slopes are the design's,
+-- its slopes are the design's
 slopes-is : (c : After-slope_sum-slopes) → let a = c.args in
     c.slope_sum-slopes.result ≡ hi_at a.d a.i c.loop-segment.segment + lo_at a.d a.i c.loop-segment.segment
-slopes-is c =
-    let row = c.before.before.before.before.before in
-    slopes-are _ _ _ row.row_of-row.ensures (ap (λ (pair : Pair). pair.a) row.pair_at-pair.ensures) c.slope_sum-slopes.ensures
+slopes-is c = slopes-are _ _ _ c.row_of-row.ensures (ap (λ (pair : Pair). pair.a) c.pair_at-pair.ensures) c.slope_sum-slopes.ensures
 
--- and there is room for its offsets
-room : (c : After-slope_sum-slopes) → let pair = c.before.before.before.before.before.before in
-    c.loop-segment.at + 2 ^ pair.pair_at-pair.result.b ≤ length pair.args.offsets.now
-room c =
-    let pair = c.before.before.before.before.before.before in
-    let table = pair.requires.table_input in
-    rw pair.pair_at-pair.ensures
-    (omega (
-      arith,
-      c.loop-segment.invariant.0.place,
-      segment-room pair.args.d pair.args.i table.i_lt _ (here c.before),
-      table.long,
-    ))
-
-pub fill_segment-at-requires : goal.fill_segment-at-requires
-fill_segment-at-requires c =
-    let pair = c.before.before.before.before.before.before.before in
-    let table = pair.requires.table_input in record {
-      offset_input = rw (slopes-is c.before, pair.pair_at-pair.ensures, table.p-is)
-          (offset-input _ (limits _ table.legal) _ _ table.i_lt (here c.before.before));
-      b_in_bounds = omega (arith, room c.before, c.loop-segment.invariant.0.kept);
-    }
-
-pub loop-segment-smaller : goal.loop-segment-smaller
-loop-segment-smaller c = omega arith
+pub fill_segment-requires-clause-offset_input : goal.fill_segment-requires-clause-offset_input
+fill_segment-requires-clause-offset_input c =
+    rw (slopes-is c.before, c.pair_at-pair.ensures, c.requires.p-is)
+    (offset-input _ (limits _ c.requires.legal) _ _ c.requires.i_lt
+    (here _ _ c.pair_at-pair.ensures c.pow2-segment-end.ensures c.loop-segment-test.true))
 
 pub loop-segment-preserved : goal.loop-segment-preserved
 loop-segment-preserved c =
-    let s = c.before.before.before in
-    let r = s.before.before.before.before.before in
-    let call = c.fill_segment-at in
-    let b-is = ap (λ (pair : Pair). pair.b) r.pair_at-pair.ensures in
-    let rising-is = ap (λ (row : Row). row.rising) r.row_of-row.ensures in (
-      rw call.ensures.value
-          (segments-next _ _ s.loop-segment.invariant.0 (slopes-is c.before.before.before) b-is r.requires.table_input.p-is rising-is
-          (room c.before.before.before) call.ensures.offsets_after call.auto.offsets),
-      omega arith,
-    )
+    segments-next _ _ c.requires.long c.loop-segment.invariant (slopes-is c.before.before.before)
+    (ap (λ (pair : Pair). pair.b) c.pair_at-pair.ensures) c.requires.p-is (ap (λ (row : Row). row.rising) c.row_of-row.ensures)
+    (here _ _ c.pair_at-pair.ensures c.pow2-segment-end.ensures c.loop-segment-test.true)
+    (ap (λ (size : ℕ). c.loop-segment.segment * size) c.pow2-size.ensures) (omega (arith, c.pow2-size.ensures)) c.fill_segment.ensures
 
 pub returns : goal.returns
 returns c =
-    let p = c.before.before in
-    let start = p.before.before.before.before in
-    let end : c.loop-segment.segment ≡ 2 ^ a_of start.args.d start.args.i =
-    omega (arith, count-is c.before.before, c.loop-segment.invariant.1, c.loop-segment-test.false) in
-    let all = segments-end _ _ c.loop-segment.invariant.0 end in
-    record { value = all.0; offsets_after = rw start.requires.start_value all.1 }
+    let end : c.loop-segment.segment ≡ c.pow2-segment-end.result = omega arith in
+    segments-end _ _ c.requires.long c.loop-segment.invariant (end ∙ rw c.pair_at-pair.ensures at c.pow2-segment-end.ensures)
