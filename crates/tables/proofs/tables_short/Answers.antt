@@ -8,7 +8,7 @@ use Rattle.tables.proofs.SetLaws.{initial-short, offsets-tried}
 use Rattle.tables.proofs.tables_short.Goals as goal
 
 pub pow2-requires : goal.pow2-requires
-pow2-requires c = omega (arith, limits _ c.requires)
+pow2-requires c = omega (arith, limits _ c.args.legal.legal)
 
 pub returns-then-initial-pow2 : goal.returns-then-initial-pow2
 unfolding initial_count
@@ -21,4 +21,4 @@ unfolding initial_count
 returns-else-initial-pow2 c =
     let a = c.args in
     let long = rw c.pow2.ensures at c.if-initial-pow2.false in
-    rw c.offset_total.ensures (sym (offsets-tried a.d a.initial a.offsets long))
+    rw c.offset_total.ensures (sym (offsets-tried a.legal.design a.initial a.offsets long))
