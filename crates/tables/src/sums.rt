@@ -9,8 +9,8 @@ ghost use Rattle.refusal.specs.Checks.{verdict, verdict_of};
 ghost use Rattle.tables.specs.Set.{set_checks};
 ghost use Rattle.tables.specs.Sum.{offset_for, sum_from, sum_at, sum_outside, word_of};
 
-use crate::lookups::{Lookup, Lookups, lookups_of, place_of};
 use crate::checked_set;
+use crate::lookups::{Lookup, Lookups, lookups_of, place_of};
 use design::{Design, LegalDesign};
 use refusal::Cause;
 use values::{OutputUnits, TableUnits};

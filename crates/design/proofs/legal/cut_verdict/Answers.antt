@@ -64,7 +64,7 @@ pub returns-then-some_breaks : goal.returns-then-some_breaks
 returns-then-some_breaks c =
     rw (
       judged c.args.d (omega (arith, c.well_formed)) (tested c.outside.ensures c.if-outside.false) c.if-d.false
-      (tested c.outside-2.ensures c.if-outside-2.false),
+          (tested c.outside-2.ensures c.if-outside-2.false),
       tested c.some_breaks.ensures c.if-some_breaks.true,
     )
 
@@ -72,7 +72,7 @@ pub returns-then-some_breaks-2 : goal.returns-then-some_breaks-2
 returns-then-some_breaks-2 c =
     rw (
       judged c.args.d (omega (arith, c.well_formed)) (tested c.outside.ensures c.if-outside.false) c.if-d.false
-      (tested c.outside-2.ensures c.if-outside-2.false),
+          (tested c.outside-2.ensures c.if-outside-2.false),
       tested c.some_breaks.ensures c.if-some_breaks.false,
       tested c.some_breaks-2.ensures c.if-some_breaks-2.true,
     )
@@ -81,7 +81,7 @@ pub returns-then-offset_bits-d : goal.returns-then-offset_bits-d
 returns-then-offset_bits-d c =
     rw (
       judged c.args.d (omega (arith, c.well_formed)) (tested c.outside.ensures c.if-outside.false) c.if-d.false
-      (tested c.outside-2.ensures c.if-outside-2.false),
+          (tested c.outside-2.ensures c.if-outside-2.false),
       tested c.some_breaks.ensures c.if-some_breaks.false,
       tested c.some_breaks-2.ensures c.if-some_breaks-2.false,
       ne_eqb _ _ (rw c.offset_bits.ensures at c.if-offset_bits-d.true),
@@ -91,7 +91,7 @@ pub returns : goal.returns
 returns c =
     rw (
       judged c.args.d (omega (arith, c.well_formed)) (tested c.outside.ensures c.if-outside.false) c.if-d.false
-      (tested c.outside-2.ensures c.if-outside-2.false),
+          (tested c.outside-2.ensures c.if-outside-2.false),
       tested c.some_breaks.ensures c.if-some_breaks.false,
       tested c.some_breaks-2.ensures c.if-some_breaks-2.false,
       eq-eqb _ _ (rw c.offset_bits.ensures at c.if-offset_bits-d.false),
