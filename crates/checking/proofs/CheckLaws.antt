@@ -1,5 +1,5 @@
 -- Laws of the check's search, and what its answer means.
-use Rattle.std.specs.Prelude.{Ok}
+use Rattle.std.specs.Prelude.{None, Some, Result, Ok}
 use mathlib.Core.Path.{◌≡◌, refl, sym, ap, ◌∙◌}
 use mathlib.Core.Bool.{Bool, true, false, not, true≢false}
 use mathlib.Core.List.{List}
@@ -11,33 +11,20 @@ use lib.IntN.{ℤ}
 use borrow.Author.Tests.{not-true}
 use Rattle.general.proofs.Tests.{both, both_so}
 use Rattle.general.proofs.Sums.{below_suc}
-use Rattle.refusal.specs.Told.{accepted}
+use Rattle.refusal.specs.declared.Cause.{Cause}
 use Rattle.values.proofs.FaithfulLaws.{faithful-test, faithful-tested}
 use Rattle.design.specs.declared.Design.{Design}
-use Rattle.checking.specs.declared.Checked.{Checked}
-use Rattle.checking.specs.Check.{
-  Finding,
-  all-faithful,
-  lowest-unfaithful,
-  faithful_at,
-  finding_below,
-  found,
-  check_verdict,
-  check_answer,
-  told_by,
-  FaithfulWord,
-  CheckMeans,
-}
+use Rattle.checking.specs.Check.{Finding, faithful_at, finding_below, check_verdict, check_answer, FaithfulWord, CheckMeans}
 
 -- All words below n are faithful,
-pub check-all : (n : ℕ) (test : ℕ → Bool) → ((x : ℕ) → x < n → test x ≡ true) → finding_below n test ≡ all-faithful
+pub check-all : (n : ℕ) (test : ℕ → Bool) → ((x : ℕ) → x < n → test x ≡ true) → finding_below n test ≡ None
 unfolding finding_below
 check-all zero test all = refl
 check-all (suc n) test all = rw (check-all n test (λ x h. all x (le_step h)), all n (le_refl _)) refl
 
 -- or x is the lowest that is not.
 pub check-bad : (n x : ℕ) (test : ℕ → Bool) → x < n → ((i : ℕ) → i < x → test i ≡ true) → test x ≡ false
-    → finding_below n test ≡ lowest-unfaithful x
+    → finding_below n test ≡ Some x
 unfolding finding_below
 check-bad zero x test h below bad = absurd (not-suc-le-zero h)
 check-bad (suc n) x test h below bad =
@@ -65,39 +52,24 @@ all-or-lowest (suc n) test = ⊎_elim more (λ l. inr (l.0, later l.1)) (all-or-
         here false e = inr (n, record { inside = le_refl _; fails = e; below = all })
 
 -- The findings are told apart.
-module _ {x : ℕ} where
-  not-both : all-faithful ≡ lowest-unfaithful x → ⊥
-  not-both e = let z : ◌≡◌ {A = ℕ} 0 1 = cc in absurd (omega arith)
+not-both : {x : ℕ} → ◌≡◌ {A = Finding} None (Some x) → ⊥
+not-both e = let z : ◌≡◌ {A = ℕ} 0 1 = cc in absurd (omega arith)
 
-  same_word : {y : ℕ} → lowest-unfaithful y ≡ lowest-unfaithful x → y ≡ x
-  same_word e = cc
-
--- and each answer tells its own.
-found_all : (finding : Finding) → found finding ≡ Checked.Faithful → finding ≡ all-faithful
-found_all all-faithful e = refl
-found_all (lowest-unfaithful lowest) e = let z : ◌≡◌ {A = ℕ} 0 1 = cc in absurd (omega arith)
-
-found-lowest : (finding : Finding) {x : ℕ} → found finding ≡ Checked.Unfaithful x → finding ≡ lowest-unfaithful x
-found-lowest all-faithful e = let z : ◌≡◌ {A = ℕ} 0 1 = cc in absurd (omega arith)
-found-lowest (lowest-unfaithful lowest) e = cc
+same_word : {x y : ℕ} → ◌≡◌ {A = Finding} (Some y) (Some x) → y ≡ x
+same_word e = cc
 
 -- Read back from what is found among the words below n
 module _ (n : ℕ) (test : ℕ → Bool) where
-  pub all_told : finding_below n test ≡ all-faithful → (x : ℕ) → x < n → test x ≡ true
+  pub all_told : finding_below n test ≡ None → (x : ℕ) → x < n → test x ≡ true
   all_told e =
       ⊎_elim (λ all. all) (λ l. absurd (not-both (sym e ∙ check-bad n l.0 test l.1.inside l.1.below l.1.fails)))
       (all-or-lowest n test)
 
-  pub lowest-told : (x : ℕ) → finding_below n test ≡ lowest-unfaithful x → Lowest n test x
+  pub lowest-told : (x : ℕ) → finding_below n test ≡ Some x → Lowest n test x
   lowest-told x e =
       ⊎_elim (λ all. absurd (not-both (sym (check-all n test all) ∙ e)))
       (λ l. rw (← same_word (sym (check-bad n l.0 test l.1.inside l.1.below l.1.fails) ∙ e)) l.1)
       (all-or-lowest n test)
-
--- The answer tells its verdict and what was found.
-pub found-told : (finding : Finding) → told_by (found finding) ≡ accepted finding
-found-told all-faithful = refl
-found-told (lowest-unfaithful lowest) = refl
 
 module _ (d : Design) (initial : List ℕ) (offsets : List ℤ) (x : ℕ) where
   pub word_test : faithful_at d initial offsets x ≡ true → FaithfulWord d initial offsets x
@@ -116,9 +88,12 @@ module _ (d : Design) (initial : List ℕ) (offsets : List ℤ) (x : ℕ) where
 
 -- Where the refusals pass, the answer is that of the search.
 pub check-searches : (d : Design) (initial : List ℕ) (offsets : List ℤ) → check_verdict d initial offsets ≡ (Ok tt)
-    → check_answer d initial offsets ≡ found (finding_below (2 ^ d.w) (faithful_at d initial offsets))
+    → check_answer d initial offsets ≡ Ok (finding_below (2 ^ d.w) (faithful_at d initial offsets))
 unfolding check_answer
 check-searches d initial offsets passed = rw passed refl
+
+same_values : {finding other : Finding} → ◌≡◌ {A = Result Finding Cause} (Ok finding) (Ok other) → finding ≡ other
+same_values e = cc
 
 test-fails : (t : Bool) → (t ≡ true → ⊥) → t ≡ false
 test-fails true h = absurd (h refl)
@@ -128,10 +103,10 @@ pub check-means : (d : Design) (initial : List ℕ) (offsets : List ℤ) → che
     → CheckMeans d initial offsets
 check-means d initial offsets passed =
     record {
-      says-faithful = λ e x h. word_test d initial offsets x (all_told n test (found_all _ (sym answer ∙ e)) x h);
+      says-faithful = λ e x h. word_test d initial offsets x (all_told n test (given e) x h);
       is-faithful = λ all. said (check-all n test (λ x h. word-tested d initial offsets x (all x h)));
       names = λ x e.
-          let l = lowest-told n test x (found-lowest _ (sym answer ∙ e)) in
+          let l = lowest-told n test x (given e) in
           (l.inside, word-failed d initial offsets x l.fails, λ i h. word_test d initial offsets i (l.below i h));
       is-named = λ x h bad below.
           said (check-bad n x test h (λ i k. word-tested d initial offsets i (below i k))
@@ -147,8 +122,11 @@ check-means d initial offsets passed =
     test : ℕ → Bool
     test = faithful_at d initial offsets
 
-    answer : check_answer d initial offsets ≡ found (finding_below n test)
-    answer = check-searches d initial offsets passed
+    searched : check_answer d initial offsets ≡ Ok (finding_below n test)
+    searched = check-searches d initial offsets passed
 
-    said : {finding : Finding} → finding_below n test ≡ finding → check_answer d initial offsets ≡ found finding
-    said e = answer ∙ ap found e
+    given : {finding : Finding} → check_answer d initial offsets ≡ Ok finding → finding_below n test ≡ finding
+    given e = same_values (sym searched ∙ e)
+
+    said : {finding : Finding} → finding_below n test ≡ finding → check_answer d initial offsets ≡ Ok finding
+    said e = searched ∙ ap (λ (finding : Finding). Ok finding) e

@@ -1,6 +1,5 @@
 -- What a batch comes to, by the verdicts of its words, and how its output is written word by word.
-use Rattle.counting.specs.declared.Counts.{Counts}
-use Rattle.std.specs.Prelude.{Ok, Err, Result}
+use Rattle.std.specs.Prelude.{Ok, Err}
 use mathlib.Core.Path.{◌≡◌, refl, sym, subst}
 use mathlib.Core.List.{List, [], ◌∷◌, ◌++◌, map}
 use Prim.Native.Nat.{ℕ, zero, suc, ◌+◌, ◌≤◌, ◌<◌}
@@ -20,18 +19,17 @@ use Rattle.design.specs.declared.Design.{Design}
 use Rattle.tables.specs.Inputs.{Usable}
 use Rattle.tables.specs.Set.{set_checks}
 use Rattle.tables.proofs.SetLaws.{usable}
-use Rattle.evaluating.specs.declared.Batched.{Batched}
-use Rattle.evaluating.specs.Batch.{output_check, room_verdict, with_word, batch_below}
+use Rattle.evaluating.specs.Batch.{Batched, refused_at, output_check, room_verdict, with_word, batch_below}
 
 -- Words that all pass are counted,
-pub batch-all : (n : ℕ) (word : ℕ → Verdict) → ((i : ℕ) → i < n → word i ≡ (Ok tt)) → batch_below n word ≡ Batched.Count n
+pub batch-all : (n : ℕ) (word : ℕ → Verdict) → ((i : ℕ) → i < n → word i ≡ (Ok tt)) → batch_below n word ≡ Ok n
 unfolding batch_below
 batch-all zero word all = refl
 batch-all (suc n) word all = rw (batch-all n word (λ i h. all i (le_step h)), all n (le_refl _))
 
 -- and the lowest that does not refuses the batch, whatever follows.
 pub batch-bad : (n i : ℕ) (word : ℕ → Verdict) (cause : Cause) → i < n → ((j : ℕ) → j < i → word j ≡ (Ok tt))
-    → word i ≡ Err cause → batch_below n word ≡ Batched.Refused cause i
+    → word i ≡ Err cause → batch_below n word ≡ refused_at i cause
 unfolding batch_below
 batch-bad zero i word cause h all bad = absurd (not-suc-le-zero h)
 batch-bad (suc n) i word cause h all bad =
@@ -40,26 +38,26 @@ batch-bad (suc n) i word cause h all bad =
     (λ (below : i < n). rw (batch-bad n i word cause below all bad))
 
 -- A batch that is counted has words that all pass.
-abbrev (Result Counts Cause) : Batched → Type 0
-(Result Counts Cause) (Batched.Count count) = Unit {0}
-(Result Counts Cause) (Batched.Refused cause place) = ⊥
+abbrev Counted : Batched → Type 0
+Counted (Ok count) = Unit {0}
+Counted (Err refusal) = ⊥
 
-both-counted : (before : Batched) (word : Verdict) (n : ℕ) → (Result Counts Cause) (with_word before word n)
-    → (Result Counts Cause) before × (word ≡ (Ok tt))
-both-counted (Batched.Count count) (Ok tt) n c = (tt, refl)
-both-counted (Batched.Count count) (Err cause) n c = absurd c
-both-counted (Batched.Refused cause place) word n c = absurd c
+both-counted : (before : Batched) (word : Verdict) (n : ℕ) → Counted (with_word before word n)
+    → Counted before × (word ≡ (Ok tt))
+both-counted (Ok count) (Ok tt) n c = (tt, refl)
+both-counted (Ok count) (Err cause) n c = absurd c
+both-counted (Err refusal) word n c = absurd c
 
-each-passed : (n : ℕ) (word : ℕ → Verdict) → (Result Counts Cause) (batch_below n word) → (i : ℕ) → i < n → word i ≡ (Ok tt)
+each-passed : (n : ℕ) (word : ℕ → Verdict) → Counted (batch_below n word) → (i : ℕ) → i < n → word i ≡ (Ok tt)
 unfolding batch_below
 each-passed zero word c i h = absurd (not-suc-le-zero h)
 each-passed (suc n) word c i h =
     let both = both-counted (batch_below n word) (word n) n c in
     below_suc h (λ (at : i ≡ n). rw at both.1) (each-passed n word both.0 i)
 
-pub batch-passed : (n count : ℕ) (word : ℕ → Verdict) → batch_below n word ≡ Batched.Count count
+pub batch-passed : (n count : ℕ) (word : ℕ → Verdict) → batch_below n word ≡ Ok count
     → (i : ℕ) → i < n → word i ≡ (Ok tt)
-batch-passed n count word e = each-passed n word (subst (Result Counts Cause) (sym e) tt)
+batch-passed n count word e = each-passed n word (subst Counted (sym e) tt)
 
 -- What a batch that passes 1 to 10 and 14 tells.
 pub room-tells : (d : Design) (initial : List ℕ) (offsets : List ℤ) (words output : ℕ)

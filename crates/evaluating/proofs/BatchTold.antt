@@ -18,9 +18,9 @@ use Rattle.refusal.specs.Told.{accepted, refused, told_at}
 use Rattle.refusal.proofs.Checks.{after, verdict-append}
 use Rattle.design.specs.declared.Design.{Design}
 use Rattle.tables.specs.Set.{set_checks}
-use Rattle.evaluating.specs.declared.Batched.{Batched}
 use Rattle.evaluating.specs.Evaluate.{word_checks}
 use Rattle.evaluating.specs.Batch.{
+  Batched,
   output_check,
   room_verdict,
   with_word,
@@ -38,13 +38,13 @@ use Rattle.evaluating.specs.Batch.{
 
 -- The refusal of a batch's answer, without its place
 abbrev refusal : Batched → Verdict
-refusal (Batched.Count count) = (Ok tt)
-refusal (Batched.Refused cause place) = Err cause
+refusal (Ok count) = Ok tt
+refusal (Err at) = Err at.cause
 
 more-refusal : (before : Batched) (word : Verdict) (n : ℕ) → refusal (with_word before word n) ≡ after (refusal before) word
-more-refusal (Batched.Count count) (Ok tt) n = refl
-more-refusal (Batched.Count count) (Err cause) n = refl
-more-refusal (Batched.Refused cause place) word n = refl
+more-refusal (Ok count) (Ok tt) n = refl
+more-refusal (Ok count) (Err cause) n = refl
+more-refusal (Err at) word n = refl
 
 -- It is that of all checks in their order.
 words-refusal : (n : ℕ) (word : ℕ → List Check) → refusal (batch_below n (λ i. verdict (word i))) ≡ verdict (checks_below n word)
@@ -57,14 +57,14 @@ words-refusal (suc n) word =
 
 -- The place in an answer for n words is the number of words that pass before it, and its count is n.
 abbrev Placed : ℕ → ℕ → Batched → Type 0
-Placed n before (Batched.Count count) = (count ≡ n) × (before ≡ n)
-Placed n before (Batched.Refused cause place) = (place ≡ before) × (before < n)
+Placed n before (Ok count) = (count ≡ n) × (before ≡ n)
+Placed n before (Err at) = (at.place ≡ before) × (before < n)
 
 more-placed : (n before : ℕ) (answer : Batched) (word : Verdict) → Placed n before answer
     → Placed (suc n) (cond (eqb before n && passes word) (suc n) before) (with_word answer word n)
-more-placed n before (Batched.Count count) (Ok tt) p = rw (eq-eqb before n p.1) (refl, refl)
-more-placed n before (Batched.Count count) (Err cause) p = rw (eq-eqb before n p.1) (sym p.1, rw p.1 (le_refl _))
-more-placed n before (Batched.Refused cause place) word p = rw (ne_eqb before n (λ e. omega (arith, p.1))) (p.0, le_step p.1)
+more-placed n before (Ok count) (Ok tt) p = rw (eq-eqb before n p.1) (refl, refl)
+more-placed n before (Ok count) (Err cause) p = rw (eq-eqb before n p.1) (sym p.1, rw p.1 (le_refl _))
+more-placed n before (Err at) word p = rw (ne_eqb before n (λ e. omega (arith, p.1))) (p.0, le_step p.1)
 
 words_placed : (n : ℕ) (word : ℕ → Verdict) → Placed n (passing n word) (batch_below n word)
 unfolding batch_below passing
@@ -74,8 +74,8 @@ words_placed (suc n) word = more-placed n (passing n word) (batch_below n word) 
 placed-told : (n before : ℕ) (room : Verdict) (answer : Batched) → Placed n before answer
     → told_by (after_room room answer) ≡ told_at (after room (refusal answer)) (place_if room before) n
 placed-told n before (Err cause) answer p = refl
-placed-told n before (Ok tt) (Batched.Count count) p = ap accepted p.0
-placed-told n before (Ok tt) (Batched.Refused cause place) p = ap (refused (number_of cause)) p.0
+placed-told n before (Ok tt) (Ok count) p = ap accepted p.0
+placed-told n before (Ok tt) (Err at) p = ap (refused (number_of at.cause)) p.0
 
 pub batch-told : (d : Design) (initial : List ℕ) (offsets : List ℤ) (words : List ℕ) (output : ℕ)
     → told_by (batch_answer d initial offsets words output) ≡ batch_told d initial offsets words output

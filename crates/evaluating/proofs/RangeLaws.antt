@@ -7,7 +7,9 @@ use native.Mathlib.Nat.{le_refl, le_step}
 use native.Mathlib.Omega.{arith}
 use borrow.Author.Tests.{ltb-true, leb-false, le-ltb, lt-leb}
 use lib.Dec.{ltb, leb}
-use lib.ListN.{length, get_or}
+use lib.ListN.{length, get_or, take}
+use lib.Seq.{length-take-le}
+use Rattle.std.proofs.Common.{get_or-take}
 use lib.IntN.{ℤ, pos, negsuc, sub_ℕ, ◌+ℤ◌, +ℤ_assoc, +ℤ_idr}
 use lib.Signed.{mag}
 use Rattle.general.specs.Below.{largest, some_below, signed_sum}
@@ -16,8 +18,8 @@ use Rattle.refusal.specs.Checks.{outside, verdict}
 use Rattle.refusal.proofs.Checks.{inside}
 use Rattle.values.specs.Value.{word_check}
 use Rattle.design.specs.declared.Design.{Design}
-use Rattle.design.specs.Cut.{sum_limit, initial_word, offset_word}
-use Rattle.design.specs.Stored.{initial_count, offset_total}
+use Rattle.design.specs.Cut.{sum_limit, initial_word, segment_word, offset_word}
+use Rattle.design.specs.Stored.{initial_count, offset_total, offset_place}
 use Rattle.design.proofs.LegalLaws.{Limits}
 use Rattle.design.proofs.StoredLaws.{place-in-total, from-size}
 use Rattle.design.proofs.CutLaws.{segment-word-lt, offset-word-lt, initial-word-lt}
@@ -60,29 +62,47 @@ moved-by-all n R (suc count) f small h =
       },
     )
 
-module _ (d : Design) (l : Limits d) (initial : List ℕ) (offsets : List ℤ) where
-  -- the offsets that x looks up are among those that were looked at
+module _ (d : Design) (l : Limits d) (initial : List ℕ) (offsets : List ℤ) (initial-long : initial_count d ≤ length initial)
+    (offsets-long : offset_total d ≤ length offsets) where
+  -- the offsets that are looked at, and the largest magnitude among them
+  abbrev used : List ℤ
+  used = take (offset_total d) offsets
+
+  abbrev most-used : ℕ
+  most-used = largest (length used) (λ (j : ℕ). mag (get_or used j (pos 0)))
+
+  -- the initial entries that are
+  abbrev entries : List ℕ
+  entries = take (initial_count d) initial
+
+  -- the offsets that x looks up are among those
   offset-small : (x i : ℕ) → x < 2 ^ d.w → i < d.m
-      → mag (offset_for d offsets x i) < largest (offset_total d) (λ (j : ℕ). mag (get_or offsets j (pos 0))) + 1
+      → mag (offset_for d offsets x i) < most-used + 1
   unfolding offset_for
   offset-small x i word more =
       let place = place-in-total d i _ _ more (segment-word-lt d l i x more word) (offset-word-lt d i x) in
-      rw (from-size d i (offset_word d i x)) (omega (arith, largest-above (offset_total d) (λ (j : ℕ). mag (get_or offsets j (pos 0))) _ place))
+      let place-used : (offset_place d i (segment_word d i x) (offset_word d i x)) < length used = rw (length-take-le (offset_total d) offsets offsets-long) place in
+      let among = rw (get_or-take (offset_total d) offsets _ (pos 0) place) at
+      (largest-above (length used) (λ (j : ℕ). mag (get_or used j (pos 0))) _ place-used) in
+      rw (from-size d i (offset_word d i x)) (omega (arith, among))
 
   within-limit : {k limit : ℕ} → limit ≡ sum_limit d → k < limit → sum_outside d (pos k) ≡ false
   unfolding sum_outside
   within-limit {k} e h = simp (le-ltb k 0 (omega arith), lt-leb _ _ (rw e at h))
 
-  pub sums-stay : (reach limit : ℕ) → reach ≡ d.m * (largest (offset_total d) (λ (j : ℕ). mag (get_or offsets j (pos 0))) + 1)
+  pub sums-stay : (reach limit : ℕ) → reach ≡ d.m * (most-used + 1)
       → limit ≡ sum_limit d → reach < limit
-      → some_below (initial_count d) (λ (A : ℕ). outside reach (limit - reach - 1) (get_or initial A 0)) ≡ false
+      → some_below (length entries) (λ (A : ℕ). outside reach (limit - reach - 1) (get_or entries A 0)) ≡ false
       → SumsInRange d initial offsets
   unfolding sum_at
   sums-stay reach limit reach-is limit_is room none x word =
+      let A-lt = initial-word-lt d l x word in
+      let inside-entries : initial_word d x < length entries = rw (length-take-le (initial_count d) initial initial-long) A-lt in
       let between = inside reach (limit - reach - 1) (get_or initial (initial_word d x) 0)
-      (none_below (initial_count d) (λ (A : ℕ). outside reach (limit - reach - 1) (get_or initial A 0)) none (initial_word d x)
-      (initial-word-lt d l x word)) in
-      let sum = moved-by-all (get_or initial (initial_word d x) 0) (largest (offset_total d) (λ (j : ℕ). mag (get_or offsets j (pos 0))) + 1)
+      (rw (get_or-take (initial_count d) initial _ 0 A-lt) at
+      (none_below (length entries) (λ (A : ℕ). outside reach (limit - reach - 1) (get_or entries A 0)) none (initial_word d x)
+      inside-entries)) in
+      let sum = moved-by-all (get_or initial (initial_word d x) 0) (most-used + 1)
       d.m (offset_for d offsets x) (λ i more. offset-small x i word more) (rw reach-is at between.0) in
       let high = rw (← reach-is) at sum.1.high in
       ap (sum_outside d) sum.1.is ∙ within-limit limit_is (omega (arith, between.1, high, room))

@@ -1,21 +1,18 @@
 -- What refusals 12 and 13 of a word come to, and what a word that passes them tells.
 use Rattle.std.specs.Prelude.{Ok, Err}
-use mathlib.Core.Path.{◌≡◌, refl}
+use mathlib.Core.Path.{◌≡◌}
 use mathlib.Core.Bool.{true, false}
 use mathlib.Core.List.{List}
 use Prim.Native.Nat.{ℕ, ◌^◌, ◌≤◌, ◌<◌}
-use native.Mathlib.Omega.{arith}
 use lib.IntN.{ℤ}
 use borrow.Author.Tests.{leb-false, le-leb, lt-leb}
 use Rattle.refusal.specs.declared.Cause.{Cause}
-use Rattle.refusal.specs.Verdict.{Verdict}
 use Rattle.refusal.specs.Checks.{verdict}
 use Rattle.refusal.proofs.Checks.{none-fails}
-use Rattle.values.specs.declared.OutputUnits.{OutputUnits}
 use Rattle.values.specs.Value.{word_check}
 use Rattle.design.specs.declared.Design.{Design}
 use Rattle.tables.specs.Sum.{sum_at, sum_outside}
-use Rattle.evaluating.specs.Evaluate.{word_checks, evaluated}
+use Rattle.evaluating.specs.Evaluate.{word_checks}
 
 module _ (d : Design) (initial : List ℕ) (offsets : List ℤ) (x : ℕ) where
   pub word-past : 2 ^ d.w ≤ x → verdict (word_checks d initial offsets x) ≡ Err Cause.WordRange
@@ -38,12 +35,3 @@ module _ (d : Design) (initial : List ℕ) (offsets : List ℤ) (x : ℕ) where
   passed-word e =
       let none = none-fails (word_checks d initial offsets x) e in
       (leb-false _ _ none.0, none.1.0)
-
--- The answer for a word tells its verdict.
-pub evaluated_refused : (v : Verdict) (word : ℕ) {cause : Cause} → evaluated v word ≡ Err cause → v ≡ Err cause
-evaluated_refused (Ok tt) word e = let z : ◌≡◌ {A = ℕ} 0 1 = cc in absurd (omega arith)
-evaluated_refused (Err cause) word e = cc
-
-pub evaluated-word : (v : Verdict) (word : ℕ) {units : OutputUnits} → evaluated v word ≡ Ok units → v ≡ (Ok tt)
-evaluated-word (Ok tt) word e = refl
-evaluated-word (Err cause) word e = let z : ◌≡◌ {A = ℕ} 0 1 = cc in absurd (omega arith)

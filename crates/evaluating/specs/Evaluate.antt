@@ -4,7 +4,7 @@ use Rattle.std.specs.Prelude.{List, [], ◌∷◌, ◌++◌, ℕ, length, ℤ, R
 use Rattle.refusal.specs.declared.Cause.{Cause}
 use Rattle.refusal.specs.Verdict.{Verdict}
 use Rattle.refusal.specs.Numbers.{number_of}
-use Rattle.refusal.specs.Checks.{Check, ◌↝◌, verdict, if_passed}
+use Rattle.refusal.specs.Checks.{Check, ◌↝◌, verdict, answer}
 use Rattle.refusal.specs.Told.{Told, accepted, refused, told}
 use Rattle.values.specs.Value.{word_check}
 use Rattle.design.specs.declared.Design.{Design}
@@ -19,13 +19,13 @@ unfoldable pub evaluate_verdict : Design → List ℕ → List ℤ → ℕ → V
 evaluate_verdict d initial offsets x = verdict (set_checks d (length initial) (length offsets) ++ word_checks d initial offsets x)
 
 abbrev pub evaluated : Verdict → ℕ → Result OutputUnits Cause
-evaluated v word = if_passed v (Ok (record { 0 = word })) Err
+evaluated v word = answer v (record { 0 = word })
 
 unfoldable pub evaluate_answer : Design → List ℕ → List ℤ → ℕ → Result OutputUnits Cause
 evaluate_answer d initial offsets x = evaluated (evaluate_verdict d initial offsets x) (word_at d initial offsets x)
 
 -- What each answer tells: the word, in output units, or the refusal's number
-abbrev pub told_by : (Result OutputUnits Cause) → Told ℕ
+abbrev pub told_by : Result OutputUnits Cause → Told ℕ
 told_by (Ok word) = accepted word.0
 told_by (Err cause) = refused (number_of cause) 0
 

@@ -4,8 +4,7 @@ use Rattle.refusal.specs.Checks.{verdict}
 use Rattle.values.specs.Value.{word_check}
 use Rattle.design.specs.declared.Design.{Design}
 use Rattle.tables.specs.Sum.{sum_at, sum_outside}
-use Rattle.evaluating.specs.declared.Batched.{Batched}
-use Rattle.evaluating.specs.Batch.{batch_below}
+use Rattle.evaluating.specs.Batch.{Batched, batch_below}
 
 -- Every word's sum is in range, "0 ≤ Y < 2^(P+2)".
 abbrev pub SumsInRange : Design → List ℕ → List ℤ → Type 0

@@ -1,9 +1,9 @@
 -- Document 02, A6: the size in bits, and what the call `size` answers.
 use Rattle.refusal.specs.declared.Cause.{Cause}
-use Rattle.std.specs.Prelude.{[], ◌∷◌, ◌++◌, ℕ, ◌+◌, ◌*◌, Result, Ok, Err}
+use Rattle.std.specs.Prelude.{Result, [], ◌∷◌, ◌++◌, ℕ, ◌+◌, ◌*◌}
 use Rattle.general.specs.Below.{sum_below}
 use Rattle.refusal.specs.Verdict.{Verdict}
-use Rattle.refusal.specs.Checks.{verdict, if_passed}
+use Rattle.refusal.specs.Checks.{verdict, answer}
 use Rattle.refusal.specs.Told.{Told, told}
 use Rattle.design.specs.declared.Design.{Design}
 use Rattle.design.specs.Cut.{fraction_bits}
@@ -28,7 +28,7 @@ unfoldable pub size_verdict : Design → Verdict
 size_verdict d = verdict (design_checks d ++ admitted_check d ∷ [])
 
 unfoldable pub size_answer : Design → Result ℕ Cause
-size_answer d = if_passed (size_verdict d) (Ok (size d)) Err
+size_answer d = answer (size_verdict d) (size d)
 
 -- What is to be told
 unfoldable pub size_told : Design → Told ℕ

@@ -2,11 +2,11 @@
 #![tactic(auto)]
 
 ghost use Rattle.std.specs.Prelude.{◌≡◌, ◌+◌, ◌*◌, ◌^◌, ◌≤◌, ◌<◌};
+ghost use Rattle.refusal.specs.Told.{told_by};
 ghost use Rattle.values.specs.Room.{finest_unit};
 ghost use Rattle.design.specs.Limits.{most_initial_bits};
 ghost use Rattle.design.specs.Cut as Cut;
 ghost use Rattle.design.specs.Legal.{Legal};
-ghost use Rattle.design.specs.Answers.{told_by};
 ghost use Rattle.entries.specs.Inputs.{OffsetInput};
 ghost use Rattle.sizing.specs.Width.{offset_bits};
 ghost use Rattle.sizing.specs.Size.{table_size, size_answer, size_told};

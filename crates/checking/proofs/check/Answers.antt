@@ -1,58 +1,48 @@
 -- `checking::check` meets its contract: refusals 1 to 10, then the search.
-use Rattle.std.specs.Prelude.{Ok, Err}
-use mathlib.Core.Path.{◌≡◌, refl, sym, ap, ◌∙◌}
+use Rattle.std.specs.Prelude.{Result, Ok, Err}
+use Rattle.std.proofs.lemmas.Result.{err_from_is_err_and}
+use mathlib.Core.Path.{◌≡◌, sym, ap, ◌∙◌}
 use mathlib.Core.List.{List}
 use Prim.Native.Nat.{ℕ, ◌^◌}
 use lib.IntN.{ℤ}
 use lib.ListN.{length}
 use Rattle.refusal.specs.declared.Cause.{Cause}
+use Rattle.refusal.specs.Checks.{verdict}
+use Rattle.refusal.specs.Told.{told_by}
 use Rattle.refusal.proofs.Answers.{answer-told}
 use Rattle.design.specs.declared.Design.{Design}
-use Rattle.design.proofs.LegalLaws.{limits}
-use Rattle.tables.specs.Inputs.{Usable}
-use Rattle.tables.proofs.SetLaws.{usable}
-use Rattle.checking.specs.declared.Checked.{Checked}
-use Rattle.checking.specs.Check.{faithful_at, finding_below, found, check_verdict, check_answer, told_by, check_told}
-use Rattle.checking.proofs.CheckLaws.{check-searches, found-told}
+use Rattle.tables.specs.declared.sums.TableSet.{TableSet}
+use Rattle.tables.specs.Set.{set_checks}
+use Rattle.checking.specs.Check.{Finding, faithful_at, finding_below, check_verdict, check_answer, check_told}
+use Rattle.checking.proofs.CheckLaws.{check-searches}
 use Rattle.checking.proofs.check.Goals as goal
-use Rattle.checking.proofs.check.Goals.{In_default}
 
 module _ (d : Design) (initial : List ℕ) (offsets : List ℤ) where
   -- what is promised of an answer
-  abbrev Promised : Checked → Type 0
-  Promised r = (r ≡ check_answer d initial offsets) × (told_by r ≡ check_told d initial offsets)
+  abbrev Promised : Result Finding Cause → Type 0
+  Promised r = record { answer : r ≡ check_answer d initial offsets; told : told_by r ≡ check_told d initial offsets }
 
-  promised : (r : Checked) → r ≡ check_answer d initial offsets → Promised r
+  promised : (r : Result Finding Cause) → r ≡ check_answer d initial offsets → Promised r
   unfolding check_answer check_told
-  promised r e = (e, ap told_by e ∙ answer-told told_by (check_verdict d initial offsets) _ Checked.Refused _ (found-told _) (λ cause. refl))
+  promised r e = record { answer = e; told = ap told_by e ∙ answer-told (check_verdict d initial offsets) _ }
 
-  refused : (cause : Cause) → check_verdict d initial offsets ≡ Err cause → Promised (Checked.Refused cause)
-  unfolding check_answer
-  refused cause e = promised _ (rw e)
+  refused : (cause : Cause) → Err cause ≡ verdict (set_checks d (length initial) (length offsets)) → Promised (Err cause)
+  unfolding check_answer check_verdict
+  refused cause e = promised _ (rw (← e))
 
-  searched : check_verdict d initial offsets ≡ (Ok tt) → (r : Checked)
-      → r ≡ found (finding_below (2 ^ d.w) (faithful_at d initial offsets)) → Promised r
-  searched e r r-is = promised r (r-is ∙ sym (check-searches d initial offsets e))
+  searched : Ok tt ≡ verdict (set_checks d (length initial) (length offsets)) → (set : TableSet)
+      → (set.tables.design ≡ d) × (set.initial.now ≡ initial) × (set.tables.offsets.now ≡ offsets) → (found : Finding)
+      → found ≡ finding_below (2 ^ set.tables.design.w) (faithful_at set.tables.design set.initial.now set.tables.offsets.now)
+      → Promised (Ok found)
+  unfolding check_verdict
+  searched e set kept found found-is =
+      let same : found ≡ finding_below (2 ^ d.w) (faithful_at d initial offsets) = rw (kept.0, kept.1, kept.2) at found-is in
+      promised _ (rw same (sym (check-searches d initial offsets (sym e))))
 
-pub returns-in-Refused : goal.returns-in-Refused
-unfolding check_verdict
-returns-in-Refused c = let p = refused _ _ _ _ (sym c.set_verdict.ensures ∙ c.in-Refused.is) in record { answer = p.0; told = p.1 }
-
--- where the set's verdict passed
-set : (c : In_default) → let a = c.args in
-    Usable a.d (length a.initial.now) (length a.offsets.now)
-set c = usable _ _ _ (sym c.set_verdict.ensures ∙ c.in_default.is)
-
-pub lookups_of-requires : goal.lookups_of-requires
-lookups_of-requires c = (set c).legal
-
-pub row_of-requires : goal.row_of-requires
-row_of-requires c = (limits _ ((let set' : (let a = c.args in Usable a.d (length a.initial.now) (length a.offsets.now)) = usable _ _ _ (sym c.set_verdict.ensures ∙ c.in_default.is) in set')).legal).widths.kind-known
-
-pub search-requires : goal.search-requires
-search-requires c = record { usable = (let set' : (let a = c.args in Usable a.d (length a.initial.now) (length a.offsets.now)) = usable _ _ _ (sym c.set_verdict.ensures ∙ c.in_default.is) in set'); lookups_value = c.lookups_of.ensures; row_value = c.row_of.ensures }
+pub returns-in_err-set : goal.returns-in_err-set
+returns-in_err-set c =
+    let r = err_from_is_err_and c.from_residual.result c.from_residual.ensures.1 in
+    rw (r.1, r.2) (refused _ _ _ _ c.in_err-set.ensures.verdict)
 
 pub returns : goal.returns
-unfolding check_verdict
-returns c =
-    let b = c.before.before.before.before in let p = searched _ _ _ (sym b.set_verdict.ensures ∙ b.in_default.is) _ c.search.ensures in record { answer = p.0; told = p.1 }
+returns c = searched _ _ _ c.in_ok-set.ensures.verdict c.in_ok-set.set c.in_ok-set.ensures.kept _ c.search.ensures

@@ -4,12 +4,10 @@ use Rattle.evaluating.proofs.WordLaws.{passed-word}
 use Rattle.evaluating.proofs.word.Goals as goal
 
 pub sum_of-requires : goal.sum_of-requires
-sum_of-requires c = let p = c.requires in record { usable = p.usable; lookups_value = p.lookups_value; x_bound = (passed-word _ _ _ _ p.x_value).0 }
+sum_of-requires c = (passed-word _ _ _ _ c.requires).0
 
 pub word_of-requires : goal.word_of-requires
-word_of-requires c =
-    let e = c.requires in
-    record { legal = e.usable.legal; sum_value = rw c.sum_of.ensures (passed-word _ _ _ _ e.x_value).1 }
+word_of-requires c = rw c.sum_of.ensures (passed-word _ _ _ _ c.requires).1
 
 pub returns : goal.returns
 unfolding word_at

@@ -5,12 +5,13 @@ use Prim.Native.Nat.{ℕ}
 use Rattle.refusal.specs.declared.Cause.{Cause}
 use Rattle.design.specs.declared.Design.{Design}
 use Rattle.design.specs.Legal.{Legal, design_checks, design_verdict}
-use Rattle.design.specs.Answers.{told_by}
+use Rattle.refusal.specs.Told.{told_by}
 use Rattle.design.proofs.LegalLaws.{limits, guard_small}
 use Rattle.design.proofs.AdmittedLaws.{refused-before, not-admitted, admitted}
 use Rattle.sizing.specs.Size.{size, size_verdict, size_answer, size_told}
+use Rattle.std.proofs.lemmas.Result.{err_from_is_err_and}
 use Rattle.sizing.proofs.size.Goals as goal
-use Rattle.sizing.proofs.size.Goals.{In_default}
+use Rattle.sizing.proofs.size.Goals.{In_ok-design_verdict}
 
 -- what is promised by the verdict
 module _ (d : Design) where
@@ -25,14 +26,16 @@ module _ (d : Design) where
   unfolding size_answer size_told
   answered bits e is = rw (e, is) (refl, refl)
 
-pub returns-in-Refused : goal.returns-in-Refused
+pub returns-in_err-design_verdict : goal.returns-in_err-design_verdict
 unfolding size_verdict design_verdict
-returns-in-Refused c = let p = refused-with _ _
-    (refused-before _ (design_checks _) _ (sym c.design_verdict.ensures ∙ c.in-Refused.is)) in record { answer = p.0; told = p.1 }
+returns-in_err-design_verdict c =
+    let r = err_from_is_err_and c.from_residual.result c.from_residual.ensures.1 in
+    let p = refused-with _ _ (refused-before _ (design_checks _) _ (sym c.design_verdict.ensures ∙ c.in_err-design_verdict.was)) in
+    rw (r.1, r.2) (record { answer = p.0; told = p.1 })
 
 -- where the verdict passed
-legal : (c : In_default) → Legal c.args.d
-legal c = sym c.design_verdict.ensures ∙ c.in_default.is
+legal : (c : In_ok-design_verdict) → Legal c.args.d
+legal c = sym c.design_verdict.ensures ∙ c.in_ok-design_verdict.was
 
 pub limit_of-requires : goal.limit_of-requires
 limit_of-requires c = guard_small _ (limits _ (legal c))
@@ -43,8 +46,9 @@ budget_of-requires c = legal c.before
 pub returns-then-limit_of-budget_of : goal.returns-then-limit_of-budget_of
 unfolding size_verdict design_verdict
 returns-then-limit_of-budget_of c =
-    let b = c.before in let p = refused-with _ _
-    (not-admitted _ (design_checks _) (legal c.before.before.before) (rw (b.limit_of.ensures, b.budget_of.ensures) at c.if-limit_of-budget_of.true)) in record { answer = p.0; told = p.1 }
+    let p = refused-with _ _ (not-admitted _ (design_checks _) (legal c.before.before.before) (rw
+        (c.limit_of.ensures, c.budget_of.ensures) at c.if-limit_of-budget_of.true)) in
+    record { answer = p.0; told = p.1 }
 
 pub size_of-requires : goal.size_of-requires
 size_of-requires c = legal c.before.before.before
@@ -52,6 +56,6 @@ size_of-requires c = legal c.before.before.before
 pub returns : goal.returns
 unfolding size_verdict design_verdict
 returns c =
-    let b = c.before.before in let p = answered _ _
-    (admitted _ (design_checks _) (legal c.before.before.before.before) (rw (b.limit_of.ensures, b.budget_of.ensures) at
-    c.if-limit_of-budget_of.false)) c.size_of.ensures in record { answer = p.0; told = p.1 }
+    let p = answered _ _ (admitted _ (design_checks _) (legal c.before.before.before.before) (rw (c.limit_of.ensures, c.budget_of.ensures) at
+        c.if-limit_of-budget_of.false)) c.size_of.ensures in
+    record { answer = p.0; told = p.1 }

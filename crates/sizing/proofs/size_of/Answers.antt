@@ -55,19 +55,14 @@ pair_at-position-requires c = (c.loop-i-test.true, (limits _ c.requires).m-high)
 
 pub overflow_add-position : goal.overflow_add-position
 overflow_add-position c =
-    let b = c.before.before.before in
-    let l = limits _ b.requires in
-    rw (c.pair_at-position.ensures, b.loop-i.invariant.place)
-    (omega (arith, bits-end _ l _ b.loop-i-test.true, l.table _ b.loop-i-test.true, l.alpha-high, l.widths.room.w-small))
-
-pub loop-i-smaller : goal.loop-i-smaller
-loop-i-smaller c = omega arith
+    let l = limits _ c.requires in
+    rw (c.pair_at-position.ensures, c.loop-i.invariant.place)
+    (omega (arith, bits-end _ l _ c.loop-i-test.true, l.table _ c.loop-i-test.true, l.alpha-high, l.widths.room.w-small))
 
 pub loop-i-preserved : goal.loop-i-preserved
 unfolding Cut.position
 loop-i-preserved c =
-    let b = c.before.before.before in
-    let inv = b.loop-i.invariant in
+    let inv = c.loop-i.invariant in
     record {
       bits_are = grown _ _ _ _ inv.bits_are c.table_size-bits.ensures;
       place = ap₂ ◌+◌ inv.place (ap (λ (p : Pair). p.b) c.pair_at-position.ensures) ∙ sym (sum-next _ (b_of _));
@@ -75,7 +70,7 @@ loop-i-preserved c =
       small = omega (
         arith,
         c.table_size-bits.ensures,
-        table-size-small _ _ (limits _ b.requires) b.loop-i-test.true,
+        table-size-small _ _ (limits _ c.requires) c.loop-i-test.true,
         inv.small,
       );
     }

@@ -1,6 +1,6 @@
 -- `sizing::size_of` meets its contract: after n turns `bits` is the size of the initial table and the first n, and `position` is p_n.
 use mathlib.Core.Path.{◌≡◌}
-use Prim.Native.Nat.{ℕ, ◌+◌, ◌*◌, ◌-◌, ◌≤◌}
+use Prim.Native.Nat.{ℕ, ◌+◌, ◌*◌, ◌≤◌}
 use Rattle.general.specs.Below.{sum_below}
 use Rattle.design.specs.declared.Design.{Design}
 use Rattle.design.specs.Cut.{b_of}
@@ -17,6 +17,3 @@ pub record Inv (d : Design) (bits at i : ℕ) : Type 0 where
 
 abbrev pub invariant-loop-i : goal.invariant-loop-i
 invariant-loop-i l = Inv l.d l.bits l.position l.i
-
-abbrev pub decreases-loop-i : goal.decreases-loop-i
-decreases-loop-i l = l.m - l.i

@@ -1,38 +1,29 @@
--- `evaluating::range::some_outside` meets its contract: after i turns `found` says whether one of the first i entries is outside.
-use mathlib.Core.Path.{◌≡◌, refl, sym, ◌∙◌}
+-- `evaluating::range::some_outside` meets its contract: what `any` finds is what the definition asks of each entry.
+use mathlib.Core.Path.{◌≡◌, sym}
+use mathlib.Core.Bool.{Bool, true, false}
+use mathlib.Core.List.{List}
+use Prim.Native.Nat.{ℕ, ◌<◌}
 use native.Mathlib.Omega.{arith}
+use lib.ListN.{length, get_or}
+use Rattle.std.proofs.Common.{rules}
+use Rattle.std.specs.Bool.{MatchBool}
+use Rattle.std.specs.List.{AllWithin, HoldsAt}
+use Rattle.std.proofs.lemmas.Iterator.{cases_from_any, YieldsList-from_slice}
 use Rattle.general.specs.Below.{some_below}
-use Rattle.general.proofs.Sums.{some-here, some-not-here}
+use Rattle.general.proofs.Sums.{none_of, some_of}
+use Rattle.refusal.specs.Checks.{outside}
 use Rattle.evaluating.proofs.range.some_outside.Goals as goal
-use Rattle.evaluating.proofs.range.some_outside.Goals.{else-outside, then-outside}
 
-pub loop-i-init : goal.loop-i-init
-unfolding some_below
-loop-i-init c = (refl, omega arith)
-
-pub offset_bounds-initial-i : goal.offset_bounds-initial-i
-offset_bounds-initial-i c = omega arith
-
-pub bounds-initial-i : goal.bounds-initial-i
-bounds-initial-i c = omega arith
-
-pub outside-requires : goal.outside-requires
-outside-requires c = tt
-
-pub loop-i-smaller : goal.loop-i-smaller
-loop-i-smaller c = omega arith
-
-pub loop-i-preserved : goal.loop-i-preserved
-loop-i-preserved c = (
-  elim c.if-outside.branch [
-    | then-outside w ↦ w.found-is ∙ sym (some-here _ _ (sym c.outside.ensures ∙ w.if-outside.true))
-    | else-outside w ↦ w.found-is ∙ c.loop-i.invariant.0
-        ∙ sym (some-not-here _ _ (sym c.outside.ensures ∙ w.if-outside.false))
-  ],
-  omega arith,
-)
+module _ (low high : ℕ) (initial : List ℕ) where
+  found : (r : Bool)
+      → MatchBool r ((k : ℕ) × (k < length initial) × HoldsAt (λ (n : ℕ). outside low high n ≡ true) initial k)
+      (AllWithin (λ (n : ℕ). outside low high n ≡ false) initial 0 (length initial))
+      → r ≡ some_below (length initial) (λ (i : ℕ). outside low high (get_or initial i 0))
+  found true some = sym (some_of _ _ some.0 some.1 (some.2 0))
+  found false none = sym (none_of _ _ (λ i h. none i 0 (omega arith) h))
 
 pub returns : goal.returns
 returns c =
-    let e : c.loop-i.i ≡ c.args.count = omega arith in
-    rw e at c.loop-i.invariant.0
+    found c.args.low c.args.high c.args.initial.now _
+    (cases_from_any _ _ _ (λ n. outside c.args.low c.args.high n ≡ true) (λ n. outside c.args.low c.args.high n ≡ false) c.any.ensures.ran
+    (YieldsList-from_slice c.args.initial.now cc) (λ x q k. search rules) (λ x q k. search rules))

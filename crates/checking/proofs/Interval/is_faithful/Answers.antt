@@ -1,4 +1,4 @@
--- `checking::word_is_faithful` meets its contract: a sum out of range settles it, and else the word, of at most q + 2 bits, is tried.
+-- `checking::Interval::is_faithful` meets its contract: a sum out of range settles it, and else the word, of at most q + 2 bits, is tried.
 use mathlib.Core.Path.{◌≡◌, ◌∙◌}
 use mathlib.Core.Bool.{Bool, true, false}
 use mathlib.Core.List.{List}
@@ -15,18 +15,19 @@ use Rattle.values.proofs.Bounds.{coarser-input, words-few}
 use Rattle.design.specs.declared.Design.{Design}
 use Rattle.design.specs.Cut.{row, initial_word}
 use Rattle.design.proofs.LegalLaws.{limits, room}
+use Rattle.tables.specs.Inputs.{SameInterval}
 use Rattle.tables.specs.Sum.{sum_from, sum_at, sum_outside, word_of, word_at}
 use Rattle.tables.proofs.WordLaws.{exact-at, word_small}
 use Rattle.checking.specs.Check.{faithful_at}
-use Rattle.checking.proofs.word_is_faithful.Goals as goal
+use Rattle.checking.proofs.Interval.is_faithful.Goals as goal
 
 -- The answer, by what the calls promise
-module _ (d : Design) (entry : ℕ) (offsets : List ℤ) (x : ℕ) (sum : TableUnits) (outside : Bool)
+module _ (d : Design) (entry : ℕ) (offsets : List ℤ) (near x : ℕ) (same : SameInterval d near x) (sum : TableUnits) (outside : Bool)
     (from-entry : sum ≡ record { 0 = sum_from d entry offsets x }) (outside-is : outside ≡ sum_outside d sum.0)
-    (initial : List ℕ) (entry-is : get_or initial (initial_word d x) 0 ≡ entry) where
+    (initial : List ℕ) (entry-is : entry ≡ get_or initial (initial_word d near) 0) where
   sum_is : sum ≡ record { 0 = sum_at d initial offsets x }
   unfolding sum_at
-  sum_is = rw (entry-is, from-entry)
+  sum_is = rw (← same.same, ← entry-is) from-entry
 
   no_word : outside ≡ true → false ≡ faithful_at d initial offsets x
   unfolding faithful_at
@@ -40,33 +41,28 @@ module _ (d : Design) (entry : ℕ) (offsets : List ℤ) (x : ℕ) (sum : TableU
       rw (row_is, one-is, word-is, sum_is, inside)
 
 pub returns-then-sum_outside : goal.returns-then-sum_outside
-returns-then-sum_outside c initial entry-is =
-    no_word _ _ _ _ _ _ c.sum_from-sum.ensures c.sum_outside.ensures initial entry-is
-    c.if-sum_outside.true
-
-pub pow2-requires : goal.pow2-requires
-pow2-requires c = omega (arith, (limits _ c.requires.legal.0).widths.room.w-small)
-
-pub overflow_add-pow2 : goal.overflow_add-pow2
-overflow_add-pow2 c =
-    let p = c.requires in
-    omega (arith, words-few (room _ (limits _ p.legal.0)), c.pow2.ensures, p.row_value.1.word)
-
-pub word_of-requires : goal.word_of-requires
-word_of-requires c =
-    let b = c.before in
-    record { legal = b.requires.legal.0; sum_value = tested b.sum_outside.ensures b.if-sum_outside.false }
-
-pub is_faithful-requires : goal.is_faithful-requires
-is_faithful-requires c =
-    let b = c.before.before in
-    let p = b.requires in
-    let l = limits _ p.legal.0 in record { floor_input = rw (p.row_value.0, c.pow2.ensures) (coarser-input _ (omega arith) (exact-at _ l _ p.row_value.1.word)); y_bound = rw c.word_of.ensures (word_small _ _ (tested b.sum_outside.ensures b.if-sum_outside.false)) }
+returns-then-sum_outside c =
+    no_word _ _ _ _ _ c.requires _ _ c.sum_from-sum.ensures c.sum_outside.ensures _ c.args.self.entry_value c.if-sum_outside.true
 
 pub returns : goal.returns
-returns c initial entry-is =
-    let b = c.before.before.before in
+returns c =
     c.is_faithful.ensures
-    ∙ by_word _ _ _ _ _ _ b.sum_from-sum.ensures b.sum_outside.ensures initial entry-is
-    b.if-sum_outside.false _ _ _
-    b.requires.row_value.0 c.pow2.ensures c.word_of.ensures
+    ∙ by_word _ _ _ _ _ c.requires _ _ c.sum_from-sum.ensures c.sum_outside.ensures _ c.args.self.entry_value c.if-sum_outside.false _ _ _
+    c.args.self.row_value c.pow2.ensures c.word_of.ensures
+
+pub pow2-requires : goal.pow2-requires
+pow2-requires c = omega (arith, (limits _ c.args.self.set.tables.legal).widths.room.w-small)
+
+pub overflow_add-argument : goal.overflow_add-argument
+overflow_add-argument c =
+    omega (arith, words-few (room _ (limits _ c.args.self.set.tables.legal)), c.pow2.ensures, c.requires.word)
+
+pub is_faithful-requires-clause-floor_input : goal.is_faithful-requires-clause-floor_input
+is_faithful-requires-clause-floor_input c =
+    let s = c.args.self in
+    let l = limits _ s.set.tables.legal in
+    rw (s.row_value, c.pow2.ensures) (coarser-input _ (omega arith) (exact-at _ l _ c.requires.word))
+
+pub is_faithful-requires-clause-y_bound : goal.is_faithful-requires-clause-y_bound
+is_faithful-requires-clause-y_bound c =
+    rw c.word_of.ensures (word_small _ _ (tested c.sum_outside.ensures c.if-sum_outside.false))
