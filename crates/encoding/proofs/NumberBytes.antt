@@ -1,49 +1,40 @@
 -- Numbers while their bytes are written or read, the highest byte first.
 use mathlib.Core.Path.{◌≡◌, refl, ap, ◌∙◌}
-use mathlib.Core.List.{List, [], ◌∷◌, ◌++◌, append-nil}
-use Prim.Native.Nat.{ℕ, suc, ◌+◌, ◌-◌, ◌*◌, ◌/◌, ◌%◌, ◌^◌, ◌≤◌, ◌<◌}
+use mathlib.Core.List.{List, [], ◌∷◌, ◌++◌}
+use Prim.Native.Nat.{ℕ, zero, suc, ◌+◌, ◌-◌, ◌*◌, ◌^◌, ◌≤◌, ◌<◌}
 use native.Mathlib.Numerals.{add-one}
 use native.Mathlib.Omega.{arith}
-use lib.ListN.{length, take, drop, get_or, set, length-append, length-drop, length-set}
+use lib.ListN.{length, take, drop, get_or, length-append}
+use borrow.Rule.Slice.PartMut.{put_mid}
+use Rattle.std.specs.Int.{w32, to_be_bytes}
 use lib.Pow.{pow-add, pow_mono}
-use lib.Seq.{take-suc, take-suc-set, append_snoc, get_or-drop}
-use Rattle.frames.specs.Line.{capacity}
+use lib.Seq.{take-suc, length-take-le}
+use Rattle.std.proofs.lemmas.List.{take_at, append_assoc}
+use native.Mathlib.Nat.{div-one}
 use Rattle.encoding.specs.declared.Frame.{Frame}
 use Rattle.encoding.specs.Bytes.{big_endian, number_in}
 use Rattle.encoding.specs.Inputs.{held}
 use Rattle.encoding.proofs.NumberBack.{big-endian-length}
 
--- A number of `width` bytes behind the first `count` bytes of a frame that held `before`: `left` bytes are still to be written, from
--- place `at` on.
-pub record Appending (before bytes : List ℕ) (count width number at left : ℕ) : Type 0 where
-  pub long : length bytes ≡ capacity
-  pub place : at + left ≡ count + width
-  pub room : count + width ≤ capacity
-  pub narrow : left ≤ 4
-  pub so_far : take at bytes ++ big_endian left number ≡ take count before ++ big_endian width number
+-- The last bytes of the four that std gives
+last-bytes : (width v : ℕ) → width ≤ 4 → take (4 - (4 - width)) (drop (4 - width) (to_be_bytes w32 v)) ≡ big_endian width v
+unfolding big_endian
+last-bytes zero v h = refl
+last-bytes (suc zero) v h = rw div-one refl
+last-bytes (suc (suc zero)) v h = rw div-one refl
+last-bytes (suc (suc (suc zero))) v h = rw div-one refl
+last-bytes (suc (suc (suc (suc zero)))) v h = rw div-one refl
+last-bytes (suc (suc (suc (suc (suc n))))) v h = absurd (omega arith)
 
-module _ {before bytes : List ℕ} {count width number at left : ℕ} (part : Appending before bytes count width number at left) where
-  -- One byte more is written, the highest of those that are left.
-  pub appended-more : 0 < left
-      → Appending before (set bytes at (number / 2 ^ (8 * (left - 1)) % 256)) count width number (at + 1) (left - 1)
-  unfolding big_endian
-  appended-more more =
-      let some : left ≡ suc (left - 1) = omega arith in
-      let byte = number / 2 ^ (8 * (left - 1)) % 256 in
-      record {
-        long = length-set bytes at byte ∙ part.long;
-        place = omega arith;
-        room = omega arith;
-        narrow = omega arith;
-        so_far =
-            rw (add-one, take-suc-set bytes at byte (omega arith), append_snoc (take at bytes) byte (big_endian (left - 1) number))
-            (rw some at part.so_far);
-      }
-
-  -- Nothing is left: the frame has the whole number.
-  pub appended-all : left ≡ 0 → take at bytes ≡ take count before ++ big_endian width number
-  unfolding big_endian
-  appended-all none = rw (none, append-nil) at part.so_far
+-- A number of `width` bytes, written behind the first `count` bytes of a frame, stands behind what the frame held.
+pub appended : (bytes after : List ℕ) (count width number : ℕ) → count + width ≤ length bytes → width ≤ 4
+    → after ≡ take (4 - (4 - width)) (drop (4 - width) (to_be_bytes w32 number))
+    → take (count + width) (put_mid count (count + width - count) bytes after) ≡ take count bytes ++ big_endian width number
+appended bytes after count width number room narrow e =
+    let front = take count bytes in
+    let wide : length (front ++ big_endian width number) ≡ count + width =
+    omega (arith, length-append front (big_endian width number), length-take-le count bytes (omega arith), big-endian-length width number) in
+    rw (e, last-bytes width number narrow, ← append_assoc) (take_at (front ++ big_endian width number) _ (count + width) wide)
 
 -- The number of one byte more
 number-snoc : (bytes : List ℕ) (byte : ℕ) → number_in (bytes ++ (byte ∷ [])) ≡ number_in bytes * 256 + byte
@@ -54,35 +45,26 @@ number-snoc (b ∷ bytes) byte =
     let longer : 8 * length (bytes ++ (byte ∷ [])) ≡ 8 * n + 8 = omega (arith, length-append bytes (byte ∷ [])) in
     rw (longer, pow-add 2 (8 * n) 8) (omega (arith, number-snoc bytes byte))
 
--- A number of `width` bytes from a place on, of which the first i have been read
-pub record Counting (bytes : List ℕ) (from width number i : ℕ) : Type 0 where
-  pub long : length bytes ≡ capacity
-  pub room : from + width ≤ capacity
-  pub narrow : width ≤ 4
-  pub within : i ≤ width
-  pub so_far : number ≡ number_in (take i (drop from bytes))
+-- A number in few bytes, of which the first i have been read
+pub record Counting (bytes : List ℕ) (number i : ℕ) : Type 0 where
+  pub narrow : length bytes ≤ 4
+  pub within : i ≤ length bytes
+  pub so_far : number ≡ number_in (take i bytes)
   pub small : number < 2 ^ (8 * i)
 
 -- Nothing is read yet.
-pub counted_none : {bytes : List ℕ} {from width : ℕ} → length bytes ≡ capacity → from + width ≤ capacity → width ≤ 4
-    → Counting bytes from width 0 0
+pub counted_none : {bytes : List ℕ} → length bytes ≤ 4 → Counting bytes 0 0
 unfolding number_in
-counted_none full room narrow =
-    record { long = full; room = room; narrow = narrow; within = omega arith; so_far = refl; small = omega arith }
+counted_none narrow = record { narrow = narrow; within = omega arith; so_far = refl; small = omega arith }
 
-module _ {bytes : List ℕ} {from width number i : ℕ} (part : Counting bytes from width number i) where
+module _ {bytes : List ℕ} {number i : ℕ} (part : Counting bytes number i) where
   -- One byte more is read.
-  pub counted-more : i < width → get_or bytes (from + i) 0 < 256
-      → Counting bytes from width (number * 256 + get_or bytes (from + i) 0) (i + 1)
+  pub counted-more : i < length bytes → get_or bytes i 0 < 256 → Counting bytes (number * 256 + get_or bytes i 0) (i + 1)
   counted-more more byte =
       record {
-        long = part.long;
-        room = part.room;
         narrow = part.narrow;
         within = omega arith;
-        so_far =
-            let next = take-suc (drop from bytes) i 0 (omega (arith, length-drop from bytes)) in
-            rw (add-one, next, number-snoc, get_or-drop, ← part.so_far) refl;
+        so_far = rw (add-one, take-suc bytes i 0 more, number-snoc, ← part.so_far) refl;
         small = rw (eight-more, pow-add 2 (8 * i) 8) (omega arith);
       }
     where
@@ -90,14 +72,8 @@ module _ {bytes : List ℕ} {from width number i : ℕ} (part : Counting bytes f
       eight-more = omega arith
 
   -- What is read of a number whose bytes are not all read has 3 bytes at most.
-  pub counted-small : i < width → number < 2 ^ 24
+  pub counted-small : i < length bytes → number < 2 ^ 24
   counted-small more = omega (arith, pow_mono {i = 8 * i} {j = 24} (omega arith))
-
-  -- All of it is read.
-  pub counted-all : width ≤ i → (number ≡ number_in (take width (drop from bytes))) × (number < 2 ^ (8 * width))
-  counted-all end =
-      let all : width ≡ i = omega arith in
-      rw all (part.so_far, part.small)
 
 -- A frame that has these bytes and no more
 abbrev pub Has : Frame → List ℕ → Type 0

@@ -41,22 +41,20 @@ byte_put line at byte first second room first-is second_is =
     two-stores line at first second room ∙ rw (first-is, second_is)
 
 -- A line while it is put together: the digits of the first i bytes stand at its start, in front of what it held, and they are summed.
-pub record Put (before line bytes : List ℕ) (count sum i : ℕ) : Type 0 where
-  pub input : PutInput count (length before)
-  pub full : length bytes ≡ count
-  pub within : i ≤ count
+pub record Put (before line bytes : List ℕ) (sum i : ℕ) : Type 0 where
+  pub input : PutInput (length bytes) (length before)
+  pub within : i ≤ length bytes
   pub so_far : line ≡ over before 0 (hex_of (take i bytes))
   pub summed : sum ≡ total (take i bytes)
   pub small : sum ≤ 255 * i
 
 -- Nothing is put yet.
-pub put-none : {before bytes : List ℕ} {count : ℕ} → PutInput count (length before) → length bytes ≡ count
-    → Put before before bytes count 0 0
+pub put-none : {before bytes : List ℕ} → PutInput (length bytes) (length before) → Put before before bytes 0 0
 unfolding hex_of total
-put-none {before} input full =
-    record { input = input; full = full; within = omega arith; so_far = over_none before 0; summed = refl; small = omega arith }
+put-none {before} input =
+    record { input = input; within = omega arith; so_far = over_none before 0; summed = refl; small = omega arith }
 
-module _ {before line bytes : List ℕ} {count sum i : ℕ} (part : Put before line bytes count sum i) where
+module _ {before line bytes : List ℕ} {sum i : ℕ} (part : Put before line bytes sum i) where
   digits : length (hex_of (take i bytes)) ≡ 2 * i
   digits = omega (arith, hex-length (take i bytes), length-take-le i bytes (omega (arith, part.input)))
 
@@ -75,15 +73,14 @@ module _ {before line bytes : List ℕ} {count sum i : ℕ} (part : Put before l
       (over-more before 0 (hex_of (take i bytes)) room (hex_of (byte ∷ [])))
 
   -- One byte more
-  pub put-more : (now : List ℕ) → i < count → get_or bytes i 0 < 256 → now ≡ over line (2 * i) (hex_of (get_or bytes i 0 ∷ []))
-      → Put before now bytes count (sum + get_or bytes i 0) (i + 1)
+  pub put-more : (now : List ℕ) → i < length bytes → get_or bytes i 0 < 256 → now ≡ over line (2 * i) (hex_of (get_or bytes i 0 ∷ []))
+      → Put before now bytes (sum + get_or bytes i 0) (i + 1)
   unfolding total
   put-more now more byte now-is =
       let longer : take (i + 1) bytes ≡ take i bytes ++ (get_or bytes i 0 ∷ []) =
       rw add-one (take-suc bytes i 0 (omega (arith, part.input))) in
       record {
         input = part.input;
-        full = part.full;
         within = omega arith;
         so_far = rw longer (now-is ∙ next (get_or bytes i 0));
         summed = rw longer (omega (arith, part.summed, total-append (take i bytes) (get_or bytes i 0 ∷ [])));
@@ -91,10 +88,10 @@ module _ {before line bytes : List ℕ} {count sum i : ℕ} (part : Put before l
       }
 
   -- and the sum byte behind them all.
-  pub put_all : (now : List ℕ) → count ≤ i → now ≡ over line (2 * count) (hex_of ((256 - sum % 256) % 256 ∷ []))
+  pub put_all : (now : List ℕ) → length bytes ≤ i → now ≡ over line (2 * length bytes) (hex_of ((256 - sum % 256) % 256 ∷ []))
       → now ≡ over before 0 (line_of bytes)
   unfolding line_of with_sum sum_byte
   put_all now end now-is =
-      let last : count ≡ i = omega arith in
-      let whole : bytes ≡ take i bytes = sym (take_all i bytes (omega (arith, part.full))) in
+      let last : length bytes ≡ i = omega arith in
+      let whole : bytes ≡ take i bytes = sym (take_all i bytes (omega arith)) in
       rw (whole, ← part.summed) (rw last at now-is ∙ next ((256 - sum % 256) % 256))

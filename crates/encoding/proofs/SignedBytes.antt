@@ -1,13 +1,13 @@
 -- Signed numbers in an entry's bytes: what the tests of their range tell, and what is added or taken where they are negative.
 use mathlib.Core.Path.{◌≡◌, refl, sym, ap, ◌∙◌}
 use mathlib.Core.Bool.{Bool, true, false, cond, true≢false}
-use Prim.Native.Nat.{ℕ, suc, ◌-◌, ◌*◌, ◌^◌, ◌≤◌, ◌<◌}
+use Prim.Native.Nat.{ℕ, ◌-◌, ◌*◌, ◌^◌, ◌≤◌, ◌<◌}
 use native.Mathlib.Omega.{arith}
-use borrow.Author.Tests.{ltb-true, leb-true, leb-false, lt-ltb, le-ltb}
+use borrow.Author.Tests.{leb-true, leb-false, lt-ltb, le-ltb}
 use lib.Dec.{ltb}
-use lib.IntN.{ℤ, pos, negsuc, ◌+ℤ◌, ◌-ℤ◌}
+use lib.IntN.{ℤ, pos, negsuc, ◌-ℤ◌}
 use lib.Signed.{mag, lt_z, le_z}
-use Rattle.encoding.specs.Bytes.{entry_bytes, complement, from_complement, fits_signed}
+use Rattle.encoding.specs.Bytes.{entry_bytes, from_complement, fits_signed}
 
 -- How many numbers an entry's bytes hold, and half as many
 abbrev pub whole : ℕ
@@ -27,26 +27,6 @@ pub too-low : (v : ℤ) → le_z (negsuc (half - 1)) v ≡ false → le_z (negsu
 unfolding fits_signed
 too-low (pos n) e = absurd (true≢false e)
 too-low (negsuc n) e = e ∙ sym (le-ltb n half (omega (arith, leb-false n (half - 1) e)))
-
--- A number of half or more, added to a negative number that fits, gives a number that is not negative,
-pub added : (more : ℕ) (v : ℤ) → half ≤ more → lt_z v (pos 0) ≡ true → fits_signed entry_bytes v ≡ true
-    → v +ℤ pos more ≡ pos (more - 1 - mag v)
-unfolding fits_signed
-added more (pos n) enough below fits = absurd (omega (arith, ltb-true n 0 below))
-added more (negsuc n) enough below fits =
-    let small = ltb-true n half fits in
-    rw (le-ltb more (suc n) (omega arith)) (ap pos (omega arith))
-
--- which is the two's complement where the number added is the whole. A number that is not negative is its own.
-pub negative-complement : (v : ℤ) → lt_z v (pos 0) ≡ true → whole - 1 - mag v ≡ complement entry_bytes v
-unfolding complement
-negative-complement (pos n) below = absurd (omega (arith, ltb-true n 0 below))
-negative-complement (negsuc n) below = refl
-
-pub positive-complement : (v : ℤ) → lt_z v (pos 0) ≡ false → v ≡ pos (complement entry_bytes v)
-unfolding complement
-positive-complement (pos n) below = refl
-positive-complement (negsuc n) below = absurd (true≢false below)
 
 -- The lower half of the numbers are what they are, and the upper half are the whole less.
 pub lower-half : (n : ℕ) → n < half → pos n ≡ from_complement entry_bytes n

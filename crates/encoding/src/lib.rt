@@ -35,20 +35,16 @@ impl Frame {
     }
 
     // inner: the frame with a number of `width` bytes behind what it has.
-    pub fn with(self, width: usize, number: u32) -> Frame
+    pub fn with(mut self, width: usize, number: u32) -> Frame
         requires { WidthInput self.count width }
         ensures result_value { held result ≡ held self ++ big_endian width number }
         ensures count_value { result.count ≡ self.count + width }
     {
-        let mut bytes = self.bytes;
-        let mut at = self.count;
-        let mut left = width;
-        while 0 < left {
-            left -= 1;
-            bytes[at] = ((number >> (8 * left)) % 256) as u8;
-            at += 1;
-        }
-        Frame { bytes, count: at }
+        let start = self.count;
+        let end = start + width;
+        self.bytes[start..end].copy_from_slice(&number.to_be_bytes()[4 - width..]);
+        self.count = end;
+        self
     }
 }
 
@@ -73,9 +69,8 @@ pub fn design_frame(d: Design) -> Frame
     ensures result_value { held result ≡ design_bytes d }
     ensures count_value { result.count ≡ length (design_bytes d) }
 {
-    let m = d.m;
     let mut frame = design_head(d);
-    for i in 0..m {
+    for i in 0..d.m {
         let pair = pair_at(d, i);
         frame = frame.with(1, pair.a).with(1, pair.b);
     }
@@ -107,16 +102,12 @@ pub fn put_bytes(bytes: &[u8], line: &mut [u8])
     requires { PutInput (length bytes.now) (length line.old) }
     ensures { line.new ≡ over line.old 0 (line_of bytes.now) }
 {
-    let count = bytes.len();
     let mut sum: u32 = 0;
-    let mut i = 0;
-    while i < count {
-        let byte = bytes[i];
-        put_byte(byte, 2 * i, line);
-        sum += byte as u32;
-        i += 1;
+    for (i, byte) in bytes.iter().enumerate() {
+        put_byte(*byte, 2 * i, line);
+        sum += *byte as u32;
     }
-    put_byte(((256 - sum % 256) % 256) as u8, 2 * count, line);
+    put_byte(((256 - sum % 256) % 256) as u8, 2 * bytes.len(), line);
 }
 
 // inner: puts the line of a frame, which is given without its sum byte, at the start of the line buffer.
@@ -124,7 +115,5 @@ pub fn put_line(frame: Frame, line: &mut [u8])
     requires { PutInput frame.count (length line.old) }
     ensures { line.new ≡ over line.old 0 (line_of (held frame)) }
 {
-    let bytes = frame.bytes;
-    let count = frame.count;
-    put_bytes(&bytes[..count], line);
+    put_bytes(&frame.bytes[..frame.count], line);
 }

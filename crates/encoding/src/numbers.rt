@@ -15,13 +15,9 @@ pub fn number_in(bytes: &[u8; CAPACITY], from: usize, width: usize) -> u32
     ensures value { result ≡ number_in (take width (drop from bytes.now)) }
     ensures upper_bound { result < 2 ^ (8 * width) }
 {
-    // A slice tells its length, and that its elements are bytes. A reference to an array tells neither.
-    let all: &[u8] = bytes;
     let mut number: u32 = 0;
-    let mut i = 0;
-    while i < width {
-        number = number * 256 + all[from + i] as u32;
-        i += 1;
+    for byte in &bytes[from..from + width] {
+        number = number * 256 + *byte as u32;
     }
     number
 }
@@ -45,10 +41,7 @@ pub fn complement(v: i32) -> u32
     requires { fits_signed entry_bytes v ≡ true }
     ensures { result ≡ Bytes.complement entry_bytes v }
 {
-    if v < 0 {
-        return (v + 16777216) as u32;
-    }
-    v as u32
+    v.cast_unsigned() % 16777216
 }
 
 // inner: what an entry's bytes in two's complement stand for.

@@ -1,6 +1,6 @@
--- What a sound line comes to: the answer, and the tables after it. The line is given as `decode` does, as its bytes with zeros behind
+-- What a sound line comes to: the next state or the refusal, and the tables after it. The line is given as `decode` does, as its bytes with zeros behind
 -- them and their number.
-use Rattle.std.specs.Prelude.{Ok, Err}
+use Rattle.std.specs.Prelude.{Result, Ok, Err}
 use mathlib.Core.Path.{◌≡◌, refl, sym, ap, ◌∙◌}
 use mathlib.Core.Bool.{Bool, true, false, not, ◌||◌, or-true}
 use mathlib.Core.List.{List, [], ◌∷◌}
@@ -13,7 +13,7 @@ use lib.Seq.{take-take, take-nil, length-take-le}
 use borrow.Author.Tests.{eqb-true, le-leb, lt-leb, not-false}
 use Rattle.general.proofs.Tests.{neither}
 use Rattle.refusal.specs.declared.Cause.{Cause}
-use Rattle.refusal.specs.Checks.{◌↝◌, verdict}
+use Rattle.refusal.specs.Checks.{◌↝◌, verdict, answer}
 use Rattle.refusal.proofs.Checks.{after, verdict-append}
 use Rattle.design.specs.declared.Design.{Design}
 use Rattle.tables.specs.Set.{tables_check}
@@ -25,12 +25,11 @@ use Rattle.lines.specs.declared.Slot.{Slot}
 use Rattle.lines.specs.Slots.{line_count, slot_of}
 use Rattle.lines.specs.Lines.{frame_head, entry_width}
 use Rattle.reading.specs.declared.Reading.{Reading}
-use Rattle.reading.specs.declared.Read.{Read}
 use Rattle.reading.specs.Inputs.{Sound, Begun}
 use Rattle.reading.specs.ReadLine.{
   head_fails,
   due_verdict,
-  answer_if,
+  next_state,
   entry_in,
   initial_stored,
   offsets_stored,
@@ -58,10 +57,6 @@ heads-same head width bytes count = go (eqb count (length head + width + 1)) ref
     go true e = rw (begins-front bytes head count (omega (arith, eqb-true count (length head + width + 1) e)))
     go false e = rw e
 
--- The answer to a refused line: the state stands.
-abbrev pub refused_answer : Reading → Cause → Read
-refused_answer state cause = record { verdict = Err cause; state = state }
-
 module _ (bytes : List ℕ) (count : ℕ) (full : length bytes ≡ capacity) (sound : Sound bytes count) where
   frame-length : length (take count bytes) ≡ count
   frame-length = length-take-le count bytes (omega (arith, sound.short))
@@ -82,34 +77,37 @@ module _ (bytes : List ℕ) (count : ℕ) (full : length bytes ≡ capacity) (so
         rw (first-checks state initial offsets (take count bytes) none, frame-length, checks-same, design-same)
         (verdict-append (first_checks bytes count) (tables_check (frame_design bytes) initial offsets ∷ []))
 
-    pub first-refused : (cause : Cause) → verdict (first_checks bytes count) ≡ Err cause
-        → refused_answer state cause ≡ answer_if (due_verdict state initial offsets (take count bytes)) state (take count bytes)
+    -- the next state or the refusal
+    abbrev comes : Result Reading Cause
+    comes = answer (due_verdict state initial offsets (take count bytes)) (next_state state (take count bytes))
+
+    pub first-refused : (cause : Cause) → verdict (first_checks bytes count) ≡ Err cause → Err cause ≡ comes
     first-refused cause e = rw (first-verdict, e)
 
-    module _ (due : verdict (first_checks bytes count) ≡ (Ok tt)) where
-      pub first_short : (tables_check (frame_design bytes) initial offsets).fails ≡ true
-          → refused_answer state Cause.TablesShort ≡ answer_if (due_verdict state initial offsets (take count bytes)) state (take count bytes)
+    module _ (due : verdict (first_checks bytes count) ≡ Ok tt) where
+      pub first_short : (tables_check (frame_design bytes) initial offsets).fails ≡ true → Err Cause.TablesShort ≡ comes
       unfolding tables_check
       first_short e = rw (first-verdict, due, e)
 
       pub first-accepted : (tables_check (frame_design bytes) initial offsets).fails ≡ false
-          → ◌≡◌ {A = Read} (record { verdict = (Ok tt); state = record { design = frame_design bytes; taken = 1 } })
-          (answer_if (due_verdict state initial offsets (take count bytes)) state (take count bytes))
+          → ◌≡◌ {A = Result Reading Cause} (Ok (record { design = frame_design bytes; taken = 1 })) comes
       first-accepted e = rw (first-verdict, due, e, first-design state (take count bytes) none, design-same, none)
 
--- What the reading of a frame has to come to: this answer, and these tables
-abbrev pub Outcome : Reading → List ℕ → List ℤ → List ℕ → Read → List ℕ → List ℤ → Type 0
-Outcome state initial offsets frame answer initial-after offsets-after =
+-- What the reading of a frame has to come to: this next state or refusal, and these tables
+abbrev pub Outcome : Reading → List ℕ → List ℤ → List ℕ → Result Reading Cause → List ℕ → List ℤ → Type 0
+Outcome state initial offsets frame result initial-after offsets-after =
     let next = after_frame (session state initial offsets) frame in
-    (answer ≡ answer_if (due_verdict state (length initial) (length offsets) frame) state frame)
-    × ((initial-after ≡ next.initial) × (offsets-after ≡ next.offsets))
+    record {
+      value : result ≡ answer (due_verdict state (length initial) (length offsets) frame) (next_state state frame);
+      initial_after : initial-after ≡ next.initial;
+      offsets_after : offsets-after ≡ next.offsets;
+    }
 
 module _ (state : Reading) (initial : List ℕ) (offsets : List ℤ) (frame : List ℕ) where
-  pub refused-outcome : (cause : Cause) (answer : Read) → answer ≡ refused_answer state cause
-      → due_verdict state (length initial) (length offsets) frame ≡ Err cause
-      → Outcome state initial offsets frame answer initial offsets
+  pub refused-outcome : (cause : Cause) → due_verdict state (length initial) (length offsets) frame ≡ Err cause
+      → Outcome state initial offsets frame (Err cause) initial offsets
   unfolding after_frame
-  refused-outcome cause answer is e = rw (is, e) (refl, (refl, refl))
+  refused-outcome cause e = rw e (record { value = refl; initial_after = refl; offsets_after = refl })
 
 -- The number in an entry's bytes, which lie within the frame
 entry-same : (d : Design) (slot : Slot) (bytes : List ℕ) (count : ℕ) → length (frame_head d slot) + entry_width slot ≤ count
@@ -170,19 +168,20 @@ module _ (bytes : List ℕ) (count : ℕ) (full : length bytes ≡ capacity) (so
       later-short e = later-verdict ∙ rw (lt-leb _ _ within, due, over-same below, e)
 
       pub later-accepted : (tables_check state.design initial offsets).fails ≡ false
-          → due_verdict state initial offsets (take count bytes) ≡ (Ok tt)
+          → due_verdict state initial offsets (take count bytes) ≡ Ok tt
       later-accepted e = later-verdict ∙ rw (lt-leb _ _ within, due, over-same below, e)
 
 -- The answer to a frame that is accepted, and the tables after it
 module _ (state : Reading) (begun : Begun state) (initial : List ℕ) (offsets : List ℤ) (bytes : List ℕ) (count : ℕ) where
   pub accepted-outcome : not_due state bytes count ≡ false
-      → due_verdict state (length initial) (length offsets) (take count bytes) ≡ (Ok tt)
+      → due_verdict state (length initial) (length offsets) (take count bytes) ≡ Ok tt
       → let slot = slot_of state.design state.taken in
       let number = entry_in state.design slot bytes in
       Outcome state initial offsets (take count bytes)
-      (record { verdict = (Ok tt); state = record { design = state.design; taken = state.taken + 1 } })
+      (Ok (record { design = state.design; taken = state.taken + 1 }))
       (initial_stored slot number initial)
       (offsets_stored slot number offsets)
   unfolding after_frame
   accepted-outcome due e =
-      rw (e, later-design state (take count bytes) begun.some, due-entry state bytes count due) (refl, (refl, refl))
+      rw (e, later-design state (take count bytes) begun.some, due-entry state bytes count due)
+      (record { value = refl; initial_after = refl; offsets_after = refl })

@@ -1,6 +1,6 @@
 -- What is tried on a first line and on a later one, and what a line that passes tells.
-use Rattle.std.specs.Prelude.{Ok, Err}
-use mathlib.Core.Path.{◌≡◌, sym, ap, ◌∙◌}
+use Rattle.std.specs.Prelude.{Ok, Err, is_err}
+use mathlib.Core.Path.{◌≡◌, refl, sym, ap, ◌∙◌}
 use mathlib.Core.Bool.{Bool, true, false, ◌||◌, ◌&&◌, true≢false, or-true}
 use mathlib.Core.List.{List, [], ◌∷◌, ◌++◌}
 use Prim.Native.Nat.{ℕ, ◌<◌}
@@ -90,8 +90,17 @@ module _ (state : Reading) where
   unfolding possible
   later-possible h = rw (ne_eqb state.taken 0 (λ z. omega arith))
 
-passes-passed : (v : Verdict) → passes v ≡ true → v ≡ (Ok tt)
+passes-passed : (v : Verdict) → passes v ≡ true → v ≡ Ok tt
 passes-passed v e = only-passed (λ (answer : Bool). answer ≡ true) v true (λ cause. false) (λ cause f. true≢false (sym f)) e
+
+-- Whether a verdict is a refusal, as `is_err` asks
+pub err-fails : (v : Verdict) → is_err v ≡ true → passes v ≡ false
+err-fails (Ok tt) e = sym e
+err-fails (Err cause) e = refl
+
+pub none-refused : (v : Verdict) → is_err v ≡ false → v ≡ Ok tt
+none-refused (Ok tt) e = refl
+none-refused (Err cause) e = absurd (true≢false e)
 
 -- A possible state in which a line is taken
 module _ (state : Reading) where
@@ -155,7 +164,7 @@ module _ (state : Reading) where
   unfolding between
   after-set e = rw (e, or-true)
 
-  pub empty-passes : between state ≡ true → verdict (empty_check state ∷ []) ≡ (Ok tt)
+  pub empty-passes : between state ≡ true → verdict (empty_check state ∷ []) ≡ Ok tt
   unfolding empty_check
   empty-passes e = rw e
 
@@ -167,10 +176,10 @@ module _ (state : Reading) where
 pub record Passing (state : Reading) (initial offsets : ℕ) (line : List ℕ) : Type 0 where
   pub state-possible : possible state ≡ true
   pub line-sound : line_fails line ≡ false
-  pub frame-passed : verdict (due_checks state initial offsets (bytes_of line)) ≡ (Ok tt)
+  pub frame-passed : verdict (due_checks state initial offsets (bytes_of line)) ≡ Ok tt
 
 module _ (state : Reading) (initial offsets : ℕ) where
-  pub passing : (line : List ℕ) → is_empty line ≡ false → read_verdict state initial offsets line ≡ (Ok tt)
+  pub passing : (line : List ℕ) → is_empty line ≡ false → read_verdict state initial offsets line ≡ Ok tt
       → Passing state initial offsets line
   unfolding state_check line_checks
   passing line some e =
@@ -183,7 +192,7 @@ module _ (state : Reading) (initial offsets : ℕ) where
         frame-passed = parts.1;
       }
 
-  pub passed : (line : List ℕ) → Passing state initial offsets line → read_verdict state initial offsets line ≡ (Ok tt)
+  pub passed : (line : List ℕ) → Passing state initial offsets line → read_verdict state initial offsets line ≡ Ok tt
   unfolding state_check line_checks
   passed line p =
       some-verdict state initial offsets line (sound-some line p.line-sound)
@@ -192,10 +201,10 @@ module _ (state : Reading) (initial offsets : ℕ) where
   module _ (bytes : List ℕ) where
     -- the first line
     pub record First : Type 0 where
-      pub frame : verdict (first_checks bytes (length bytes)) ≡ (Ok tt)
+      pub frame : verdict (first_checks bytes (length bytes)) ≡ Ok tt
       pub tables : Usable (frame_design bytes) initial offsets
 
-    pub first-passing : state.taken ≡ 0 → verdict (due_checks state initial offsets bytes) ≡ (Ok tt) → First
+    pub first-passing : state.taken ≡ 0 → verdict (due_checks state initial offsets bytes) ≡ Ok tt → First
     first-passing z e =
         let d = frame_design bytes in
         let parts = passed-append (first_checks bytes (length bytes)) (tables_check d initial offsets ∷ [])
@@ -204,7 +213,7 @@ module _ (state : Reading) (initial offsets : ℕ) where
         let long = (none-fails (tables_check d initial offsets ∷ []) parts.1).0 in
         record { frame = parts.0; tables = usable d initial offsets (set-lengths d initial offsets false legal long) }
 
-    pub first-passed : state.taken ≡ 0 → First → verdict (due_checks state initial offsets bytes) ≡ (Ok tt)
+    pub first-passed : state.taken ≡ 0 → First → verdict (due_checks state initial offsets bytes) ≡ Ok tt
     first-passed z p =
         let long = tables-long (frame_design bytes) initial offsets p.tables in
         rw (first-checks state initial offsets bytes z, verdict-append, p.frame, long)
@@ -216,13 +225,13 @@ module _ (state : Reading) (initial offsets : ℕ) where
       pub below : is_over state bytes ≡ false
       pub tables : (tables_check state.design initial offsets).fails ≡ false
 
-    pub later-passing : 0 < state.taken → verdict (due_checks state initial offsets bytes) ≡ (Ok tt) → Later
+    pub later-passing : 0 < state.taken → verdict (due_checks state initial offsets bytes) ≡ Ok tt → Later
     later-passing h e =
         let tried = none-fails (all_later state initial offsets bytes)
         (ap verdict (sym (later-checks state initial offsets bytes h)) ∙ e) in
         let due = neither _ (not_due state bytes (length bytes)) tried.0 in
         record { within = leb-false _ _ due.0; head = due.1; below = tried.1.0; tables = tried.1.1.0 }
 
-    pub later-passed : 0 < state.taken → Later → verdict (due_checks state initial offsets bytes) ≡ (Ok tt)
+    pub later-passed : 0 < state.taken → Later → verdict (due_checks state initial offsets bytes) ≡ Ok tt
     later-passed h p =
         rw (later-checks state initial offsets bytes h, lt-leb _ _ p.within, p.head, p.below, p.tables)

@@ -1,5 +1,5 @@
--- What a line comes to, sound or not: the answer, its number, and the tables after it.
-use Rattle.std.specs.Prelude.{Ok, Err}
+-- What a line comes to, sound or not: the next state or the refusal, and the tables after it.
+use Rattle.std.specs.Prelude.{Result, Ok, Err}
 use mathlib.Core.Path.{◌≡◌, refl, ap, ◌∙◌}
 use mathlib.Core.Bool.{true, false}
 use mathlib.Core.List.{List, [], ◌∷◌, ◌++◌}
@@ -9,14 +9,12 @@ use lib.ListN.{length, take, replicate}
 use lib.Seq.{take-append_seam}
 use Rattle.refusal.specs.declared.Cause.{Cause}
 use Rattle.refusal.specs.Verdict.{Verdict}
-use Rattle.refusal.specs.Checks.{verdict, if_passed}
-use Rattle.refusal.specs.Numbers.{verdict_number}
+use Rattle.refusal.specs.Checks.{verdict, if_passed, answer}
 use Rattle.refusal.proofs.Checks.{verdict-append, none-fails}
-use Rattle.refusal.proofs.Answers.{if-passed-part}
 use Rattle.frames.specs.declared.Decoded.{Decoded}
 use Rattle.frames.specs.Hex.{bytes_of}
 use Rattle.frames.specs.Line.{is_empty, line_checks, capacity, padded, decoded}
-use Rattle.frames.proofs.LineLaws.{bytes-short, line-told, held_whole}
+use Rattle.frames.proofs.LineLaws.{bytes-short, line-passed, held_whole}
 use Rattle.lines.specs.declared.Slot.{Slot}
 use Rattle.lines.specs.Slots.{slot_of}
 use Rattle.lines.proofs.SlotLaws.{slot-first}
@@ -32,66 +30,57 @@ use Rattle.reading.specs.ReadLine.{
   due_verdict,
   read_verdict,
   next_state,
-  empty_answer,
-  answer_if,
+  none_taken,
   Session,
   read_answer,
   initial_stored,
   offsets_stored,
   session,
-  moved,
   moved_if,
+  moved_by,
   after_frame,
   verdict_on,
   after,
 }
 use Rattle.reading.proofs.ReadLaws.{empty-verdict, some-verdict}
-use Rattle.reading.proofs.LineSteps.{refused_answer, Outcome}
+use Rattle.reading.proofs.LineSteps.{Outcome}
 
 -- What `decode` gives for a line that it accepts
-module _ (line : List ℕ) (held : Decoded) (held-is : held ≡ decoded line) (passed : held.verdict ≡ (Ok tt)) where
+module _ (line : List ℕ) (held : Decoded) (accepted : decoded line ≡ Ok held) where
   front : take (length (bytes_of line)) (padded (bytes_of line)) ≡ bytes_of line
   unfolding padded
   front = take-append_seam (bytes_of line) (replicate (capacity - length (bytes_of line)) 0)
 
   pub frame-held : take held.count held.bytes ≡ bytes_of line
-  frame-held = rw (held_whole line held held-is passed) front
+  frame-held = rw (held_whole line held accepted) front
 
   pub sound-held : Sound held.bytes held.count
   unfolding line_checks
   sound-held =
-      rw (held_whole line held held-is passed)
-      (record {
-        short = bytes-short line (none-fails (line_checks line) (line-told line held held-is (Ok tt) passed)).0;
-        zeros = rw front;
-      })
+      rw (held_whole line held accepted)
+      (record { short = bytes-short line (none-fails (line_checks line) (line-passed line held accepted)).0; zeros = rw front })
 
--- What the reading of a line has to come to: this answer, its number, and these tables
-abbrev pub LineOutcome : Reading → List ℕ → List ℤ → List ℕ → Read → List ℕ → List ℤ → Type 0
-LineOutcome state initial offsets line answer initial-after offsets-after =
+-- What the reading of a line has to come to: this next state or refusal, and these tables
+abbrev pub LineOutcome : Reading → List ℕ → List ℤ → List ℕ → Result Reading Cause → List ℕ → List ℤ → Type 0
+LineOutcome state initial offsets line result initial-after offsets-after =
     let s = session state initial offsets in
     let next = after s line in
-    (answer ≡ read_answer s line)
-    × ((verdict_number answer.verdict ≡ verdict_number (verdict_on s line))
-    × ((initial-after ≡ next.initial) × (offsets-after ≡ next.offsets)))
-
--- The state after a line is the one beside the verdict.
-moved-state : (v : Verdict) (s : Session) (bytes : List ℕ)
-    → (moved_if v s bytes).state ≡ if_passed v (next_state s.state bytes) (λ cause. s.state)
-moved-state v s bytes = if-passed-part (λ (t : Session). t.state) v (moved s bytes) (λ cause. s)
+    record {
+      value : result ≡ answer (verdict_on s line) (moved_by s line).state;
+      initial_table : initial-after ≡ next.initial;
+      offset_tables : offsets-after ≡ next.offsets;
+    }
 
 module _ (state : Reading) (initial : List ℕ) (offsets : List ℤ) (line : List ℕ) where
-  line_refused : (cause : Cause) (answer : Read) → answer ≡ refused_answer state cause
-      → read_verdict state (length initial) (length offsets) line ≡ Err cause
-      → LineOutcome state initial offsets line answer initial offsets
-  unfolding read_answer after verdict_on
-  line_refused cause answer is e = rw (is, e) (refl, (refl, (refl, refl)))
+  line_refused : (cause : Cause) → read_verdict state (length initial) (length offsets) line ≡ Err cause
+      → LineOutcome state initial offsets line (Err cause) initial offsets
+  unfolding after verdict_on
+  line_refused cause e = rw e (record { value = refl; initial_table = refl; offset_tables = refl })
 
   -- The state is not possible.
-  pub impossible : (answer : Read) → answer ≡ refused_answer state Cause.State → possible state ≡ false
-      → LineOutcome state initial offsets line answer initial offsets
+  pub impossible : possible state ≡ false → LineOutcome state initial offsets line (Err Cause.State) initial offsets
   unfolding read_verdict state_check
-  impossible answer is e = line_refused Cause.State answer is (rw e)
+  impossible e = line_refused Cause.State (rw e)
 
   module _ (possible-state : possible state ≡ true) where
     -- The line is empty: both tables stand, whatever the verdict is.
@@ -100,13 +89,14 @@ module _ (state : Reading) (initial : List ℕ) (offsets : List ℤ) (line : Lis
       unfolding state_check
       state-decides = empty-verdict state (length initial) (length offsets) line empty ∙ rw possible-state
 
-      pub empty-outcome : (answer : Read) → answer ≡ empty_answer state → LineOutcome state initial offsets line answer initial offsets
-      unfolding read_answer after verdict_on empty_answer
-      empty-outcome answer is = go (verdict (empty_check state ∷ [])) refl
+      pub empty-outcome : (result : Result Reading Cause) → result ≡ answer (verdict (empty_check state ∷ [])) (none_taken state)
+          → LineOutcome state initial offsets line result initial offsets
+      unfolding after verdict_on
+      empty-outcome result is = go (verdict (empty_check state ∷ [])) refl
         where
-          go : (v : Verdict) → verdict (empty_check state ∷ []) ≡ v → LineOutcome state initial offsets line answer initial offsets
-          go (Ok tt) e = rw (is, state-decides, e, empty) (refl, (refl, (refl, refl)))
-          go (Err cause) e = rw (is, state-decides, e) (refl, (refl, (refl, refl)))
+          go : (v : Verdict) → verdict (empty_check state ∷ []) ≡ v → LineOutcome state initial offsets line result initial offsets
+          go (Ok tt) e = rw (is, state-decides, e, empty) (record { value = refl; initial_table = refl; offset_tables = refl })
+          go (Err cause) e = rw (is, state-decides, e) (record { value = refl; initial_table = refl; offset_tables = refl })
 
     module _ (some : is_empty line ≡ false) where
       tried : read_verdict state (length initial) (length offsets) line
@@ -115,15 +105,14 @@ module _ (state : Reading) (initial : List ℕ) (offsets : List ℤ) (line : Lis
       tried = some-verdict state (length initial) (length offsets) line some ∙ rw possible-state
 
       -- The line is not sound.
-      pub unsound : (cause : Cause) (answer : Read) → answer ≡ refused_answer state cause
-          → verdict (line_checks line) ≡ Err cause
-          → LineOutcome state initial offsets line answer initial offsets
-      unsound cause answer is e =
-          line_refused cause answer is
+      pub unsound : (cause : Cause) → verdict (line_checks line) ≡ Err cause
+          → LineOutcome state initial offsets line (Err cause) initial offsets
+      unsound cause e =
+          line_refused cause
           (tried ∙ rw (verdict-append (line_checks line) (due_checks state (length initial) (length offsets) (bytes_of line)), e))
 
       -- A sound line comes to what its frame comes to.
-      module _ (sound : verdict (line_checks line) ≡ (Ok tt)) where
+      module _ (sound : verdict (line_checks line) ≡ Ok tt) where
         frame-decides : read_verdict state (length initial) (length offsets) line
             ≡ due_verdict state (length initial) (length offsets) (bytes_of line)
         unfolding due_verdict
@@ -131,12 +120,29 @@ module _ (state : Reading) (initial : List ℕ) (offsets : List ℤ) (line : Lis
             tried
             ∙ rw (verdict-append (line_checks line) (due_checks state (length initial) (length offsets) (bytes_of line)), sound)
 
-        pub line-outcome : (answer : Read) (initial-after : List ℕ) (offsets-after : List ℤ)
-            → Outcome state initial offsets (bytes_of line) answer initial-after offsets-after
-            → LineOutcome state initial offsets line answer initial-after offsets-after
-        unfolding read_answer after verdict_on after_frame
-        line-outcome answer initial-after offsets-after o =
-            rw (frame-decides, some, moved-state) (o.0, (ap (λ (r : Read). verdict_number r.verdict) o.0, o.1))
+        pub line-outcome : (result : Result Reading Cause) (initial-after : List ℕ) (offsets-after : List ℤ)
+            → Outcome state initial offsets (bytes_of line) result initial-after offsets-after
+            → LineOutcome state initial offsets line result initial-after offsets-after
+        unfolding after verdict_on after_frame
+        line-outcome result initial-after offsets-after o =
+            rw (frame-decides, some)
+            (record { value = o.value; initial_table = o.initial_after; offset_tables = o.offsets_after })
+
+-- What `read_line` makes of the next state or the refusal: a refusal "gives back the state that came in".
+abbrev pub read_of : Reading → Result Reading Cause → Read
+read_of came (Ok next) = record { verdict = Ok tt; state = next }
+read_of came (Err cause) = record { verdict = Err cause; state = came }
+
+module _ (s : Session) (line : List ℕ) where
+  read-by : (v : Verdict) → read_of s.state (answer v (moved_by s line).state)
+      ≡ record { verdict = v; state = (if_passed v (moved_by s line) (λ cause. s)).state }
+  read-by (Ok tt) = refl
+  read-by (Err cause) = refl
+
+  pub read-told : {result : Result Reading Cause} → result ≡ answer (verdict_on s line) (moved_by s line).state
+      → read_of s.state result ≡ read_answer s line
+  unfolding read_answer after
+  read-told e = ap (read_of s.state) e ∙ read-by (verdict_on s line)
 
 -- The first line stores nothing.
 module _ (state : Reading) (none : state.taken ≡ 0) (initial : List ℕ) (offsets : List ℤ) (frame : List ℕ) where
@@ -149,7 +155,10 @@ module _ (state : Reading) (none : state.taken ≡ 0) (initial : List ℕ) (offs
   tables-kept (Ok tt) = rw no-entry (refl, refl)
   tables-kept (Err cause) = (refl, refl)
 
-  pub first-outcome : (answer : Read) → answer ≡ answer_if (due_verdict state (length initial) (length offsets) frame) state frame
-      → Outcome state initial offsets frame answer initial offsets
+  pub first-outcome : (result : Result Reading Cause)
+      → result ≡ answer (due_verdict state (length initial) (length offsets) frame) (next_state state frame)
+      → Outcome state initial offsets frame result initial offsets
   unfolding after_frame
-  first-outcome answer is = (is, tables-kept (due_verdict state (length initial) (length offsets) frame))
+  first-outcome result is =
+      let kept = tables-kept (due_verdict state (length initial) (length offsets) frame) in
+      record { value = is; initial_after = kept.0; offsets_after = kept.1 }

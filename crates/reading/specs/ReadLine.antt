@@ -97,16 +97,6 @@ next_state state bytes = record { design = design_after state bytes; taken = sta
 abbrev pub none_taken : Reading → Reading
 none_taken state = record { design = state.design; taken = 0 }
 
--- The verdict on an empty line in a possible state, and the state beside it
-unfoldable pub empty_answer : Reading → Read
-empty_answer state =
-    let v = verdict (empty_check state ∷ []) in
-    record { verdict = v; state = if_passed v (none_taken state) (λ cause. state) }
-
--- The verdict on a sound line, which is given as its bytes, and the state beside it; a refusal "gives back the state that came in".
-abbrev pub answer_if : Verdict → Reading → List ℕ → Read
-answer_if v state bytes = record { verdict = v; state = if_passed v (next_state state bytes) (λ cause. state) }
-
 -- "stores at most one entry; all other elements stand"
 unfoldable pub initial_stored : Slot → ℕ → List ℕ → List ℕ
 initial_stored Slot.Design n initial = initial

@@ -14,7 +14,7 @@ use Rattle.general.proofs.WritingLaws.{over-start}
 use Rattle.refusal.specs.declared.Cause.{Cause}
 use Rattle.refusal.specs.Verdict.{Verdict}
 use Rattle.refusal.specs.Checks.{Check, ◌↝◌, verdict, leaves}
-use Rattle.refusal.specs.Told.{told}
+use Rattle.refusal.specs.Told.{told, told_by}
 use Rattle.refusal.proofs.Checks.{after, verdict-append, passed-append, none-fails}
 use Rattle.refusal.proofs.Answers.{only-passed}
 use Rattle.design.specs.declared.Design.{Design}
@@ -42,7 +42,6 @@ use Rattle.writing.specs.Write.{
   written_if,
   write_answer,
   buffer_after,
-  told_by,
   write_told,
 }
 
@@ -53,13 +52,13 @@ pub record Carried (d : Design) (slot : Slot) (initial : List ℕ) (offsets : Li
 
 -- These are the entries that pass 18 and 23.
 module _ (d : Design) (slot : Slot) (initial : List ℕ) (offsets : List ℤ) where
-  pub carried : verdict (asked_checks d slot initial offsets) ≡ (Ok tt) → Carried d slot initial offsets
+  pub carried : verdict (asked_checks d slot initial offsets) ≡ Ok tt → Carried d slot initial offsets
   unfolding asked_checks entry_checks
   carried e =
       let tests = none-fails (asked_checks d slot initial offsets) e in
       record { fits = not-false _ tests.0; below = tests.1.0 }
 
-  pub carried-passes : Carried d slot initial offsets → verdict (asked_checks d slot initial offsets) ≡ (Ok tt)
+  pub carried-passes : Carried d slot initial offsets → verdict (asked_checks d slot initial offsets) ≡ Ok tt
   unfolding asked_checks entry_checks
   carried-passes c = rw (c.fits, c.below)
 
@@ -100,13 +99,13 @@ module _ (d : Design) (initial : List ℕ) (offsets : List ℤ) (n buffer : ℕ)
 
     -- A line that carries its entry is written into a buffer that is long enough.
     pub line-passes : n < line_count d → Carried d (slot_of d n) initial offsets → length (line_at d initial offsets n) ≤ buffer
-        → write_verdict d initial offsets n buffer ≡ (Ok tt)
+        → write_verdict d initial offsets n buffer ≡ Ok tt
     line-passes h entry room = within-set h ∙ rw (carried-passes _ _ _ _ entry, le-ltb _ _ room)
 
 -- The writer gives a line only where nothing turned it down:
 module _ (d : Design) (initial : List ℕ) (offsets : List ℤ) (n buffer : ℕ) where
   pub line-given : {digits : ℕ} → write_answer d initial offsets n buffer ≡ Ok digits
-      → write_verdict d initial offsets n buffer ≡ (Ok tt)
+      → write_verdict d initial offsets n buffer ≡ Ok tt
   unfolding write_answer
   line-given {digits} e =
       only-passed (λ (answer : Result ℕ Cause). answer ≡ Ok digits) _ _ Err
@@ -118,7 +117,7 @@ module _ (d : Design) (initial : List ℕ) (offsets : List ℤ) (n buffer : ℕ)
     pub within : n < line_count d
     pub entry : Carried d (slot_of d n) initial offsets
 
-  pub given : write_verdict d initial offsets n buffer ≡ (Ok tt) → Given
+  pub given : write_verdict d initial offsets n buffer ≡ Ok tt → Given
   unfolding write_verdict number_check
   given e =
       let asked = asked_checks d (slot_of d n) initial offsets in
@@ -163,7 +162,7 @@ module _ {d : Design} {initial : List ℕ} {offsets : List ℤ} {n : ℕ} {slot 
       ∙ ap (λ count. 2 * (count + 1)) (frame-length d (slot_of d n) initial offsets))
 
   -- Where the entry passes, 14 decides,
-  pub asked-room : (buffer : ℕ) (short : Bool) → verdict (asked_checks d slot initial offsets) ≡ (Ok tt)
+  pub asked-room : (buffer : ℕ) (short : Bool) → verdict (asked_checks d slot initial offsets) ≡ Ok tt
       → ltb buffer (2 * (head.count + width + 1)) ≡ short
       → write_verdict d initial offsets n buffer ≡ verdict (short ↝ Cause.OutputShort ∷ [])
   asked-room buffer short e room =
@@ -177,7 +176,7 @@ module _ {d : Design} {initial : List ℕ} {offsets : List ℤ} {n : ℕ} {slot 
 
 -- The answer, what it tells and what is left in the buffer, by the verdict on what is asked for, which is a line here
 module _ (v : Verdict) (line buffer : List ℕ) where
-  abbrev pub PromisedBy : (Result ℕ Cause) → List ℕ → Type 0
+  abbrev pub PromisedBy : Result ℕ Cause → List ℕ → Type 0
   PromisedBy r left = (r ≡ written_if v line) × ((told_by r ≡ told v (length line)) × (left ≡ leaves v line buffer))
 
   -- A refusal leaves the buffer as it was,
@@ -185,25 +184,30 @@ module _ (v : Verdict) (line buffer : List ℕ) where
   refuses-by e = rw e (refl, (refl, refl))
 
   -- and otherwise the line stands at its start.
-  pub writes-by : {count : ℕ} {left : List ℕ} → v ≡ (Ok tt) → length line ≡ count → left ≡ over buffer 0 line
+  pub writes-by : {count : ℕ} {left : List ℕ} → v ≡ Ok tt → length line ≡ count → left ≡ over buffer 0 line
       → PromisedBy (Ok count) left
   writes-by e count-is left_is = rw e (rw count-is refl, (rw count-is refl, left_is ∙ over-start buffer line))
 
 module _ (d : Design) (initial : List ℕ) (offsets : List ℤ) (n : ℕ) (buffer : List ℕ) where
   -- What is promised of an answer and of what the line buffer is left with
-  abbrev pub Promised : (Result ℕ Cause) → List ℕ → Type 0
-  Promised r left =
-      (r ≡ write_answer d initial offsets n (length buffer))
-      × ((told_by r ≡ write_told d initial offsets n (length buffer))
-      × (left ≡ buffer_after d initial offsets n buffer))
+  abbrev pub Promised : Result ℕ Cause → List ℕ → Type 0
+  Promised r left = record {
+    answer : r ≡ write_answer d initial offsets n (length buffer);
+    told : told_by r ≡ write_told d initial offsets n (length buffer);
+    line_buffer : left ≡ buffer_after d initial offsets n buffer;
+  }
 
   pub refuses : {cause : Cause} → write_verdict d initial offsets n (length buffer) ≡ Err cause
       → Promised (Err cause) buffer
   unfolding write_answer buffer_after write_told
-  refuses e = refuses-by _ (line_at d initial offsets n) buffer e
+  refuses e =
+      let p = refuses-by _ (line_at d initial offsets n) buffer e in
+      record { answer = p.0; told = p.1.0; line_buffer = p.1.1 }
 
-  pub writes : {count : ℕ} {left : List ℕ} → write_verdict d initial offsets n (length buffer) ≡ (Ok tt)
+  pub writes : {count : ℕ} {left : List ℕ} → write_verdict d initial offsets n (length buffer) ≡ Ok tt
       → length (line_at d initial offsets n) ≡ count → left ≡ over buffer 0 (line_at d initial offsets n)
       → Promised (Ok count) left
   unfolding write_answer buffer_after write_told
-  writes e count-is left_is = writes-by _ (line_at d initial offsets n) buffer e count-is left_is
+  writes e count-is left_is =
+      let p = writes-by _ (line_at d initial offsets n) buffer e count-is left_is in
+      record { answer = p.0; told = p.1.0; line_buffer = p.1.1 }

@@ -1,11 +1,10 @@
 -- What the call `write_line` answers, "writer 1 to 10, 19, 18, 14", with document 02's 23 "in the writer after 18", and what it leaves in
 -- the line buffer.
-use Rattle.std.specs.Prelude.{Bool, not, List, [], ◌∷◌, ◌++◌, ℕ, leb, ltb, length, ℤ, Result, Ok, Err}
+use Rattle.std.specs.Prelude.{Bool, not, List, [], ◌∷◌, ◌++◌, ℕ, leb, ltb, length, ℤ, Result}
 use Rattle.refusal.specs.declared.Cause.{Cause}
 use Rattle.refusal.specs.Verdict.{Verdict}
-use Rattle.refusal.specs.Numbers.{number_of}
-use Rattle.refusal.specs.Checks.{Check, ◌↝◌, verdict, if_passed, leaves}
-use Rattle.refusal.specs.Told.{Told, accepted, refused, told}
+use Rattle.refusal.specs.Checks.{Check, ◌↝◌, verdict, answer, leaves}
+use Rattle.refusal.specs.Told.{Told, told}
 use Rattle.design.specs.declared.Design.{Design}
 use Rattle.tables.specs.Set.{set_checks}
 use Rattle.lines.specs.declared.Slot.{Slot}
@@ -39,7 +38,7 @@ write_verdict d initial offsets n buffer =
 
 -- The writer "returns its length", by the verdict on what is asked for
 abbrev pub written_if : Verdict → List ℕ → Result ℕ Cause
-written_if v line = if_passed v (Ok (length line)) Err
+written_if v line = answer v (length line)
 
 -- n is the asked number, `buffer` the length of the line buffer.
 unfoldable pub write_answer : Design → List ℕ → List ℤ → ℕ → ℕ → Result ℕ Cause
@@ -50,11 +49,6 @@ write_answer d initial offsets n buffer = written_if (write_verdict d initial of
 unfoldable pub buffer_after : Design → List ℕ → List ℤ → ℕ → List ℕ → List ℕ
 buffer_after d initial offsets n buffer =
     leaves (write_verdict d initial offsets n (length buffer)) (line_at d initial offsets n) buffer
-
--- What each answer tells: the line's length, or the refusal's number
-abbrev pub told_by : (Result ℕ Cause) → Told ℕ
-told_by (Ok digits) = accepted digits
-told_by (Err cause) = refused (number_of cause) 0
 
 -- What is to be told: a refusal, or the line's length
 unfoldable pub write_told : Design → List ℕ → List ℤ → ℕ → ℕ → Told ℕ

@@ -1,12 +1,13 @@
 // The writer: one line of a set a call, by its number.
 #![tactic(auto)]
 
-ghost use Rattle.std.specs.Prelude.{◌≡◌, true, length};
-ghost use Rattle.refusal.specs.Checks.{verdict};
+ghost use Rattle.std.specs.Prelude.{◌≡◌, length};
+ghost use Rattle.refusal.specs.Checks.{verdict, answer};
+ghost use Rattle.refusal.specs.Told.{told_by};
 ghost use Rattle.design.specs.Legal.{Legal};
-ghost use Rattle.lines.specs.Lines.{entry_fits, entry_number};
+ghost use Rattle.lines.specs.Lines.{entry_number};
 ghost use Rattle.lines.specs.Inputs.{SlotIn};
-ghost use Rattle.writing.specs.Write.{entry_checks, asked_checks, write_answer, buffer_after, told_by, write_told};
+ghost use Rattle.writing.specs.Write.{entry_checks, asked_checks, write_answer, buffer_after, write_told};
 
 use design::Design;
 use encoding::numbers::{complement, fits, fits_signed};
@@ -29,42 +30,24 @@ fn entry_verdict(fits: bool, over: bool) -> Result<(), Cause>
     Ok(())
 }
 
-// What the entry of a line is refused for. The limit on sums is for initial entries alone.
-fn asked_verdict(d: Design, slot: Slot, initial: &[u32], offsets: &[i32]) -> Result<(), Cause>
+// The entry of a line as it is written, or what it is refused for. The limit on sums is for initial entries alone.
+fn asked_number(d: Design, slot: Slot, initial: &[u32], offsets: &[i32]) -> Result<u32, Cause>
     requires legal { Legal d }
     requires slot_in { SlotIn slot (length initial.now) (length offsets.now) }
-    ensures { result ≡ verdict (asked_checks d slot initial.now offsets.now) }
+    ensures { result ≡ answer (verdict (asked_checks d slot initial.now offsets.now)) (entry_number slot initial.now offsets.now) }
 {
     match slot {
-        Slot::Design => Ok(()),
         Slot::Initial(index) => {
             let entry = initial[index as usize];
-            entry_verdict(fits(entry), initial_over(d, entry))
+            entry_verdict(fits(entry), initial_over(d, entry))?;
+            Ok(entry)
         }
-        Slot::Offset {
-            table: _,
-            index: _,
-            place,
-        } => entry_verdict(fits_signed(offsets[place as usize]), false),
-        Slot::End(_) => Ok(()),
-    }
-}
-
-// The entry of a line as it is written.
-fn entry_number(slot: Slot, initial: &[u32], offsets: &[i32]) -> u32
-    requires slot_in { SlotIn slot (length initial.now) (length offsets.now) }
-    requires offsets_value { entry_fits slot initial.now offsets.now ≡ true }
-    ensures { result ≡ entry_number slot initial.now offsets.now }
-{
-    match slot {
-        Slot::Design => 0,
-        Slot::Initial(index) => initial[index as usize],
-        Slot::Offset {
-            table: _,
-            index: _,
-            place,
-        } => complement(offsets[place as usize]),
-        Slot::End(_) => 0,
+        Slot::Offset { place, .. } => {
+            let entry = offsets[place as usize];
+            entry_verdict(fits_signed(entry), false)?;
+            Ok(complement(entry))
+        }
+        Slot::Design | Slot::End(_) => Ok(0),
     }
 }
 
@@ -86,14 +69,14 @@ pub fn write_line(
         return Err(Cause::LineNumber);
     }
     let slot = slot_of(d, number);
-    asked_verdict(d, slot, initial, offsets)?;
+    let entry = asked_number(d, slot, initial, offsets)?;
     let head = head_of(d, slot);
     let width = entry_width(slot);
     let digits = 2 * (head.count + width + 1);
     if line.len() < digits {
         return Err(Cause::OutputShort);
     }
-    let frame = head.with(width, entry_number(slot, initial, offsets));
+    let frame = head.with(width, entry);
     put_line(frame, line);
     Ok(digits)
 }

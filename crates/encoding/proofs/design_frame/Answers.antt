@@ -5,9 +5,6 @@ use Rattle.encoding.specs.DesignBytes.{design_bytes}
 use Rattle.encoding.proofs.DesignLaws.{paired-more, paired-all}
 use Rattle.encoding.proofs.design_frame.Goals as goal
 
-pub design_head-frame-requires : goal.design_head-frame-requires
-design_head-frame-requires c = c.requires
-
 pub loop-i-init : goal.loop-i-init
 unfolding design_bytes
 loop-i-init c =
@@ -26,9 +23,6 @@ pub with-frame-requires : goal.with-frame-requires
 with-frame-requires c =
     let few = (limits _ c.loop-i.invariant.legal).m-high in
     record { narrow = omega arith; room = omega (arith, few, c.with.ensures.count_value) }
-
-pub loop-i-smaller : goal.loop-i-smaller
-loop-i-smaller c = omega arith
 
 pub loop-i-preserved : goal.loop-i-preserved
 loop-i-preserved c =

@@ -1,10 +1,6 @@
 -- `encoding::design_frame` meets its contract: each turn puts a pair behind the others.
-use Prim.Native.Nat.{◌-◌}
 use Rattle.encoding.proofs.DesignLaws.{Paired}
 use Rattle.encoding.proofs.design_frame.Given as goal
 
 abbrev pub invariant-loop-i : goal.invariant-loop-i
 invariant-loop-i l = Paired l.d l.frame l.i
-
-abbrev pub decreases-loop-i : goal.decreases-loop-i
-decreases-loop-i l = l.m - l.i

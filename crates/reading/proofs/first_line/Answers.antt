@@ -1,4 +1,5 @@
 -- `reading::first_line` meets its contract: the first frame is tried, and then the tables' lengths.
+use Rattle.std.proofs.lemmas.Result.{err_from_is_err_and}
 use mathlib.Core.Path.{sym, ◌∙◌}
 use borrow.Author.Rules.{rules}
 use Rattle.general.proofs.Tests.{tested}
@@ -6,23 +7,26 @@ use Rattle.frames.proofs.FrameLaws.{first_frame}
 use Rattle.reading.proofs.LineSteps.{first-refused, first_short, first-accepted}
 use Rattle.reading.proofs.first_line.Goals as goal
 
-pub returns-in-Refused : goal.returns-in-Refused
-returns-in-Refused c =
-    c.refused.ensures
-    ∙ first-refused _ _ (search rules) c.requires.sound _ c.requires.taken_value _ _ _ (sym c.first_verdict.ensures ∙ c.in-Refused.is)
+pub returns-in_err-first_verdict : goal.returns-in_err-first_verdict
+returns-in_err-first_verdict c =
+    let r = err_from_is_err_and c.from_residual.result c.from_residual.ensures.1 in
+    rw (r.1, r.2)
+    (first-refused _ _ (search rules) c.requires.sound _ c.requires.taken_value _ _ _
+    (sym c.first_verdict.ensures ∙ c.in_err-first_verdict.was))
 
 pub tables_short-requires : goal.tables_short-requires
-tables_short-requires c = rw c.frame_design-design.ensures (first_frame _ _ (sym c.first_verdict.ensures ∙ c.in_default.is)).legal
+tables_short-requires c =
+    rw c.frame_design-design.ensures (first_frame _ _ (sym c.first_verdict.ensures ∙ c.in_ok-first_verdict.was)).legal
 
 pub returns-then-tables_short : goal.returns-then-tables_short
 returns-then-tables_short c =
-    c.refused-then-tables_short.ensures
-    ∙ first_short _ _ (search rules) c.requires.sound _ c.requires.taken_value _ _ (sym c.first_verdict.ensures ∙ c.in_default.is)
+    first_short _ _ (search rules) c.requires.sound _ c.requires.taken_value _ _ (sym c.first_verdict.ensures ∙ c.in_ok-first_verdict.was)
     (rw c.frame_design-design.ensures at (tested c.tables_short.ensures c.if-tables_short.true))
 
 pub returns : goal.returns
 returns c =
     let design-is = c.frame_design-design.ensures in
     rw design-is
-    (first-accepted _ _ (search rules) c.requires.sound _ c.requires.taken_value _ _ (sym c.first_verdict.ensures ∙ c.in_default.is)
+    (first-accepted _ _ (search rules) c.requires.sound _ c.requires.taken_value _ _
+    (sym c.first_verdict.ensures ∙ c.in_ok-first_verdict.was)
     (rw design-is at (tested c.tables_short.ensures c.if-tables_short.false)))

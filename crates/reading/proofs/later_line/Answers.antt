@@ -74,8 +74,8 @@ module _ (d : Design) (n : ℕ) (slot : Slot) (number : ℕ) (bytes : List ℕ) 
 
 pub returns-then-line_count-state : goal.returns-then-line_count-state
 returns-then-line_count-state c =
-    let both = refused-outcome _ c.args.initial.now c.args.offsets.now _ _ _ c.refused.ensures
-    (nothing-due _ _ (search rules) c.requires.sound _ c.requires.begun _ _ (rw c.line_count.ensures at c.if-line_count-state.true)) in record { value = both.0; initial_after = both.1.0; offsets_after = both.1.1 }
+    refused-outcome _ c.args.initial.now c.args.offsets.now _ _
+    (nothing-due _ _ (search rules) c.requires.sound _ c.requires.begun _ _ (rw c.line_count.ensures at c.if-line_count-state.true))
 
 pub head_fails-requires : goal.head_fails-requires
 head_fails-requires c =
@@ -84,8 +84,8 @@ head_fails-requires c =
 
 pub returns-then-head_fails : goal.returns-then-head_fails
 returns-then-head_fails c =
-    let both = refused-outcome _ c.args.initial.now c.args.offsets.now _ _ _ c.refused-then-head_fails.ensures
-    (other-due _ _ (search rules) c.requires.sound _ c.requires.begun _ _ (due-told _ _ _ _ c.slot_of-slot.ensures c.head_of-head.ensures.result_value c.head_of-head.ensures.count_value _ _ _ _ _ c.entry_width-width.ensures c.head_fails.ensures c.if-head_fails.true)) in record { value = both.0; initial_after = both.1.0; offsets_after = both.1.1 }
+    refused-outcome _ c.args.initial.now c.args.offsets.now _ _
+    (other-due _ _ (search rules) c.requires.sound _ c.requires.begun _ _ (due-told _ _ _ _ c.slot_of-slot.ensures c.head_of-head.ensures.result_value c.head_of-head.ensures.count_value _ _ _ _ _ c.entry_width-width.ensures c.head_fails.ensures c.if-head_fails.true))
 
 pub number_in-number-requires : goal.number_in-number-requires
 number_in-number-requires c =
@@ -102,15 +102,15 @@ entry_over-over-requires c = c.requires.begun.legal
 
 pub returns-then-over : goal.returns-then-over
 returns-then-over c =
-    let both = refused-outcome _ c.args.initial.now c.args.offsets.now _ _ _ c.refused-then-over.ensures
+    refused-outcome _ c.args.initial.now c.args.offsets.now _ _
     (later-over _ _ (search rules) c.requires.sound _ c.requires.begun _ _ (rw c.line_count.ensures at c.if-line_count-state.false) (due-told _ _ _ _ c.slot_of-slot.ensures c.head_of-head.ensures.result_value c.head_of-head.ensures.count_value _ _ _ _ _ c.entry_width-width.ensures c.head_fails.ensures c.if-head_fails.false)
-    (over-told _ _ _ _ _ c.slot_of-slot.ensures (number_is _ _ _ _ c.slot_of-slot.ensures c.head_of-head.ensures.result_value c.head_of-head.ensures.count_value _ _ _ c.entry_width-width.ensures c.number_in-number.ensures.value) _ _ c.entry_over-over.ensures c.if-over.true)) in record { value = both.0; initial_after = both.1.0; offsets_after = both.1.1 }
+    (over-told _ _ _ _ _ c.slot_of-slot.ensures (number_is _ _ _ _ c.slot_of-slot.ensures c.head_of-head.ensures.result_value c.head_of-head.ensures.count_value _ _ _ c.entry_width-width.ensures c.number_in-number.ensures.value) _ _ c.entry_over-over.ensures c.if-over.true))
 
 pub returns-then-short : goal.returns-then-short
 returns-then-short c =
-    let both = refused-outcome _ c.args.initial.now c.args.offsets.now _ _ _ c.refused-then-short.ensures
+    refused-outcome _ c.args.initial.now c.args.offsets.now _ _
     (later-short _ _ (search rules) c.requires.sound _ c.requires.begun _ _ (rw c.line_count.ensures at c.if-line_count-state.false) (due-told _ _ _ _ c.slot_of-slot.ensures c.head_of-head.ensures.result_value c.head_of-head.ensures.count_value _ _ _ _ _ c.entry_width-width.ensures c.head_fails.ensures c.if-head_fails.false)
-    (over-told _ _ _ _ _ c.slot_of-slot.ensures (number_is _ _ _ _ c.slot_of-slot.ensures c.head_of-head.ensures.result_value c.head_of-head.ensures.count_value _ _ _ c.entry_width-width.ensures c.number_in-number.ensures.value) _ _ c.entry_over-over.ensures (search rules)) (tested c.tables_short-short.ensures c.if-short.true)) in record { value = both.0; initial_after = both.1.0; offsets_after = both.1.1 }
+    (over-told _ _ _ _ _ c.slot_of-slot.ensures (number_is _ _ _ _ c.slot_of-slot.ensures c.head_of-head.ensures.result_value c.head_of-head.ensures.count_value _ _ _ c.entry_width-width.ensures c.number_in-number.ensures.value) _ _ c.entry_over-over.ensures (search rules)) (tested c.tables_short-short.ensures c.if-short.true))
 
 pub store-requires : goal.store-requires
 store-requires c =
@@ -132,4 +132,4 @@ returns c =
     let passed = later-accepted _ _ (search rules) c.requires.sound _ c.requires.begun _ _ (rw c.line_count.ensures at c.if-line_count-state.false) due below (tested c.tables_short-short.ensures c.if-short.false) in
     let told = accepted-outcome _ c.requires.begun c.args.initial.now c.args.offsets.now _ _ due passed in
     let tables = stored _ _ _ _ _ c.slot_of-slot.ensures (number_is _ _ _ _ c.slot_of-slot.ensures c.head_of-head.ensures.result_value c.head_of-head.ensures.count_value _ _ _ c.entry_width-width.ensures c.number_in-number.ensures.value) _ _ _ _ (c.store.ensures.initial_after, c.store.ensures.offsets_after) in
-    record { value = told.0; initial_after = tables.0 ∙ told.1.0; offsets_after = tables.1 ∙ told.1.1 }
+    record { value = told.value; initial_after = tables.0 ∙ told.initial_after; offsets_after = tables.1 ∙ told.offsets_after }

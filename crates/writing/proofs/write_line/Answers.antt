@@ -1,101 +1,114 @@
 -- `writing::write_line` meets its contract: the verdict of the set, then the number, the entry, the room, the line.
-use mathlib.Core.Path.{sym, ap, ◌∙◌}
-use Prim.Native.Nat.{◌<◌}
+use Rattle.std.proofs.lemmas.Result.{err_from_is_err_and}
+use Rattle.std.specs.Prelude.{Ok}
+use mathlib.Core.Path.{◌≡◌, sym, ap, ◌∙◌}
+use mathlib.Core.List.{List}
+use Prim.Native.Nat.{ℕ, ◌<◌}
 use native.Mathlib.Omega.{arith}
 use borrow.Author.Tests.{lt-ltb, le-ltb}
+use lib.IntN.{ℤ}
 use lib.ListN.{length}
 use Rattle.general.specs.Lists.{over}
+use Rattle.refusal.specs.Verdict.{Verdict}
+use Rattle.refusal.specs.Checks.{verdict}
+use Rattle.refusal.proofs.Answers.{answer-refused, answer-given}
+use Rattle.design.specs.declared.Design.{Design}
 use Rattle.tables.specs.Inputs.{Usable}
+use Rattle.tables.specs.Set.{set_checks}
 use Rattle.tables.proofs.SetLaws.{usable}
-use Rattle.lines.specs.Slots.{line_count}
+use Rattle.encoding.specs.declared.Frame.{Frame}
+use Rattle.encoding.specs.Inputs.{held}
+use Rattle.lines.specs.declared.Slot.{Slot}
+use Rattle.lines.specs.Slots.{line_count, slot_of}
+use Rattle.lines.specs.Lines.{frame_head, entry_width}
 use Rattle.lines.proofs.SlotLaws.{slot-in}
-use Rattle.writing.proofs.WriteLaws.{
-  carried,
-  refused-before,
-  past-set,
-  entry-refused,
-  Asked,
-  asked_in,
-  asked-narrow,
-  asked-short,
-  asked-length,
-  asked-room,
-  asked-line,
-  refuses,
-  writes,
-}
+use Rattle.writing.proofs.WriteLaws.{refused-before, past-set, entry-refused, Asked, asked-narrow, asked-short, asked-length, asked-room, asked-line, refuses, writes}
 use Rattle.writing.proofs.write_line.Goals as goal
-use Rattle.writing.proofs.write_line.Goals.{Else-line_count-number, In_default}
 
-pub returns-in-Refused : goal.returns-in-Refused
-returns-in-Refused c =
-    let both = refuses _ _ _ _ _ (refused-before _ _ _ _ _ (sym c.set_verdict.ensures ∙ c.in-Refused.is)) in record { answer = both.0; told = both.1.0; line_buffer = both.1.1 }
+-- The set's verdict passed.
+set : {d : Design} {initial offsets : ℕ} {v : Verdict} → v ≡ verdict (set_checks d initial offsets) → v ≡ Ok tt → Usable d initial offsets
+set told was = usable _ _ _ (sym told ∙ was)
 
--- where the set's verdict passed
-set : (c : In_default) →
-    let a = c.args in
-    Usable a.d (length a.initial.now) (length a.offsets.now)
-set c = usable _ _ _ (sym c.set_verdict.ensures ∙ c.in_default.is)
+pub returns-in_err-set_verdict : goal.returns-in_err-set_verdict
+returns-in_err-set_verdict c =
+    let r = err_from_is_err_and c.from_residual.result c.from_residual.ensures.1 in
+    rw (r.1, r.2) (refuses _ _ _ _ _ (refused-before _ _ _ _ _ (sym c.set_verdict.ensures ∙ c.in_err-set_verdict.was)))
 
 pub line_count-requires : goal.line_count-requires
-line_count-requires c = (set c).legal
+line_count-requires c = (set c.set_verdict.ensures c.in_ok-set_verdict.was).legal
 
 pub returns-then-line_count-number : goal.returns-then-line_count-number
 returns-then-line_count-number c =
-    let both = refuses _ _ _ _ _ (past-set _ _ _ _ _ (usable _ _ _ (sym c.set_verdict.ensures ∙ c.in_default.is)) (omega (arith, c.line_count.ensures, c.if-line_count-number.true))) in record { answer = both.0; told = both.1.0; line_buffer = both.1.1 }
-
--- where the number is within the set
-within : (c : Else-line_count-number) → let a = c.args in a.number < line_count a.d
-within c = omega (arith, c.line_count.ensures, c.if-line_count-number.false)
+    let u = set c.set_verdict.ensures c.in_ok-set_verdict.was in
+    refuses _ _ _ _ _ (past-set _ _ _ _ _ u (omega (arith, c.line_count.ensures, c.if-line_count-number.true)))
 
 pub slot_of-slot-requires : goal.slot_of-slot-requires
-slot_of-slot-requires c = record { legal = (usable _ _ _ (sym c.set_verdict.ensures ∙ c.in_default.is)).legal; within = within c }
+slot_of-slot-requires c =
+    record {
+      legal = (set c.set_verdict.ensures c.in_ok-set_verdict.was).legal;
+      within = omega (arith, c.line_count.ensures, c.if-line_count-number.false);
+    }
 
-pub asked_verdict-requires : goal.asked_verdict-requires
-asked_verdict-requires c =
-    let u = (usable _ _ _ (sym c.set_verdict.ensures ∙ c.in_default.is)) in
-    record { legal = u.legal; slot_in = rw c.slot_of-slot.ensures (slot-in _ _ _ _ u (omega (arith, c.line_count.ensures, c.if-line_count-number.false))) }
+pub asked_number-requires : goal.asked_number-requires
+asked_number-requires c =
+    let u = set c.set_verdict.ensures c.in_ok-set_verdict.was in
+    let within : c.args.number < line_count c.args.d = omega (arith, c.line_count.ensures, c.if-line_count-number.false) in
+    record { legal = u.legal; slot_in = rw c.slot_of-slot.ensures (slot-in _ _ _ _ u within) }
 
-pub returns-in-Refused-asked_verdict : goal.returns-in-Refused-asked_verdict
-returns-in-Refused-asked_verdict c =
-    let both = refuses _ _ _ _ _ (entry-refused _ _ _ _ _ (usable _ _ _ (sym c.set_verdict.ensures ∙ c.in_default.is)) (omega (arith, c.line_count.ensures, c.if-line_count-number.false))
-    (rw (← c.slot_of-slot.ensures) (sym c.asked_verdict.ensures ∙ c.in-Refused-asked_verdict.is))) in record { answer = both.0; told = both.1.0; line_buffer = both.1.1 }
+pub returns-in_err-entry : goal.returns-in_err-entry
+returns-in_err-entry c =
+    let r = err_from_is_err_and c.from_residual-in_err-entry.result c.from_residual-in_err-entry.ensures.1 in
+    let u = set c.set_verdict.ensures c.in_ok-set_verdict.was in
+    let within : c.args.number < line_count c.args.d = omega (arith, c.line_count.ensures, c.if-line_count-number.false) in
+    let wrong = answer-refused _ _ (sym c.asked_number.ensures ∙ c.in_err-entry.was) in
+    rw (r.1, r.2) (refuses _ _ _ _ _ (entry-refused _ _ _ _ _ u within (rw c.slot_of-slot.ensures at wrong)))
 
 pub head_of-head-requires : goal.head_of-head-requires
-head_of-head-requires c = (usable _ _ _ (sym c.set_verdict.ensures ∙ c.in_default.is)).legal
+head_of-head-requires c = (set c.set_verdict.ensures c.in_ok-set_verdict.was).legal
+
+-- The line is known up to its entry.
+asked : {d : Design} {initial : List ℕ} {offsets : List ℤ} {n count : ℕ} {v : Verdict} {slot : Slot} {head : Frame} {width : ℕ}
+    → v ≡ verdict (set_checks d (length initial) (length offsets)) → v ≡ Ok tt → count ≡ line_count d → n < count → slot ≡ slot_of d n
+    → record { result_value : held head ≡ frame_head d slot; count_value : head.count ≡ length (frame_head d slot) }
+    → width ≡ entry_width slot → Asked d initial offsets n slot head width
+asked told was count-is less slot_is head-is width_is = record {
+  set = set told was;
+  within = omega arith;
+  slot_is = slot_is;
+  head-is = head-is.result_value;
+  count-is = head-is.count_value;
+  width_is = width_is;
+}
 
 pub overflow_add-digits : goal.overflow_add-digits
-overflow_add-digits c = omega (arith, asked-short (record { set = (usable _ _ _ (sym c.set_verdict.ensures ∙ c.in_default.is)); within = (omega (arith, c.line_count.ensures, c.if-line_count-number.false)); slot_is = c.slot_of-slot.ensures; head-is = c.head_of-head.ensures.result_value; count-is = c.head_of-head.ensures.count_value; width_is = c.entry_width-width.ensures }))
+overflow_add-digits c = omega (arith, asked-short (asked c.set_verdict.ensures c.in_ok-set_verdict.was c.line_count.ensures c.if-line_count-number.false c.slot_of-slot.ensures c.head_of-head.ensures c.entry_width-width.ensures))
 
 pub overflow_add-digits-2 : goal.overflow_add-digits-2
-overflow_add-digits-2 c = omega (arith, asked-short (record { set = (usable _ _ _ (sym c.set_verdict.ensures ∙ c.in_default.is)); within = (omega (arith, c.line_count.ensures, c.if-line_count-number.false)); slot_is = c.slot_of-slot.ensures; head-is = c.head_of-head.ensures.result_value; count-is = c.head_of-head.ensures.count_value; width_is = c.entry_width-width.ensures }))
+overflow_add-digits-2 c = omega (arith, asked-short (asked c.set_verdict.ensures c.in_ok-set_verdict.was c.line_count.ensures c.if-line_count-number.false c.slot_of-slot.ensures c.head_of-head.ensures c.entry_width-width.ensures))
 
 pub overflow_mul-digits : goal.overflow_mul-digits
-overflow_mul-digits c = omega (arith, asked-short (record { set = (usable _ _ _ (sym c.set_verdict.ensures ∙ c.in_default.is)); within = (omega (arith, c.line_count.ensures, c.if-line_count-number.false)); slot_is = c.slot_of-slot.ensures; head-is = c.head_of-head.ensures.result_value; count-is = c.head_of-head.ensures.count_value; width_is = c.entry_width-width.ensures }))
+overflow_mul-digits c = omega (arith, asked-short (asked c.set_verdict.ensures c.in_ok-set_verdict.was c.line_count.ensures c.if-line_count-number.false c.slot_of-slot.ensures c.head_of-head.ensures c.entry_width-width.ensures))
 
 pub returns-then-line-digits : goal.returns-then-line-digits
 returns-then-line-digits c =
-    let both = refuses _ _ _ _ _ (asked-room (record { set = (usable _ _ _ (sym c.set_verdict.ensures ∙ c.in_default.is)); within = (omega (arith, c.line_count.ensures, c.if-line_count-number.false)); slot_is = c.slot_of-slot.ensures; head-is = c.head_of-head.ensures.result_value; count-is = c.head_of-head.ensures.count_value; width_is = c.entry_width-width.ensures }) _ _ (sym c.asked_verdict.ensures ∙ c.in_default-asked_verdict.is) (lt-ltb _ _ c.if-line-digits.true)) in record { answer = both.0; told = both.1.0; line_buffer = both.1.1 }
-
-pub entry_number-requires : goal.entry_number-requires
-entry_number-requires c =
-    record { slot_in = asked_in (record { set = (usable _ _ _ (sym c.set_verdict.ensures ∙ c.in_default.is)); within = (omega (arith, c.line_count.ensures, c.if-line_count-number.false)); slot_is = c.slot_of-slot.ensures; head-is = c.head_of-head.ensures.result_value; count-is = c.head_of-head.ensures.count_value; width_is = c.entry_width-width.ensures }); offsets_value = (carried _ _ _ _ (sym c.asked_verdict.ensures ∙ c.in_default-asked_verdict.is)).fits }
+    let passed = answer-given _ _ (sym c.asked_number.ensures ∙ c.in_ok-entry.was) in
+    refuses _ _ _ _ _ (asked-room (asked c.set_verdict.ensures c.in_ok-set_verdict.was c.line_count.ensures c.if-line_count-number.false c.slot_of-slot.ensures c.head_of-head.ensures c.entry_width-width.ensures) _ _ passed.0 (lt-ltb _ _ c.if-line-digits.true))
 
 pub with-frame-requires : goal.with-frame-requires
 with-frame-requires c =
-    let a : Asked c.args.d c.args.initial.now c.args.offsets.now c.args.number c.slot_of-slot.result c.head_of-head.result
-    c.entry_width-width.result = (record { set = (usable _ _ _ (sym c.set_verdict.ensures ∙ c.in_default.is)); within = (omega (arith, c.line_count.ensures, c.if-line_count-number.false)); slot_is = c.slot_of-slot.ensures; head-is = c.head_of-head.ensures.result_value; count-is = c.head_of-head.ensures.count_value; width_is = c.entry_width-width.ensures }) in
+    let a = (asked c.set_verdict.ensures c.in_ok-set_verdict.was c.line_count.ensures c.if-line_count-number.false c.slot_of-slot.ensures c.head_of-head.ensures c.entry_width-width.ensures) in
     record { narrow = omega (arith, asked-narrow a); room = omega (arith, asked-short a) }
 
 pub put_line-requires : goal.put_line-requires
 put_line-requires c =
     record {
-      short = omega (arith, c.with-frame.ensures.count_value, asked-short (record { set = (usable _ _ _ (sym c.set_verdict.ensures ∙ c.in_default.is)); within = (omega (arith, c.line_count.ensures, c.if-line_count-number.false)); slot_is = c.slot_of-slot.ensures; head-is = c.head_of-head.ensures.result_value; count-is = c.head_of-head.ensures.count_value; width_is = c.entry_width-width.ensures }));
+      short = omega (arith, c.with-frame.ensures.count_value, asked-short (asked c.set_verdict.ensures c.in_ok-set_verdict.was c.line_count.ensures c.if-line_count-number.false c.slot_of-slot.ensures c.head_of-head.ensures c.entry_width-width.ensures));
       long = omega (arith, c.with-frame.ensures.count_value, c.if-line-digits.false);
     }
 
 pub returns : goal.returns
 returns c =
-    let a : Asked c.args.d c.args.initial.now c.args.offsets.now c.args.number c.slot_of-slot.result c.head_of-head.result
-    c.entry_width-width.result = (record { set = (usable _ _ _ (sym c.set_verdict.ensures ∙ c.in_default.is)); within = (omega (arith, c.line_count.ensures, c.if-line_count-number.false)); slot_is = c.slot_of-slot.ensures; head-is = c.head_of-head.ensures.result_value; count-is = c.head_of-head.ensures.count_value; width_is = c.entry_width-width.ensures }) in let both = writes _ _ _ _ _ (asked-room a _ _ (sym c.asked_verdict.ensures ∙ c.in_default-asked_verdict.is) (le-ltb _ _ c.if-line-digits.false)) (asked-length a)
-    (c.put_line.ensures ∙ ap (over _ 0) (asked-line a c.with-frame.ensures.result_value c.entry_number.ensures)) in record { answer = both.0; told = both.1.0; line_buffer = both.1.1 }
+    let a = (asked c.set_verdict.ensures c.in_ok-set_verdict.was c.line_count.ensures c.if-line_count-number.false c.slot_of-slot.ensures c.head_of-head.ensures c.entry_width-width.ensures) in
+    let passed = answer-given _ _ (sym c.asked_number.ensures ∙ c.in_ok-entry.was) in
+    writes _ _ _ _ _ (asked-room a _ _ passed.0 (le-ltb _ _ c.if-line-digits.false)) (asked-length a)
+    (c.put_line.ensures ∙ ap (over _ 0) (asked-line a c.with-frame.ensures.result_value (sym passed.1)))
