@@ -36,7 +36,8 @@ impl From<Cause> for BatchRefusal {
     }
 }
 
-// Refusals 12 and 13 of a word, or the word itself: one sum, m + 1 lookups.
+// Refusals 12 and 13 of a word, or the word itself: one sum, m + 1 lookups. Inlined into the loop, as the methods of the set are.
+#[inline(always)]
 fn word_answer(set: TableSet, x: u32) -> Result<OutputUnits, Cause>
     ensures { result ≡ evaluated
         (verdict (word_checks set.entry.tables.design set.entry.initial.now set.entry.tables.offsets.now x))
@@ -108,6 +109,7 @@ fn words_verdict(set: TableSet, words: &[u32]) -> Result<usize, BatchRefusal>
 }
 
 // A word that is known to pass.
+#[inline(always)]
 fn word(set: TableSet, x: u32) -> OutputUnits
     requires { verdict (word_checks set.tables.design set.initial.now set.tables.offsets.now x) ≡ Ok tt }
     ensures { result ≡ record { 0 = word_at set.entry.tables.design set.entry.initial.now set.entry.tables.offsets.now x } }

@@ -1,8 +1,9 @@
 -- What is not better than the best, though it is admitted: designs whose size or budget is too large already, and none where none is legal.
+use Rattle.std.specs.Prelude.{Option}
 use mathlib.Core.Path.{◌≡◌, sym}
 use mathlib.Core.Bool.{true, false, true≢false}
 use Prim.Native.Nat.{ℕ, zero, suc, ◌+◌, ◌*◌, ◌≤◌}
-use native.Mathlib.Nat.{add-suc, add-zero, le_trans}
+use native.Mathlib.Nat.{add-suc, add-zero}
 use native.Mathlib.Omega.{arith}
 use borrow.Author.Tests.{ltb-true, lt-ltb}
 use Rattle.general.specs.Lists.{All}
@@ -22,7 +23,7 @@ use Rattle.searching.specs.declared.SizedDesign.{SizedDesign}
 use Rattle.searching.specs.Designs.{continued}
 use Rattle.searching.specs.Best.{is_admitted}
 use Rattle.searching.specs.Search.{size_before, budget_before}
-use Rattle.searching.proofs.BestLaws.{NotBetter}
+use Rattle.searching.proofs.BestLaws.{Reached, reached-more, NotBetter}
 use Rattle.searching.proofs.PrefixLaws.{
   Agrees,
   continued-agrees,
@@ -52,14 +53,14 @@ pub no-fewer : (d e : Design) (i : ℕ) → Agrees d e i → i ≤ d.m → size_
 no-fewer d e i same h = rw (size-before-same d e i same) (size-before-mono e i (rw (← same.m) h))
 
 -- Designs that begin with the same i tables, none of which is better
-module _ (best : SizedDesign) (n : ℕ) (d : Design) (i : ℕ) where
-  pub none-better : ((e : Design) → Agrees d e i → Admitted e → best.bits ≤ size e) → All (NotBetter best) (continued n d i)
+module _ (best : Option SizedDesign) (n : ℕ) (d : Design) (i : ℕ) where
+  pub none-better : ((e : Design) → Agrees d e i → Admitted e → Reached best (size e)) → All (NotBetter best) (continued n d i)
   none-better none =
       all_weaker (λ e same admitted. none e same (admitted-so e admitted)) (continued n d i) (continued-agrees n d i)
 
   -- for they have too many bits already,
-  pub too_many : i ≤ d.m → best.bits ≤ size_before d i → All (NotBetter best) (continued n d i)
-  too_many h many = none-better (λ e same admitted. le_trans many (no-fewer d e i same h))
+  pub too_many : i ≤ d.m → Reached best (size_before d i) → All (NotBetter best) (continued n d i)
+  too_many h many = none-better (λ e same admitted. reached-more best _ _ many (no-fewer d e i same h))
 
   -- or too large a budget,
   pub too_large : i ≤ d.m → limit d ≤ budget_before d i → All (NotBetter best) (continued n d i)

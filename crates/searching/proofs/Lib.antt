@@ -8,4 +8,3 @@ pub mod TableLaws
 pub mod RestLaws
 pub mod TurnLaws
 pub mod BeginLaws
-pub mod VerdictLaws

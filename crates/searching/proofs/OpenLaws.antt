@@ -22,9 +22,8 @@ use Rattle.design.proofs.LegalLaws.{Limits, within}
 use Rattle.sizing.specs.Size.{table_size}
 use Rattle.sizing.proofs.SizeLaws.{table-size-is}
 use Rattle.sizing.proofs.GrowthLaws.{size_by}
-use Rattle.searching.specs.declared.prefix.Prefix.{Prefix}
 use Rattle.searching.specs.Designs.{with_pair}
-use Rattle.searching.specs.Search.{size_before, budget_before, Open, Fitting, Next}
+use Rattle.searching.specs.Search.{size_before, budget_before, Open, Fitting}
 use Rattle.searching.proofs.AdmittedLaws.{bits-between}
 use Rattle.searching.proofs.PrefixLaws.{
   Agrees,
@@ -149,14 +148,3 @@ module _ (d : Design) (i a b : ℕ) (h : i < d.m) (places : length d.pairs ≡ m
         left-low = omega (arith, between.0, l.cut, position-is, same.m, same.w, same.alpha);
         left-high = omega (arith, between.1, l.cut, position-is, same.m, same.w, same.alpha);
       }
-
--- By what is kept of a design
-module _ (prefix : Prefix) (n : Next prefix) where
-  pub bits-kept : prefix.bits ≡ size_before prefix.design prefix.tables
-  bits-kept = ap (λ (p : Prefix). p.bits) n.is
-
-  pub budget-kept : prefix.budget ≡ budget_before prefix.design prefix.tables
-  budget-kept = ap (λ (p : Prefix). p.budget) n.is
-
-  pub position-kept : prefix.position ≡ position prefix.design prefix.tables
-  position-kept = ap (λ (p : Prefix). p.position) n.is

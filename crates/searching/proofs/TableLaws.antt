@@ -1,5 +1,7 @@
 -- One table more: the best by its b, and which b count at all; and the best with the last table.
+use Rattle.std.specs.Prelude.{Option, Some}
 use mathlib.Core.Path.{◌≡◌, refl, ◌∙◌}
+use mathlib.Core.Bool.{true}
 use mathlib.Core.List.{List}
 use Prim.Native.Nat.{ℕ, suc, ◌+◌, ◌-◌, ◌≤◌, ◌<◌}
 use native.Mathlib.Nat.{add-le-add, le_refl, le_trans}
@@ -18,9 +20,9 @@ use Rattle.sizing.specs.Size.{size}
 use Rattle.sizing.proofs.GrowthLaws.{size_by, grows}
 use Rattle.searching.specs.declared.SizedDesign.{SizedDesign}
 use Rattle.searching.specs.Designs.{with_pair, continued}
-use Rattle.searching.specs.Best.{better, best_of}
+use Rattle.searching.specs.Best.{fewer, better, best_of}
 use Rattle.searching.specs.Search.{size_before, budget_before, Open, Fitting}
-use Rattle.searching.proofs.BestLaws.{NotBetter, better-not, better-so, best-first, best-one, best-rest}
+use Rattle.searching.proofs.BestLaws.{Reached, reached-more, NotBetter, better-not, better-so, best-first, best-one, best-rest}
 use Rattle.searching.proofs.AdmittedLaws.{so-admitted, no-fewer, none-better, too_large}
 use Rattle.searching.proofs.PrefixLaws.{Agrees, size-whole}
 use Rattle.searching.proofs.OpenLaws.{open-limits, open_next, fitting, size-next}
@@ -43,7 +45,7 @@ module _ (d : Design) (i : ℕ) (o : Open d i) (h : i < d.m) where
   pub fits : (a b : ℕ) (e : Design) → Agrees (with_pair d i a b) e (i + 1) → Admitted e → Fitting d i a b
   fits a b e same admitted = fitting d i a b h o.begun.places o.begun.m-high e same (limits e admitted.legal)
 
-  pub unfit : (now : SizedDesign) (n a b : ℕ) → (Fitting d i a b → ⊥) → All (NotBetter now) (by-b n a b)
+  pub unfit : (now : Option SizedDesign) (n a b : ℕ) → (Fitting d i a b → ⊥) → All (NotBetter now) (by-b n a b)
   unfit now n a b not = none-better now n (with_pair d i a b) (i + 1) (λ e same admitted. absurd (not (fits a b e same admitted)))
 
   -- The size grows with a and b, as far as pairs fit.
@@ -60,22 +62,22 @@ module _ (d : Design) (i : ℕ) (o : Open d i) (h : i < d.m) where
         size_of a b = size-next d i a b h o.begun.places o.begun.m-high
 
   -- The best by b, over those below k: those before the first one do not count, and what is left then.
-  module _ (best : SizedDesign) (n a : ℕ) where
+  module _ (best : Option SizedDesign) (n a : ℕ) where
     pub first-b : (k : ℕ) → 1 ≤ k → ((b : ℕ) → b < k → Fitting d i a b → ⊥) → best_of best (joined 1 (k - 1) (by-b n a)) ≡ best
     first-b k one not =
         best-rest 1 (by-b n a) best best 1 k (le_refl 1) one (best-first 1 (by-b n a) best)
         (λ b from to. unfit best n a b (not b to))
 
-    pub last-b : (now : SizedDesign) (k : ℕ) → 1 ≤ k → k ≤ most_offset_bits + 1
-        → ((b : ℕ) → k ≤ b → (e : Design) → Agrees (with_pair d i a b) e (i + 1) → Admitted e → now.bits ≤ size e)
+    pub last-b : (now : Option SizedDesign) (k : ℕ) → 1 ≤ k → k ≤ most_offset_bits + 1
+        → ((b : ℕ) → k ≤ b → (e : Design) → Agrees (with_pair d i a b) e (i + 1) → Admitted e → Reached now (size e))
         → best_of best (joined 1 (k - 1) (by-b n a)) ≡ now → best_of best (by-a n a) ≡ now
     last-b now k one high none e =
         best-rest 1 (by-b n a) best now k (most_offset_bits + 1) one high e
         (λ b from to. none-better now n (with_pair d i a b) (i + 1) (none b from))
 
   -- The same by a
-  pub last-a : (best now : SizedDesign) (n k : ℕ) → 1 ≤ k → k ≤ d.alpha + 1
-      → ((a b : ℕ) → k ≤ a → (e : Design) → Agrees (with_pair d i a b) e (i + 1) → Admitted e → now.bits ≤ size e)
+  pub last-a : (best now : Option SizedDesign) (n k : ℕ) → 1 ≤ k → k ≤ d.alpha + 1
+      → ((a b : ℕ) → k ≤ a → (e : Design) → Agrees (with_pair d i a b) e (i + 1) → Admitted e → Reached now (size e))
       → best_of best (joined 1 (k - 1) (by-a n)) ≡ now → best_of best (continued (suc n) d i) ≡ now
   unfolding continued
   last-a best now n k one high none e =
@@ -84,14 +86,15 @@ module _ (d : Design) (i : ℕ) (o : Open d i) (h : i < d.m) where
       (λ j below. none-better now n (with_pair d i a (1 + j)) (i + 1) (none a (1 + j) from)))
 
   -- What has no fewer bits than the best with a and b has none with larger ones.
-  pub still-many : (now : SizedDesign) (a b a' b' : ℕ) → a ≤ a' → b ≤ b' → now.bits ≤ size_before (with_pair d i a b) (i + 1)
-      → (e : Design) → Agrees (with_pair d i a' b') e (i + 1) → Admitted e → now.bits ≤ size e
+  pub still-many : (now : Option SizedDesign) (a b a' b' : ℕ) → a ≤ a' → b ≤ b' → Reached now (size_before (with_pair d i a b) (i + 1))
+      → (e : Design) → Agrees (with_pair d i a' b') e (i + 1) → Admitted e → Reached now (size e)
   unfolding with_pair
   still-many now a b a' b' a-more b-more many e same admitted =
-      le_trans many (le_trans (size-grows a b a' b' a-more b-more (fits a' b' e same admitted)) (no-fewer (with_pair d i a' b') e (i + 1) same (omega arith)))
+      reached-more now _ _ many
+      (le_trans (size-grows a b a' b' a-more b-more (fits a' b' e same admitted)) (no-fewer (with_pair d i a' b') e (i + 1) same (omega arith)))
 
   -- The last table's b is all that is left.
-  module _ (now : SizedDesign) (a b : ℕ) (last : i + 1 ≡ d.m) (b-is : b ≡ d.w - d.alpha - position d i) where
+  module _ (now : Option SizedDesign) (a b : ℕ) (last : i + 1 ≡ d.m) (b-is : b ≡ d.w - d.alpha - position d i) where
     left : (1 ≤ b) × (b ≤ most_offset_bits)
     left = (omega (arith, o.left-low), omega (arith, o.left-high))
 
@@ -106,9 +109,9 @@ module _ (d : Design) (i : ℕ) (o : Open d i) (h : i < d.m) where
           too_far other above fit = omega (arith, fit.left-low, o.left-high)
 
     -- It is taken, or not.
-    pub last_taken : Fitting d i a b → size_before (with_pair d i a b) (i + 1) < now.bits
+    pub last_taken : Fitting d i a b → fewer (size_before (with_pair d i a b) (i + 1)) now ≡ true
         → budget_before (with_pair d i a b) (i + 1) < limit (with_pair d i a b)
-        → better now (with_pair d i a b) ≡ record { design = with_pair d i a b; bits = size_before (with_pair d i a b) (i + 1) }
+        → better now (with_pair d i a b) ≡ Some (record { design = with_pair d i a b; bits = size_before (with_pair d i a b) (i + 1) })
     unfolding with_pair
     last_taken fit fewer within =
         let e = with_pair d i a b in

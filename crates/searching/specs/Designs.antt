@@ -20,10 +20,6 @@ bare kind w q g alpha m =
       pairs = no_pair ∷ no_pair ∷ no_pair ∷ no_pair ∷ [];
     }
 
--- A design of zeros, where there is none
-unfoldable pub no_design : Design
-no_design = bare 0 0 0 0 0 0
-
 -- The design with this pair for table i
 unfoldable pub with_pair : Design → ℕ → ℕ → ℕ → Design
 with_pair d i a b =

@@ -1,9 +1,10 @@
 -- What inner calls of the search promise each other, and may count on.
-use Rattle.std.specs.Prelude.{false, List, ◌≡◌, ℕ, ◌+◌, ◌-◌, ◌*◌, ◌^◌, ◌≤◌, ◌<◌, length, get_or, Ok}
+use Rattle.std.specs.Prelude.{Ok, false, List, ◌≡◌, ℕ, ◌+◌, ◌-◌, ◌*◌, ◌^◌, ◌≤◌, ◌<◌, length, get_or}
 use Rattle.general.specs.Below.{sum_below}
 use Rattle.refusal.specs.Checks.{verdict}
 use Rattle.values.specs.Rows.{row_of}
-use Rattle.values.specs.Slopes.{largest_spread, largest_sum}
+use Rattle.values.specs.declared.slopes.LargestSlopes.{LargestSlopes}
+use Rattle.values.specs.Slopes.{largest_spread, largest_slopes}
 use Rattle.values.specs.Widths.{limits_of, width_checks}
 use Rattle.design.specs.declared.Design.{Design}
 use Rattle.design.specs.declared.legal.TableRule.{TableRule}
@@ -12,7 +13,6 @@ use Rattle.design.specs.Cut.{row, fraction_bits, position}
 use Rattle.design.specs.Legal.{table_breaks}
 use Rattle.design.specs.Budget.{table_budget, limit}
 use Rattle.sizing.specs.Size.{initial_size, table_size}
-use Rattle.searching.specs.declared.prefix.Prefix.{Prefix}
 use Rattle.searching.specs.Designs.{bare}
 
 -- The size and the budget of a design's first i tables, with all that is not a table's: at i = m its size and its budget
@@ -22,9 +22,12 @@ size_before d i = initial_size d + sum_below i (table_size d)
 unfoldable pub budget_before : Design → ℕ → ℕ
 budget_before d i = sum_below i (table_budget d) + (d.m + 2) * 2 ^ 17
 
--- What is kept of a design whose first i pairs are chosen
-abbrev pub prefix_of : Design → ℕ → Prefix
-prefix_of d i = record { design = d; tables = i; position = position d i; bits = size_before d i; budget = budget_before d i }
+-- Where the bits of the next table begin, and size and budget so far, of a design whose first i pairs are chosen; and its limit
+pub record Kept (d : Design) (i at bits budget most : ℕ) : Type 0 where
+  pub position_is : at ≡ position d i
+  pub bits_are : bits ≡ size_before d i
+  pub budget-is : budget ≡ budget_before d i
+  pub limit_is : most ≡ limit d
 
 -- A design whose widths and alpha are within their limits
 pub record Started (d : Design) : Type 0 where
@@ -59,20 +62,14 @@ pub record Fitting (d : Design) (i a b : ℕ) : Type 0 where
   pub left-low : position d i + b + (d.m - (i + 1)) ≤ d.w - d.alpha
   pub left-high : d.w - d.alpha ≤ position d i + b + (d.m - (i + 1)) * most_offset_bits
 
--- What is kept is that of a design with a table to choose.
-pub record Next (prefix : Prefix) : Type 0 where
-  pub is : prefix ≡ prefix_of prefix.design prefix.tables
-  pub so_far : Open prefix.design prefix.tables
-  pub more : prefix.tables < prefix.design.m
+-- By a, "the largest Hi - Lo over all A_i" and the largest Hi + Lo. A table has at least one bit of B, so a is below the highest a + b.
+abbrev pub no_slopes : LargestSlopes
+no_slopes = record { spread = 0; sum = 0 }
 
--- By a, "the largest Hi - Lo over all A_i", and behind these the largest Hi + Lo. A table has at least one bit of B, so a is below the
--- highest a + b, and there are so many of each.
-pub record SlopesOf (kind w P : ℕ) (slopes : List ℕ) : Type 0 where
-  pub long : length slopes ≡ most_table_bits + most_table_bits
-  pub spread_at : (a : ℕ) → 1 ≤ a → a < most_table_bits → a < w → get_or slopes a 0 ≡ largest_spread (row_of kind) w P a
-  pub sum-at : (a : ℕ) → 1 ≤ a → a < most_table_bits → a < w → get_or slopes (most_table_bits + a) 0 ≡ largest_sum (row_of kind) w P a
+abbrev pub SlopesOf : ℕ → ℕ → ℕ → List LargestSlopes → Type 0
+SlopesOf kind w P slopes = (a : ℕ) → 1 ≤ a → a < most_table_bits → a < w → get_or slopes a no_slopes ≡ largest_slopes (row_of kind) w P a
 
-abbrev pub SlopesFor : Design → List ℕ → Type 0
+abbrev pub SlopesFor : Design → List LargestSlopes → Type 0
 SlopesFor d slopes = SlopesOf d.kind d.w (fraction_bits d) slopes
 
 -- A number that the largest Hi - Lo of no table is below
@@ -80,8 +77,8 @@ abbrev pub Least : Design → ℕ → Type 0
 Least d least = (a : ℕ) → 1 ≤ a → a ≤ d.alpha → a < most_table_bits → least ≤ largest_spread (row d) d.w (fraction_bits d) a
 
 -- The same of the spreads in a list, by a up to alpha
-abbrev pub LeastOf : List ℕ → ℕ → ℕ → Type 0
-LeastOf slopes alpha least = (a : ℕ) → 1 ≤ a → a ≤ alpha → a < most_table_bits → least ≤ get_or slopes a 0
+abbrev pub LeastOf : List LargestSlopes → ℕ → ℕ → Type 0
+LeastOf slopes alpha least = (a : ℕ) → 1 ≤ a → a ≤ alpha → a < most_table_bits → least ≤ (get_or slopes a no_slopes).spread
 
 -- What all tables from position p on add to the budget at least: their D_i add up to 2^(w-alpha) - 2^p.
 unfoldable pub rest_from : Design → ℕ → ℕ → ℕ

@@ -20,6 +20,7 @@ pub struct Run {
 
 impl OffsetTables<'_> {
     // inner: the run that begins at x. `near` is any word of its interval.
+    #[inline(always)]
     pub fn run_of(self, entry: u32, near: u32, x: u32) -> Run
         requires { SameInterval self.design near x × (offset_word self.design 0 x ≡ 0) }
         ensures { (result.start ≡ x) × (result.entry ≡ entry) × RunOf self.entry.design self.entry.offsets.now result }
@@ -35,6 +36,7 @@ impl OffsetTables<'_> {
     }
 
     // inner: Y of word b of the run.
+    #[inline(always)]
     pub fn sum_in(self, run: Run, b: u32) -> TableUnits
         requires { RunOf self.design self.offsets.now run × (b < run.size) }
         ensures { result ≡ record { 0 = sum_from self.entry.design run.entry self.entry.offsets.now (run.start + b) } }

@@ -17,6 +17,7 @@ use refusal::Cause;
 use values::{OutputUnits, TableUnits};
 
 // A legal design with its lookups, and offsets that are enough for its tables: what a sum needs once its initial entry is known.
+// Its methods are always inlined: a call for each word would copy the struct for each word, which takes three times as long.
 #[derive(Clone, Copy, Debug)]
 pub struct OffsetTables<'a> {
     pub design: Design,
@@ -46,6 +47,7 @@ fn add_offset(sum: TableUnits, offsets: &[i32], place: u32) -> TableUnits
 
 impl OffsetTables<'_> {
     // Adds the offset of table i, whose lookup this is; `i` is there for the promise only. `near` is any word of x's interval.
+    #[inline(always)]
     pub(crate) fn add_table(
         self,
         i: u32,
@@ -63,6 +65,7 @@ impl OffsetTables<'_> {
     }
 
     // Adds the offsets of the tables from 1 on. `near` is any word of x's interval.
+    #[inline(always)]
     pub(crate) fn add_above(self, sum: TableUnits, near: u32, x: u32) -> TableUnits
         requires { SameInterval self.design near x × (mag sum.0 ≤ 2 ^ 34) }
         ensures { (result ≡ record { 0 = sum_above self.entry.design sum.0 self.entry.offsets.now x }) × (mag result.0 ≤ 2 ^ 40) }
@@ -83,6 +86,7 @@ impl OffsetTables<'_> {
     }
 
     // inner: Y, from x's initial entry on: m lookups, shifts and adds. `near` is any word of x's interval.
+    #[inline(always)]
     pub fn sum_from(self, entry: u32, near: u32, x: u32) -> TableUnits
         requires { SameInterval self.design near x }
         ensures { result ≡ record { 0 = sum_from self.entry.design entry self.entry.offsets.now x } }
@@ -93,6 +97,7 @@ impl OffsetTables<'_> {
     }
 
     // inner: whether Y is out of range, not 0 ≤ Y < 2^(P+2).
+    #[inline(always)]
     pub fn sum_outside(self, sum: TableUnits) -> bool
         ensures { result ≡ sum_outside self.entry.design sum.0 }
     {
@@ -101,6 +106,7 @@ impl OffsetTables<'_> {
     }
 
     // inner: the word, floor(Y / 2^g): the only place where table units become output units.
+    #[inline(always)]
     pub fn word_of(self, sum: TableUnits) -> OutputUnits
         requires { sum_outside self.design sum.0 ≡ false }
         ensures { result ≡ record { 0 = word_of self.entry.design sum.0 } }
@@ -128,6 +134,7 @@ impl<'a> TableSet<'a> {
     }
 
     // inner: Y, summed from the tables: the initial entry and m offsets.
+    #[inline(always)]
     pub fn sum_of(self, x: u32) -> TableUnits
         requires { x < 2 ^ self.tables.design.w }
         ensures { result ≡ record { 0 = sum_at self.entry.tables.design self.entry.initial.now self.entry.tables.offsets.now x } }

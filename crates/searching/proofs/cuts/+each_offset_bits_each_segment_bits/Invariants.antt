@@ -6,10 +6,10 @@ use Rattle.searching.proofs.cuts.+each_offset_bits_each_segment_bits.Given as go
 
 -- how many tables are left, twice, and one more for the loop over a, which comes first
 abbrev pub decreases-each_offset_bits : goal.decreases-each_offset_bits
-decreases-each_offset_bits l = 2 * (l.prefix.design.m - l.prefix.tables)
+decreases-each_offset_bits l = 2 * (l.prefix.now.design.m - l.prefix.now.tables)
 
 abbrev pub decreases-each_segment_bits : goal.decreases-each_segment_bits
-decreases-each_segment_bits l = 2 * (l.prefix.design.m - l.prefix.tables) + 1
+decreases-each_segment_bits l = 2 * (l.prefix.now.design.m - l.prefix.now.tables) + 1
 
 abbrev pub invariant-each_offset_bits-loop-b : goal.invariant-each_offset_bits-loop-b
 invariant-each_offset_bits-loop-b l =
