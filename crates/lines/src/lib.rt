@@ -17,7 +17,7 @@ use general::pow2;
 
 // What a line of a set holds: the design, an initial entry, an offset of a table, which lies at a place among all offsets, or the
 // number of lines before the last.
-#[derive(Clone, Copy)]
+#[derive(Clone, Copy, Debug, PartialEq, Eq)]
 pub enum Slot {
     Design,
     Initial(u32),
@@ -38,21 +38,19 @@ fn offset_slot(d: Design, place: u32) -> Slot
     requires { PlaceInput d place }
     ensures { result ≡ offset_slot d place }
 {
-    let at = place as u64;
-    let mut table = 0;
-    let mut start = 0;
-    let mut end = offset_count(d, 0);
-    while end <= at {
-        table += 1;
-        start = end;
-        end += offset_count(d, table);
+    let mut index = place as u64;
+    for table in 0..d.m {
+        let count = offset_count(d, table);
+        if index < count {
+            return Slot::Offset {
+                table,
+                index: index as u32,
+                place,
+            };
+        }
+        index -= count;
     }
-    let index = (at - start) as u32;
-    Slot::Offset {
-        table,
-        index,
-        place,
-    }
+    unreachable!()
 }
 
 // inner: what line n of a set holds.
@@ -83,11 +81,7 @@ pub fn head_of(d: Design, slot: Slot) -> Frame
     match slot {
         Slot::Design => design_frame(d),
         Slot::Initial(index) => Frame::of_kind(2).with(2, index),
-        Slot::Offset {
-            table,
-            index,
-            place: _,
-        } => Frame::of_kind(3).with(1, table).with(2, index),
+        Slot::Offset { table, index, .. } => Frame::of_kind(3).with(1, table).with(2, index),
         Slot::End(before) => Frame::of_kind(4).with(2, before),
     }
 }
@@ -105,13 +99,9 @@ pub fn some_over(d: Design, initial: &[u32]) -> bool
     requires { Legal d × (initial_count d ≤ length initial.now) }
     ensures { result ≡ some_over d initial.now }
 {
-    let count = pow2(d.alpha) as usize;
-    for i in 0..count {
-        if initial_over(d, initial[i]) {
-            return true;
-        }
-    }
-    false
+    initial[..pow2(d.alpha) as usize]
+        .iter()
+        .any(|entry| initial_over(d, *entry))
 }
 
 // inner: whether a line's entry, which is given as the number in its bytes, is such an initial entry. Offsets have no limit but that of
@@ -120,16 +110,7 @@ pub fn entry_over(d: Design, slot: Slot, number: u32) -> bool
     requires { Legal d }
     ensures { result ≡ entry_over d slot number }
 {
-    match slot {
-        Slot::Design => false,
-        Slot::Initial(_) => initial_over(d, number),
-        Slot::Offset {
-            table: _,
-            index: _,
-            place: _,
-        } => false,
-        Slot::End(_) => false,
-    }
+    matches!(slot, Slot::Initial(_)) && initial_over(d, number)
 }
 
 // inner: how many bytes the entry of a line takes.
@@ -137,13 +118,7 @@ pub fn entry_width(slot: Slot) -> usize
     ensures { result ≡ entry_width slot }
 {
     match slot {
-        Slot::Design => 0,
-        Slot::Initial(_) => ENTRY_BYTES,
-        Slot::Offset {
-            table: _,
-            index: _,
-            place: _,
-        } => ENTRY_BYTES,
-        Slot::End(_) => 0,
+        Slot::Initial(_) | Slot::Offset { .. } => ENTRY_BYTES,
+        Slot::Design | Slot::End(_) => 0,
     }
 }

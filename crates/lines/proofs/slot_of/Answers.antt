@@ -30,17 +30,10 @@ overflow_cast-entries c = omega (arith, entries-are c, initial-count-small _ (li
 pub returns-then-line-entries : goal.returns-then-line-entries
 returns-then-line-entries c = sym (slot-initial _ _ _ (omega arith) (omega (arith, entries-are c.before)))
 
-pub offset_total-requires : goal.offset_total-requires
-offset_total-requires c = c.requires.legal
-
 pub overflow_add-entries : goal.overflow_add-entries
 overflow_add-entries c =
     let l = limits _ c.requires.legal in
     omega (arith, entries-are c.before.before, initial-count-small _ l, c.offset_total.ensures, offset-total-small _ l)
-
-pub offset_slot-requires : goal.offset_slot-requires
-offset_slot-requires c =
-    record { legal = c.requires.legal; within = omega (arith, c.offset_total.ensures) }
 
 pub returns-then-line-entries-2 : goal.returns-then-line-entries-2
 returns-then-line-entries-2 c =

@@ -1,7 +1,7 @@
--- `counting::Counts::with` meets its contract: of the five counts the one of the class grows by one.
+-- `counting::Counts::add` meets its contract: of the five counts the one of the class grows by one.
 use native.Mathlib.Nat.{add-zero}
 use Rattle.counting.specs.Inputs.{with_class}
-use Rattle.counting.proofs.Counts.with.Goals as goal
+use Rattle.counting.proofs.Counts.add.Goals as goal
 
 pub returns-in-Outside : goal.returns-in-Outside
 unfolding with_class

@@ -1,4 +1,4 @@
--- `counting::count_run` meets its contract: before word b of the run, the words below it are counted.
+-- `counting::Words::count_run` meets its contract: before word b of the run, the words below it are counted.
 use mathlib.Core.Path.{◌≡◌, ◌∙◌}
 use mathlib.Core.List.{List}
 use Prim.Native.Nat.{ℕ, ◌+◌, ◌^◌, ◌<◌}
@@ -21,13 +21,15 @@ use Rattle.counting.specs.declared.Counts.{Counts}
 use Rattle.counting.specs.Count.{class_of, class_at, counts_below}
 use Rattle.counting.specs.Inputs.{with_class}
 use Rattle.counting.proofs.CountLaws.{counts-next, counts-few}
-use Rattle.counting.proofs.count_run.Goals as goal
-use Rattle.counting.proofs.count_run.Goals.{In-loop-b}
+use Rattle.counting.proofs.Words.count_run.Goals as goal
 
 -- Word b of the run
 module _ {d : Design} (l : Limits d) {offsets : List ℤ} {run : Run} (r : RunOf d offsets run) (b : ℕ) (b_lt : b < run.size) where
   word_lt : run.start + b < 2 ^ d.w
   word_lt = (run-interval d l run.start b r.starts (rw r.size_is at b_lt) r.interval).word
+
+  few : run.start + b < word_bound
+  few = omega (arith, word_lt, words-few l.widths.room)
 
   module _ (initial : List ℕ) (entry-is : run.entry ≡ get_or initial (initial_word d run.start) 0) {sum : TableUnits}
       (sum_is_lem : sum ≡ record { 0 = sum_from d run.entry offsets (run.start + b) }) where
@@ -45,46 +47,26 @@ more : (classes : ℕ → Class) (n b : ℕ) {counts next : Counts} {class : Cla
 more classes n b counts-are class-is next-is = next-is ∙ rw (counts-are, class-is, counts-next classes (n + b), add_assoc n b 1)
 
 pub loop-b-init : goal.loop-b-init
-loop-b-init c = (rw add-zero c.requires.before_value, omega arith)
-
-pub sum_in-requires : goal.sum_in-requires
-sum_in-requires c =
-    let p = c.requires in
-    record { legal = (p.usable.legal, p.usable.offsets-long); lookups_value = p.lookups_value.0; run_of = (p.run_of.0, omega arith) }
-
--- this turn's word
-word : (c : In-loop-b) → let a = c.args in a.run.start + c.loop-b.b < 2 ^ a.d.w
-word c =
-    let p = c.requires in
-    word_lt (limits _ p.usable.legal) p.run_of.0 _ (omega arith)
+loop-b-init c = rw add-zero c.requires.before_value
 
 pub overflow_add-run : goal.overflow_add-run
-overflow_add-run c = omega (arith, (let few' : (c.args.run.start + c.loop-b.b < word_bound) = omega (arith, (let word' : (let a = c.args in a.run.start + c.loop-b.b < 2 ^ a.d.w) = let p = c.requires in word_lt (limits _ p.usable.legal) p.run_of.0 _ (omega arith) in word'), words-few (limits _ c.requires.usable.legal).widths.room) in few'))
+overflow_add-run c = omega (arith, few (limits _ c.args.self.set.tables.legal) c.requires.run_of.0 _ c.loop-b-test.true)
 
-pub class_of-class-requires : goal.class_of-class-requires
-class_of-class-requires c =
-    let i = c.before.before.before in
-    let p = i.requires in
-    record { legal = (p.usable.legal, p.lookups_value.1); x_bound = (let word' : (let a = c.args in a.run.start + c.loop-b.b < 2 ^ a.d.w) = let p = c.requires in word_lt (limits _ p.usable.legal) p.run_of.0 _ (omega arith) in word') }
+pub class_of-requires : goal.class_of-requires
+class_of-requires c = word_lt (limits _ c.args.self.set.tables.legal) c.requires.run_of.0 _ c.loop-b-test.true
 
-pub with-counts-requires : goal.with-counts-requires
-with-counts-requires c =
-    let i = c.before.before.before.before in
-    rw i.loop-b.invariant.0 (counts-few _ _ (omega (arith, (let few' : (c.args.run.start + c.loop-b.b < word_bound) = omega (arith, (let word' : (let a = c.args in a.run.start + c.loop-b.b < 2 ^ a.d.w) = let p = c.requires in word_lt (limits _ p.usable.legal) p.run_of.0 _ (omega arith) in word'), words-few (limits _ c.requires.usable.legal).widths.room) in few'))))
-
-pub loop-b-smaller : goal.loop-b-smaller
-loop-b-smaller c = omega arith
+pub add-requires : goal.add-requires
+add-requires c =
+    rw c.loop-b.invariant
+    (counts-few _ _ (omega (arith, few (limits _ c.args.self.set.tables.legal) c.requires.run_of.0 _ c.loop-b-test.true)))
 
 pub loop-b-preserved : goal.loop-b-preserved
 loop-b-preserved c =
-    let k = c.before.before in
-    let i = k.before.before.before in
-    let p = i.requires in
-    let class-is = classed (limits _ p.usable.legal) p.run_of.0 _ (omega arith) _ p.run_of.1 k.sum_in.ensures
-    k.class_of-class.ensures in
-    (more _ _ _ i.loop-b.invariant.0 class-is c.with-counts.ensures, omega arith)
+    let class-is = classed (limits _ c.args.self.set.tables.legal) c.requires.run_of.0 _ c.loop-b-test.true _ c.requires.run_of.1
+    c.sum_in-sum.ensures c.class_of.ensures in
+    more _ _ _ c.loop-b.invariant class-is c.add.ensures
 
 pub returns : goal.returns
 returns c =
     let all : c.loop-b.b ≡ c.args.run.size = omega arith in
-    rw all at c.loop-b.invariant.0
+    rw all at c.loop-b.invariant
