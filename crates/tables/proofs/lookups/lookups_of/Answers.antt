@@ -6,9 +6,9 @@ use Rattle.design.specs.Stored.{table_start}
 use Rattle.tables.specs.Lookup.{lookups_of}
 use Rattle.tables.proofs.lookups.lookups_of.Goals as goal
 
-pub lookup_of-first-requires-clause-position_value : goal.lookup_of-first-requires-clause-position_value
+pub lookup_of-first-requires : goal.lookup_of-first-requires
 unfolding position table_start sum_below
-lookup_of-first-requires-clause-position_value c = (refl, refl)
+lookup_of-first-requires c = (refl, refl)
 
 pub returns : goal.returns
 unfolding lookups_of
