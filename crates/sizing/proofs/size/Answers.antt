@@ -40,18 +40,12 @@ legal c = sym c.design_verdict.ensures ∙ c.in_ok-design_verdict.was
 pub limit_of-requires : goal.limit_of-requires
 limit_of-requires c = guard_small _ (limits _ (legal c))
 
-pub budget_of-requires : goal.budget_of-requires
-budget_of-requires c = legal c.before
-
 pub returns-then-limit_of-budget_of : goal.returns-then-limit_of-budget_of
 unfolding size_verdict design_verdict
 returns-then-limit_of-budget_of c =
     let p = refused-with _ _ (not-admitted _ (design_checks _) (legal c.before.before.before) (rw
         (c.limit_of.ensures, c.budget_of.ensures) at c.if-limit_of-budget_of.true)) in
     record { answer = p.0; told = p.1 }
-
-pub size_of-requires : goal.size_of-requires
-size_of-requires c = legal c.before.before.before
 
 pub returns : goal.returns
 unfolding size_verdict design_verdict

@@ -31,9 +31,6 @@ loop-i-init c =
       small = omega (arith, c.initial_size-bits.ensures, initial-by-small _ _ l.alpha-high l.widths.room.s-small);
     }
 
-pub table_size-bits-requires : goal.table_size-bits-requires
-table_size-bits-requires c = record { legal = c.requires; i_lt_m = (c.loop-i-test.true, c.loop-i.invariant.place) }
-
 -- one table more
 module _ (d : Design) (bits i size : ℕ) where
   grown : bits ≡ initial_size d + sum_below i (table_size d) → size ≡ table_size d i → bits + size ≡ initial_size d + sum_below (i + 1) (table_size d)
