@@ -5,7 +5,8 @@ use Prim.Native.Nat.{ℕ, zero, suc, ◌+◌, ◌-◌, ◌≤◌}
 use native.Mathlib.Nat.{le-add_right, sub-zero, zero-sub, suc-sub-suc, sub-add-eq}
 use native.Mathlib.Omega.{arith}
 use lib.ListN.{length, drop, replicate, length-append}
-use lib.Seq.{paste, take-append_seam, drop-append-add, take-length}
+use lib.Seq.{drop-drop, take-append_seam, drop-append-add, take-length}
+use borrow.Rule.Slice.PartMut.{put_mid}
 use Rattle.report_text.specs.declared.Text.{Text}
 use Rattle.report_text.specs.Words.{decimal, text_of}
 use Rattle.report_text.proofs.DecimalLaws.{decimal-length}
@@ -20,15 +21,17 @@ drop-replicate zero m a = rw sub-zero
 drop-replicate (suc n) zero a = rw zero-sub
 drop-replicate (suc n) (suc m) a = rw suc-sub-suc (drop-replicate n m a)
 
-pub copied_behind : (t word : List ℕ)
+-- A word that was copied behind the text
+pub copied_behind : (t word part : List ℕ) (k : ℕ) → part ≡ word → k ≡ length word
     → record {
-      bytes = paste (text_of t).bytes (text_of t).count word (length word);
+      bytes = put_mid (text_of t).count k (text_of t).bytes part;
       count = (text_of t).count + length word;
     }
     ≡ text_of (t ++ word)
 unfolding text_of
-copied_behind t word =
-    simp (length-append, take-append_seam, drop-append-add, take-length, append_assoc, drop-replicate, sub-add-eq)
+copied_behind t word part k e f =
+    rw (e, f)
+    (simp (length-append, take-append_seam, drop-drop, drop-append-add, take-length, append_assoc, drop-replicate, sub-add-eq))
 
 -- What the text is, and that it has at most `most` bytes. What makes one computes, so that `t` is the parts in a row.
 pub record Made (text : Text) (most : ℕ) : Type 0 where

@@ -28,5 +28,5 @@ returns c =
     with-word (empty c.new.ensures) _ c.word.ensures in
     let made-number : Made c.decimal.result 28 =
     with-decimal made_word _ c.decimal.ensures in
-    rw (← c.number.ensures)
+    rw (← c.from.ensures, ← c.from-2.ensures)
     (with-word made-number _ c.word-2.ensures).is
