@@ -22,7 +22,8 @@ pub struct Text {
 impl Text {
     // No text yet.
     fn new() -> Text
-        ensures { result ≡ text_of [] }
+        ensures text { result ≡ text_of [] }
+        ensures count { result.count ≡ 0 }
     {
         Text {
             bytes: [0u8; 96],
@@ -33,7 +34,8 @@ impl Text {
     // The text with the word behind it. The caller sees to it that the word fits.
     fn word(self, word: &[u8]) -> Text
         requires { self.count + length word.now ≤ 96 }
-        ensures { (t : List ℕ) → self ≡ text_of t → result ≡ text_of (t ++ word.now) }
+        ensures count { result.count ≡ self.count + length word.now }
+        ensures text { (t : List ℕ) → self ≡ text_of t → result ≡ text_of (t ++ word.now) }
     {
         let Text { mut bytes, count } = self;
         let end = count + word.len();
@@ -44,7 +46,8 @@ impl Text {
     // The text with n's decimal digits behind it. The caller sees to it that 20 digits fit, which hold every n.
     fn decimal(self, n: u64) -> Text
         requires { self.count + 20 ≤ 96 }
-        ensures { (t : List ℕ) → self ≡ text_of t → result ≡ text_of (t ++ decimal n) }
+        ensures count { result.count ≤ self.count + 20 }
+        ensures text { (t : List ℕ) → self ≡ text_of t → result ≡ text_of (t ++ decimal n) }
     {
         self.word(Buffer::new().format(n).as_bytes())
     }
