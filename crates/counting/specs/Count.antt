@@ -1,11 +1,10 @@
 -- Document 02, A1: what the call `count` answers. "The call refuses as the check does", 1 to 10, and else gives "five counts over all 2^w
 -- inputs".
+use Rattle.std.specs.Prelude.{Bool, cond, List, ℕ, ◌+◌, ◌^◌, eqb, length, ℤ, Result}
 use Rattle.refusal.specs.declared.Cause.{Cause}
-use Rattle.std.specs.Prelude.{Bool, cond, List, ℕ, ◌+◌, ◌^◌, eqb, length, ℤ, Result, Ok, Err}
 use Rattle.refusal.specs.Verdict.{Verdict}
-use Rattle.refusal.specs.Numbers.{number_of}
-use Rattle.refusal.specs.Checks.{verdict, if_passed}
-use Rattle.refusal.specs.Told.{Told, accepted, refused, told}
+use Rattle.refusal.specs.Checks.{verdict, answer}
+use Rattle.refusal.specs.Told.{Told, told}
 use Rattle.general.specs.Below.{count_below}
 use Rattle.values.specs.Faithful.{is_faithful, is_nearest, is_too_low}
 use Rattle.design.specs.declared.Design.{Design}
@@ -59,13 +58,7 @@ unfoldable pub count_verdict : Design → List ℕ → List ℤ → Verdict
 count_verdict d initial offsets = verdict (set_checks d (length initial) (length offsets))
 
 unfoldable pub count_answer : Design → List ℕ → List ℤ → Result Counts Cause
-count_answer d initial offsets =
-    if_passed (count_verdict d initial offsets) (Ok (counts_below (2 ^ d.w) (class_at d initial offsets))) Err
-
--- What each answer tells: the five counts, or the refusal's number
-abbrev pub told_by : (Result Counts Cause) → Told Counts
-told_by (Ok counts) = accepted counts
-told_by (Err cause) = refused (number_of cause) 0
+count_answer d initial offsets = answer (count_verdict d initial offsets) (counts_below (2 ^ d.w) (class_at d initial offsets))
 
 -- What is to be told: 1 to 10, else the counts over all inputs
 unfoldable pub count_told : Design → List ℕ → List ℤ → Told Counts

@@ -1,28 +1,25 @@
 // How many of a set's words are nearest, only just faithful, or neither, over any tables, whoever filled them (document 02, A1).
 #![tactic(auto)]
 
-ghost use Rattle.std.specs.Prelude.{◌≡◌, ◌+◌, ◌*◌, ◌-◌, ◌^◌, ◌<◌, length, get_or};
+ghost use Rattle.std.specs.Prelude.{◌≡◌, ◌+◌, ◌*◌, ◌-◌, ◌^◌, ◌<◌, get_or};
+ghost use Rattle.refusal.specs.Told.{told_by};
 ghost use Rattle.design.specs.Cut as Cut;
 ghost use Rattle.design.specs.Stored.{initial_count};
-ghost use Rattle.design.specs.Legal.{Legal};
-ghost use Rattle.tables.specs.Inputs.{Usable, RunOf};
-ghost use Rattle.tables.specs.Lookup.{lookups_of};
-ghost use Rattle.counting.specs.Count.{class_of, class_at, counts_below, count_answer, told_by, count_told};
+ghost use Rattle.tables.specs.Inputs.{RunOf};
+ghost use Rattle.counting.specs.Count.{class_of, class_at, counts_below, count_answer, count_told};
 ghost use Rattle.counting.specs.Inputs.{Few, with_class};
 
 use design::Design;
 use general::pow2;
 use refusal::Cause;
-use tables::lookups::{Lookups, lookups_of};
-use tables::runs::{Run, run_of, sum_in};
-use tables::set_verdict;
-use tables::sums::{sum_outside, word_of};
+use tables::runs::Run;
+use tables::sums::TableSet;
 use values::TableUnits;
-use values::faithful::{is_faithful, is_nearest, is_too_low};
+use values::parts::Argument;
 use values::rows::{Row, row_of};
 
 // Where an input word lands: the first of these that fits. Faithful stands for faithful and not nearest.
-#[derive(Clone, Copy)]
+#[derive(Clone, Copy, Debug, PartialEq, Eq)]
 pub enum Class {
     Outside,
     Nearest,
@@ -32,7 +29,7 @@ pub enum Class {
 }
 
 // How many input words are in each class.
-#[derive(Clone, Copy)]
+#[derive(Clone, Copy, Debug, Default, PartialEq, Eq)]
 pub struct Counts {
     pub outside: u32,
     pub nearest: u32,
@@ -42,10 +39,10 @@ pub struct Counts {
 }
 
 impl Counts {
-    // The counts with one word more, by its class.
-    fn with(mut self, class: Class) -> Counts
-        requires { Few self }
-        ensures { result ≡ with_class self class }
+    // Counts one word more, by its class.
+    fn add(&mut self, class: Class)
+        requires { Few self.old }
+        ensures { self.new ≡ with_class self.old class }
     {
         match class {
             Class::Outside => self.outside += 1,
@@ -54,104 +51,99 @@ impl Counts {
             Class::Low => self.low += 1,
             Class::High => self.high += 1,
         }
-        self
     }
 }
 
-// The class of a word by its sum: the first that fits, in this order.
-fn class_of(d: Design, row: Row, sum: TableUnits, x: u32) -> Class
-    requires legal { Legal d × (row ≡ Cut.row d) }
-    requires x_bound { x < 2 ^ d.w }
-    ensures { result ≡ class_of d x sum.0 }
-{
-    if sum_outside(d, sum) {
-        return Class::Outside;
-    }
-    let word = word_of(d, sum);
-    let argument = pow2(d.w) + x as u64;
-    if is_nearest(row, d.w, d.q, argument, word) {
-        return Class::Nearest;
-    }
-    if is_faithful(row, d.w, d.q, argument, word) {
-        return Class::Faithful;
-    }
-    if is_too_low(row, d.w, d.q, argument, word) {
-        return Class::Low;
-    }
-    Class::High
-}
-
-// The counts with the words of a run. The initial entries are there for the promise alone.
-fn count_run(
-    d: Design,
-    lookups: Lookups,
+// The words of a set, and their function's row, which is found once.
+#[derive(Clone, Copy)]
+struct Words<'a> {
+    set: TableSet<'a>,
     row: Row,
-    run: Run,
-    initial: &[u32],
-    offsets: &[i32],
-    before: Counts,
-) -> Counts
-    requires usable { Usable d (length initial.now) (length offsets.now) }
-    requires lookups_value { (lookups ≡ lookups_of d) × (row ≡ Cut.row d) }
-    requires run_of { RunOf d offsets.now run × (run.entry ≡ get_or initial.now (Cut.initial_word d run.start) 0) }
-    requires before_value { before ≡ counts_below run.start (class_at d initial.now offsets.now) }
-    ensures { result ≡ counts_below (run.start + run.size) (class_at d initial.now offsets.now) }
-{
-    let mut counts = before;
-    for b in 0..run.size {
-        let class = class_of(d, row, sum_in(d, lookups, run, offsets, b), run.start + b);
-        counts = counts.with(class);
-    }
-    counts
+    ghost row_value: { row ≡ Cut.row set.tables.design },
 }
 
-// The counts with the words of an interval, a run at a time. Its initial entry and its segments are found once.
-fn count_interval(
-    d: Design,
-    lookups: Lookups,
-    row: Row,
-    initial: &[u32],
-    offsets: &[i32],
-    interval: u32,
-    before: Counts,
-) -> Counts
-    requires usable { Usable d (length initial.now) (length offsets.now) }
-    requires lookups_value { (lookups ≡ lookups_of d) × (row ≡ Cut.row d) }
-    requires interval_bound { interval < initial_count d }
-    requires before_value { before ≡ counts_below (interval * 2 ^ (d.w - d.alpha)) (class_at d initial.now offsets.now) }
-    ensures { result
-        ≡ counts_below ((interval + 1) * 2 ^ (d.w - d.alpha)) (class_at d initial.now offsets.now) }
-{
-    let b = lookups.first.b;
-    let runs = pow2(d.w - d.alpha - b) as u32;
-    let size = pow2(b) as u32;
-    let start = interval * (runs * size);
-    let entry = initial[interval as usize];
-    let mut counts = before;
-    for number in 0..runs {
-        let run = run_of(d, lookups, entry, offsets, start, start + number * size);
-        counts = count_run(d, lookups, row, run, initial, offsets, counts);
+impl Words<'_> {
+    // The class of a word by its sum: the first that fits, in this order.
+    fn class_of(self, sum: TableUnits, x: u32) -> Class
+        requires { x < 2 ^ self.set.tables.design.w }
+        ensures { result ≡ class_of self.entry.set.tables.design x sum.0 }
+    {
+        let tables = self.set.tables;
+        let d = tables.design;
+        if tables.sum_outside(sum) {
+            return Class::Outside;
+        }
+        let word = tables.word_of(sum);
+        let argument = Argument {
+            row: self.row,
+            w: d.w,
+            x: pow2(d.w) + x as u64,
+        };
+        if argument.is_nearest(d.q, word) {
+            return Class::Nearest;
+        }
+        if argument.is_faithful(d.q, word) {
+            return Class::Faithful;
+        }
+        if argument.is_too_low(d.q, word) {
+            return Class::Low;
+        }
+        Class::High
     }
-    counts
-}
 
-// The counts of all words, an interval at a time.
-fn count_words(d: Design, lookups: Lookups, row: Row, initial: &[u32], offsets: &[i32]) -> Counts
-    requires usable { Usable d (length initial.now) (length offsets.now) }
-    requires lookups_value { (lookups ≡ lookups_of d) × (row ≡ Cut.row d) }
-    ensures { result ≡ counts_below (2 ^ d.w) (class_at d initial.now offsets.now) }
-{
-    let mut counts = Counts {
-        outside: 0,
-        nearest: 0,
-        faithful: 0,
-        low: 0,
-        high: 0,
-    };
-    for interval in 0..pow2(d.alpha) as u32 {
-        counts = count_interval(d, lookups, row, initial, offsets, interval, counts);
+    // Counts the words of a run, after those before it.
+    fn count_run(self, run: Run, counts: &mut Counts)
+        requires run_of { let set = self.set in
+            RunOf set.tables.design set.tables.offsets.now run
+            × (run.entry ≡ get_or set.initial.now (Cut.initial_word set.tables.design run.start) 0) }
+        requires before_value { let set = self.set in
+            counts.old ≡ counts_below run.start (class_at set.tables.design set.initial.now set.tables.offsets.now) }
+        ensures { let set = self.entry.set in
+            counts.new ≡ counts_below (run.start + run.size) (class_at set.tables.design set.initial.now set.tables.offsets.now) }
+    {
+        let tables = self.set.tables;
+        for b in 0..run.size {
+            let sum = tables.sum_in(run, b);
+            counts.add(self.class_of(sum, run.start + b));
+        }
     }
-    counts
+
+    // Counts the words of an interval, a run at a time. Its initial entry and its segments are found once.
+    fn count_interval(self, interval: u32, counts: &mut Counts)
+        requires interval_bound { interval < initial_count self.set.tables.design }
+        requires before_value { let set = self.set in
+            let d = set.tables.design in
+            counts.old ≡ counts_below (interval * 2 ^ (d.w - d.alpha)) (class_at d set.initial.now set.tables.offsets.now) }
+        ensures { let set = self.entry.set in
+            let d = set.tables.design in
+            counts.new ≡ counts_below ((interval + 1) * 2 ^ (d.w - d.alpha)) (class_at d set.initial.now set.tables.offsets.now) }
+    {
+        let tables = self.set.tables;
+        let d = tables.design;
+        let b = tables.lookups.first.b;
+        let runs = pow2(d.w - d.alpha - b) as u32;
+        let size = pow2(b) as u32;
+        let start = interval * (runs * size);
+        let entry = self.set.initial[interval as usize];
+        for number in 0..runs {
+            let run = tables.run_of(entry, start, start + number * size);
+            self.count_run(run, counts);
+        }
+    }
+
+    // The counts of all words, an interval at a time.
+    fn count_all(self) -> Counts
+        ensures { let set = self.entry.set in
+            let d = set.tables.design in
+            result ≡ counts_below (2 ^ d.w) (class_at d set.initial.now set.tables.offsets.now) }
+    {
+        let intervals = pow2(self.set.tables.design.alpha) as u32;
+        let mut counts = Counts::default();
+        for interval in 0..intervals {
+            self.count_interval(interval, &mut counts);
+        }
+        counts
+    }
 }
 
 // Refusals 1 to 10 first, then the counts.
@@ -159,6 +151,10 @@ pub fn count(d: Design, initial: &[u32], offsets: &[i32]) -> Result<Counts, Caus
     ensures answer { result ≡ count_answer d initial.now offsets.now }
     ensures told { told_by result ≡ count_told d initial.now offsets.now }
 {
-    set_verdict(d, initial.len(), offsets.len())?;
-    Ok(count_words(d, lookups_of(d), row_of(d.kind), initial, offsets))
+    let set = TableSet::of(d, initial, offsets)?;
+    let words = Words {
+        set,
+        row: row_of(set.tables.design.kind),
+    };
+    Ok(words.count_all())
 }

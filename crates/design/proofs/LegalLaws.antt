@@ -1,11 +1,16 @@
 -- What legality tells of a design.
 use Rattle.std.specs.Prelude.{Ok}
-use mathlib.Core.Path.{◌≡◌, ◌∙◌}
+use mathlib.Core.Path.{◌≡◌, sym, ap, ◌∙◌}
 use mathlib.Core.Bool.{false}
 use Prim.Native.Nat.{ℕ, ◌+◌, ◌-◌, ◌≤◌, ◌<◌}
 use native.Mathlib.Omega.{arith}
 use lib.Pow.{pow_mono}
 use borrow.Author.Tests.{ltb-false, leb-false, le-ltb, lt-leb, eqb-true, eq-eqb, not-false}
+use lib.ListN.{length, get_or}
+use lib.Seq.{length-take-le}
+use Rattle.std.specs.List.{list_any, sum_by}
+use Rattle.general.specs.Below.{some_below, sum_below}
+use Rattle.general.proofs.OverLists.{some-in-list, sum-in-list}
 use Rattle.general.proofs.Tests.{neither}
 use Rattle.general.proofs.Sums.{none_below, none_of, sum_step}
 use Rattle.refusal.proofs.Checks.{verdict-append, passed-append, none-fails, inside, not-outside}
@@ -18,7 +23,9 @@ use Rattle.values.proofs.WidthLaws.{Widths, widths-of, within-passes}
 use Rattle.design.specs.declared.Design.{Design}
 use Rattle.design.specs.declared.legal.TableRule.{TableRule}
 use Rattle.design.specs.Limits.{least_initial_bits, most_initial_bits, most_tables, most_offset_bits, most_table_bits}
-use Rattle.design.specs.Cut.{a_of, b_of, row, fraction_bits, sum_limit, position}
+use Rattle.design.specs.Cut.{tables, no_pair, a_of, b_of, row, fraction_bits, sum_limit, position}
+use Rattle.design.specs.Cut as Cut
+use Rattle.design.specs.declared.Pair.{Pair}
 use Rattle.design.specs.Legal.{breaks, table_breaks, cut_checks, design_checks, design_verdict, Legal}
 
 -- A table that lies within document 01's limits
@@ -121,3 +128,21 @@ module _ (d : Design) (l : Limits d) where
   pub bits-end : (i : ℕ) → i < d.m → position d i + b_of d i ≤ d.w - d.alpha
   unfolding position
   bits-end i h = omega (arith, sum_step (b_of d) i d.m h, l.cut)
+
+-- The tables that are read, as a list: whether one of them breaks a rule, and their b_i in all
+module _ (d : Design) (some : d.m ≤ length d.pairs) where
+  read-length : length (tables d) ≡ d.m
+  unfolding tables
+  read-length = length-take-le d.m d.pairs some
+
+  pub some-breaks : (rule : TableRule) → some_below d.m (table_breaks rule d) ≡ list_any (breaks rule d.alpha) (tables d)
+  unfolding table_breaks Cut.pair_at
+  some-breaks rule =
+      ap (λ n. some_below n (λ i. breaks rule d.alpha (get_or (tables d) i no_pair))) (sym read-length)
+      ∙ some-in-list (breaks rule d.alpha) no_pair (tables d)
+
+  pub bits-in-all : position d d.m ≡ sum_by (λ (pair : Pair). pair.b) (tables d)
+  unfolding position Cut.pair_at
+  bits-in-all =
+      ap (λ n. sum_below n (λ i. (get_or (tables d) i no_pair).b)) (sym read-length)
+      ∙ sum-in-list (λ (pair : Pair). pair.b) no_pair (tables d)

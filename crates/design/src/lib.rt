@@ -2,15 +2,15 @@
 #![tactic(auto)]
 
 ghost use Rattle.std.specs.Prelude.{◌≡◌};
+ghost use Rattle.design.specs.Legal.{Legal};
 ghost use Rattle.refusal.specs.Told.{told_by};
 ghost use Rattle.design.specs.Answers.{budget_answer, budget_told};
 
+pub mod before;
 pub mod legal;
 pub mod limits;
 pub mod measure;
 
-use legal::design_verdict;
-use measure::budget_of;
 use refusal::Cause;
 
 // One offset table: the top a bits of x choose the segment, b bits further down the place in it.
@@ -35,11 +35,18 @@ pub struct Design {
     pub pairs: [Pair; 4],
 }
 
+// A design that none of the refusals 1 to 9 turns down. What is worked out of a design is worked out of a legal one.
+#[derive(Clone, Copy, Debug)]
+pub struct LegalDesign {
+    pub design: Design,
+    ghost legal: { Legal design },
+}
+
 // The budget of a legal design, or the refusal: 1 to 9.
 pub fn budget(d: Design) -> Result<u64, Cause>
     ensures answer { result ≡ budget_answer d }
     ensures told { told_by result ≡ budget_told d }
 {
-    design_verdict(d)?;
-    Ok(budget_of(d))
+    let legal = d.checked()?;
+    Ok(legal.budget())
 }

@@ -7,37 +7,36 @@ ghost use Rattle.values.specs.Inputs.{InRange};
 ghost use Rattle.values.specs.Slopes.{slope_sum};
 ghost use Rattle.design.specs.Stored.{initial_count};
 ghost use Rattle.design.specs.Cut as Cut;
-ghost use Rattle.design.specs.Legal.{Legal};
 ghost use Rattle.entries.specs.Entries.{value_at, initial_at, odd_number, magnitude, offset_of};
 ghost use Rattle.entries.specs.Signs.{side_of, sign_of, entry_by};
 ghost use Rattle.entries.specs.Meaning.{Meaning};
 ghost use Rattle.entries.specs.Inputs.{WordInput, OffsetInput, reach_bound, offset_bound};
 
-use design::Design;
+use design::LegalDesign;
 use general::pow2;
 use values::parts::Argument;
 use values::rows::Row;
 use values::slopes::{Segments, segment_end, segment_start};
 
 // L(X), for the kind and widths of a legal design.
-fn value_at(d: Design, row: Row, x: u64) -> u64
-    requires legal { Legal d }
-    requires row_value { (row ≡ Cut.row d) × InRange d.w x }
-    ensures { (result ≡ value_at d x) × (result < floor_bound) }
+fn value_at(legal: LegalDesign, row: Row, x: u64) -> u64
+    requires { (row ≡ Cut.row legal.design) × InRange legal.design.w x }
+    ensures { (result ≡ value_at legal.design x) × (result < floor_bound) }
 {
+    let d = legal.design;
     let argument = Argument { row, w: d.w, x };
     argument.floor_value(d.q + d.g).count()
 }
 
 // inner: the initial entry of A = word.
-pub fn initial_at(d: Design, row: Row, word: u64) -> u32
-    requires legal { Legal d }
-    requires row_value { (row ≡ Cut.row d) × (word < initial_count d) }
-    ensures { result ≡ initial_at d word }
+pub fn initial_at(legal: LegalDesign, row: Row, word: u64) -> u32
+    requires { (row ≡ Cut.row legal.design) × (word < initial_count legal.design) }
+    ensures { result ≡ initial_at legal.design word }
 {
+    let d = legal.design;
     let start = segment_start(d.w, d.alpha, word);
     let end = segment_end(d.w, d.alpha, word);
-    let values = value_at(d, row, start) + value_at(d, row, end);
+    let values = value_at(legal, row, start) + value_at(legal, row, end);
     ((values + 1 + d.m as u64) / 2 + pow2(d.g - 1)) as u32
 }
 

@@ -1,5 +1,5 @@
 -- Demand 3, whole: every admitted design, all filled tables, every input word.
-use Rattle.std.specs.Prelude.{Ok}
+use Rattle.std.specs.Prelude.{Ok, None}
 use mathlib.Core.Path.{◌≡◌, refl, sym, ◌∙◌}
 use mathlib.Core.Bool.{false}
 use mathlib.Core.List.{List, [], ◌∷◌, ◌++◌, map}
@@ -33,11 +33,9 @@ use Rattle.tables.specs.Set.{set_checks}
 use Rattle.tables.proofs.SetLaws.{set-passed}
 use Rattle.filling.specs.Fill.{Filled, stored_offset}
 use Rattle.filling.proofs.EntryLaws as EntryLaws
-use Rattle.evaluating.specs.declared.Batched.{Batched}
 use Rattle.evaluating.specs.Evaluate.{word_checks, evaluate_verdict, evaluate_answer}
 use Rattle.evaluating.specs.Batch.{output_check, room_verdict, place_verdict, batch_answer, output_after}
 use Rattle.evaluating.proofs.BatchLaws.{batch-all}
-use Rattle.checking.specs.declared.Checked.{Checked}
 use Rattle.checking.specs.Check.{check_verdict, check_answer}
 use Rattle.checking.proofs.CheckLaws.{check-means}
 use Rattle.error_bound.specs.ErrorBound.{margin, scaled_word, WordHolds, BatchHolds, ErrorBound}
@@ -158,7 +156,7 @@ module _ (d : Design) (admitted : Admitted d) (initial : List ℕ) (offsets : Li
   set-passes : verdict (set_checks d (length initial) (length offsets)) ≡ (Ok tt)
   set-passes = set-passed d _ _ (usable-set d admitted initial offsets filled)
 
-  check-holds : check_answer d initial offsets ≡ Checked.Faithful
+  check-holds : check_answer d initial offsets ≡ Ok None
   unfolding check_verdict
   check-holds =
       (check-means d initial offsets set-passes).is-faithful
@@ -173,7 +171,7 @@ module _ (d : Design) (admitted : Admitted d) (initial : List ℕ) (offsets : Li
     unfolding place_verdict
     place-passes n h = passes d admitted (get_or words n 0) (in-range n h) initial offsets filled
 
-    accepted : batch_answer d initial offsets words (length output) ≡ Batched.Count (length words)
+    accepted : batch_answer d initial offsets words (length output) ≡ Ok (length words)
     unfolding batch_answer room_verdict output_check
     accepted =
         rw (verdict-append, set-passes, le-ltb _ _ room)

@@ -1,5 +1,5 @@
 -- Demand 3, as document 01 states it in "Evaluating and checking".
-use Rattle.std.specs.Prelude.{◌≡◌, List, ◌++◌, map, ℕ, ◌+◌, ◌-◌, ◌*◌, ◌/◌, ◌^◌, ◌≤◌, ◌<◌, length, get_or, drop, ℤ, pos, Ok}
+use Rattle.std.specs.Prelude.{◌≡◌, List, ◌++◌, map, ℕ, ◌+◌, ◌-◌, ◌*◌, ◌/◌, ◌^◌, ◌≤◌, ◌<◌, length, get_or, drop, ℤ, pos, Ok, None}
 use Rattle.values.specs.Exact.{AtMost, AtLeast}
 use Rattle.values.specs.Faithful.{Faithful}
 use Rattle.values.specs.Document.{Between}
@@ -8,10 +8,8 @@ use Rattle.design.specs.Cut.{row, fraction_bits}
 use Rattle.design.specs.Budget.{budget, Admitted}
 use Rattle.tables.specs.Sum.{sum_at, word_at}
 use Rattle.filling.specs.Fill.{fill_verdict, initial_after, offsets_after, Filled}
-use Rattle.evaluating.specs.declared.Batched.{Batched}
 use Rattle.evaluating.specs.Evaluate.{evaluate_answer}
 use Rattle.evaluating.specs.Batch.{batch_answer, output_after}
-use Rattle.checking.specs.declared.Checked.{Checked}
 use Rattle.checking.specs.Check.{check_answer}
 
 -- "let R = budget + 2^(g+17) and Y' = 2^(18+g)·y"
@@ -47,7 +45,7 @@ pub record WordHolds (d : Design) (initial : List ℕ) (offsets : List ℤ) (x :
 
 -- What it says of a batch: it is accepted, each word's output stands "at x's place in the output", and the output beyond is untouched.
 pub record BatchHolds (d : Design) (initial : List ℕ) (offsets : List ℤ) (words output : List ℕ) : Type 0 where
-  pub accepted : batch_answer d initial offsets words (length output) ≡ Batched.Count (length words)
+  pub accepted : batch_answer d initial offsets words (length output) ≡ Ok (length words)
   pub contents : output_after d initial offsets words output ≡ map (word_at d initial offsets) words ++ drop (length words) output
   pub at_place : (n : ℕ) → n < length words
       → get_or (output_after d initial offsets words output) n 0 ≡ word_at d initial offsets (get_or words n 0)
@@ -59,7 +57,7 @@ pub record Holds (d : Design) : Type 0 where
   pub each-batch : (initial : List ℕ) (offsets : List ℤ) → Filled d initial offsets → (words output : List ℕ)
       → ((n : ℕ) → n < length words → get_or words n 0 < 2 ^ d.w) → length words ≤ length output
       → BatchHolds d initial offsets words output
-  pub check : (initial : List ℕ) (offsets : List ℤ) → Filled d initial offsets → check_answer d initial offsets ≡ Checked.Faithful
+  pub check : (initial : List ℕ) (offsets : List ℤ) → Filled d initial offsets → check_answer d initial offsets ≡ Ok None
   pub fill : (initial : List ℕ) (offsets : List ℤ) → fill_verdict d (length initial) (length offsets) ≡ (Ok tt)
       → Filled d (initial_after d initial offsets) (offsets_after d initial offsets)
 

@@ -7,7 +7,6 @@ use Rattle.design.specs.Legal.{Legal}
 
 -- A table is to be written: table i, whose bits begin at p, into this many offsets, which are all of it.
 pub record TableInput (d : Design) (i p offsets : ℕ) : Type 0 where
-  pub legal : Legal d
   pub i_lt : i < d.m
   pub p-is : p ≡ position d i
   pub long : offsets ≡ offset_count d i

@@ -5,38 +5,34 @@ ghost use Rattle.std.specs.Prelude.{◌≡◌, ◌^◌, ◌≤◌, length};
 ghost use Rattle.general.specs.Lists.{over};
 ghost use Rattle.refusal.specs.Numbers.{verdict_number};
 ghost use Rattle.design.specs.Stored.{initial_count, offset_total};
-ghost use Rattle.design.specs.Legal.{Legal};
 ghost use Rattle.entries.specs.Inputs.{OffsetInput};
 ghost use Rattle.filling.specs.Fill.{fill_verdict, initial_entries, table_entries, offset_entries, initial_after, offsets_after};
 ghost use Rattle.filling.specs.Inputs.{TableInput};
 ghost use Rattle.filling.specs.Segment.{segment_offsets};
 
-use design::Design;
-use design::legal::pair_at;
-use design::measure::{budget_of, limit_of, offset_count};
+use design::{Design, LegalDesign};
 use entries::{initial_at, offset_of, slope_sum};
 use general::{mirrored, pow2};
 use refusal::Cause;
-use tables::set_verdict;
+use tables::checked_set;
 use values::rows::row_of;
 use values::slopes::Segments;
 
 // The initial entries, which begin the table.
-fn fill_initial(d: Design, initial: &mut [u32])
-    requires legal { Legal d }
-    requires d_in_bounds { initial_count d ≤ length initial.old }
-    ensures { initial.new ≡ over initial.old 0 (initial_entries d) }
+fn fill_initial(legal: LegalDesign, initial: &mut [u32])
+    requires { initial_count legal.design ≤ length initial.old }
+    ensures { initial.new ≡ over initial.old 0 (initial_entries legal.design) }
 {
-    let row = row_of(d.kind);
-    let words = pow2(d.alpha);
+    let row = row_of(legal.design.kind);
+    let words = pow2(legal.design.alpha);
     for (word, entry) in initial[..words as usize].iter_mut().enumerate() {
-        *entry = initial_at(d, row, word as u64);
+        *entry = initial_at(legal, row, word as u64);
     }
 }
 
 // The offsets of a segment, by Hi + Lo of the segment, b and p of its table, and the function's sign.
 // The entries of B and 2^b - 1 - B add up to -1, so one product serves both, from the middle of the segment outwards.
-// An index and no iterators from the middle: their `next` would be a branch on the way to an offset, and `.ci/straight` checks that none is.
+// By an index: an iterator's `next` would be a branch on the way to an offset, and `.ci/straight` checks that there is none.
 fn fill_segment(slopes: u64, b: u32, p: u32, rising: bool, segment: &mut [i32])
     requires offset_input { OffsetInput slopes b p }
     requires length_value { length segment.old ≡ 2 ^ b }
@@ -55,11 +51,12 @@ fn fill_segment(slopes: u64, b: u32, p: u32, rising: bool, segment: &mut [i32])
 
 // The offsets of table i, segment by segment. Hi and Lo are found once a segment.
 // Segments by their place: once a loop over `chunks_exact_mut` is over, a proof knows nothing of what stands in them.
-fn fill_table(d: Design, i: u32, p: u32, table: &mut [i32])
-    requires { TableInput d i p (length table.old) }
-    ensures { table.new ≡ table_entries d i }
+fn fill_table(legal: LegalDesign, i: u32, p: u32, table: &mut [i32])
+    requires { TableInput legal.design i p (length table.old) }
+    ensures { table.new ≡ table_entries legal.design i }
 {
-    let pair = pair_at(d, i);
+    let d = legal.design;
+    let pair = legal.pair(i);
     let row = row_of(d.kind);
     let segments = Segments {
         row,
@@ -76,18 +73,17 @@ fn fill_table(d: Design, i: u32, p: u32, table: &mut [i32])
 }
 
 // The offset tables, one after another.
-fn fill_offsets(d: Design, offsets: &mut [i32])
-    requires legal { Legal d }
-    requires d_in_bounds { offset_total d ≤ length offsets.old }
-    ensures { offsets.new ≡ over offsets.old 0 (offset_entries d) }
+fn fill_offsets(legal: LegalDesign, offsets: &mut [i32])
+    requires { offset_total legal.design ≤ length offsets.old }
+    ensures { offsets.new ≡ over offsets.old 0 (offset_entries legal.design) }
 {
     let mut at = 0;
     let mut p = 0;
-    for i in 0..d.m {
-        let end = at + offset_count(d, i) as usize;
-        fill_table(d, i, p, &mut offsets[at..end]);
+    for i in 0..legal.design.m {
+        let end = at + legal.offset_count(i) as usize;
+        fill_table(legal, i, p, &mut offsets[at..end]);
         at = end;
-        p += pair_at(d, i).b;
+        p += legal.pair(i).b;
     }
 }
 
@@ -98,11 +94,11 @@ pub fn fill(d: Design, initial: &mut [u32], offsets: &mut [i32]) -> Result<(), C
     ensures initial_table { initial.new ≡ initial_after d initial.old offsets.old }
     ensures offset_tables { offsets.new ≡ offsets_after d initial.old offsets.old }
 {
-    set_verdict(d, initial.len(), offsets.len())?;
-    if limit_of(d) <= budget_of(d) {
+    let legal = checked_set(d, initial.len(), offsets.len())?;
+    if d.limit() <= legal.budget() {
         return Err(Cause::NotAdmitted);
     }
-    fill_initial(d, initial);
-    fill_offsets(d, offsets);
+    fill_initial(legal, initial);
+    fill_offsets(legal, offsets);
     Ok(())
 }

@@ -6,3 +6,4 @@ pub mod ListLaws
 pub mod JoinedLaws
 pub mod WritingLaws
 pub mod SignedLaws
+pub mod OverLists

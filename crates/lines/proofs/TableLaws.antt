@@ -1,5 +1,5 @@
 -- How many lines a set has, and in which table the offset at a place lies.
-use mathlib.Core.Path.{◌≡◌, refl, sym, ap, ◌∙◌}
+use mathlib.Core.Path.{◌≡◌, refl, sym, ◌∙◌}
 use mathlib.Core.Bool.{cond}
 use Prim.Native.Nat.{ℕ, zero, suc, ◌+◌, ◌-◌, ◌≤◌, ◌<◌}
 use native.Mathlib.Nat.{le_of_lt, le_trans}
@@ -67,53 +67,30 @@ pub table-of : (d : Design) (i place : ℕ) → i < d.m → table_start d i ≤ 
 unfolding table_of
 table-of d i place h from to = none_after d place i d.m (le_of_lt h) from to
 
--- A search for the table of a place has come to a table, from `start` to `end`, that begins at the place or before.
-pub record Search (d : Design) (place table start end : ℕ) : Type 0 where
-  pub start_is : start ≡ table_start d table
-  pub end_is : end ≡ table_start d (table + 1)
-  pub table-lt : table < d.m
-  pub begun : start ≤ place
+-- A search for the table of a place has come to a table that begins so many offsets before the place.
+pub record Search (d : Design) (place table index : ℕ) : Type 0 where
+  pub begun : table_start d table + index ≡ place
 
 module _ (d : Design) where
   -- It starts at table 0;
-  pub search-start : (place first : ℕ) → 1 ≤ d.m → first ≡ offset_count d 0 → Search d place 0 0 first
+  pub search-start : (place : ℕ) → Search d place 0 place
   unfolding table_start sum_below
-  search-start place first h e =
-      record { start_is = refl; end_is = omega (arith, start-next d 0); table-lt = h; begun = omega arith }
+  search-start place = record { begun = omega arith }
 
-  -- no table ends after all offsets;
-  pub search-within : (place table start end : ℕ) → Search d place table start end → end ≤ offset_total d
+  module _ {place table index count : ℕ} (s : Search d place table index) (count-is : count ≡ offset_count d table) where
+    -- where the table ends at or before the place, the search goes on at the next;
+    pub search-step : count ≤ index → Search d place (table + 1) (index - count)
+    search-step past = record { begun = omega (arith, s.begun, count-is, start-next d table) }
+
+    -- where it ends after the place, the offset lies in it.
+    pub search-end : table < d.m → index < count → Slot.Offset table index place ≡ offset_slot d place
+    unfolding offset_slot
+    search-end within before =
+        let ends : place < table_start d (table + 1) = omega (arith, s.begun, count-is, start-next d table) in
+        let from : place - table_start d table ≡ index = omega (arith, s.begun) in
+        rw (table-of d table place within (omega (arith, s.begun)) (rw add-one at ends), from)
+
+  -- A place among the offsets lies before the end of the last table.
+  pub search-within : {place table index : ℕ} → Search d place table index → place < offset_total d → d.m ≤ table → ⊥
   unfolding offset_total
-  search-within place table start end s =
-      rw s.end_is (starts-rise d (table + 1) d.m (omega (arith, s.table-lt)))
-
-  -- where the table ends at or before a place among the offsets, there is a next table,
-  pub search-next : (place table start end : ℕ) → Search d place table start end → place < offset_total d → end ≤ place
-      → table + 1 < d.m
-  unfolding offset_total
-  search-next place table start end s within past =
-      elim (dec_lt (table + 1) d.m) [
-        | yes h ↦ h
-        | no h ↦
-            let e : table + 1 ≡ d.m = omega (arith, s.table-lt) in
-            absurd (omega (arith, rw e at s.end_is))
-      ]
-
-  -- and the search goes on there;
-  pub search-step : (place table start end more : ℕ) → Search d place table start end → place < offset_total d → end ≤ place
-      → more ≡ offset_count d (table + 1) → Search d place (table + 1) end (end + more)
-  search-step place table start end more s within past e =
-      record {
-        start_is = s.end_is;
-        end_is = omega (arith, start-next d (table + 1), s.end_is);
-        table-lt = search-next place table start end s within past;
-        begun = past;
-      }
-
-  -- where it ends after the place, the offset lies in it.
-  pub search-end : (place table start end : ℕ) → Search d place table start end → place < end
-      → Slot.Offset table (place - start) place ≡ offset_slot d place
-  unfolding offset_slot
-  search-end place table start end s before =
-      let ends : end ≡ table_start d (suc table) = s.end_is ∙ ap (table_start d) (add-one table) in
-      rw (table-of d table place s.table-lt (rw (← s.start_is) s.begun) (rw ends at before), s.start_is)
+  search-within {place} {table} s within end = omega (arith, s.begun, starts-rise d d.m table end)

@@ -1,6 +1,6 @@
 -- Worked examples of the search, computed from the definitions. The numbers are those of the requests, or were worked out from the
 -- documents apart from the definitions.
-use Rattle.std.specs.Prelude.{Err}
+use Rattle.std.specs.Prelude.{Option, None, Some, Err}
 use mathlib.Core.Path.{◌≡◌, refl}
 use mathlib.Core.Bool.{true, false}
 use mathlib.Core.List.{[], ◌∷◌, map}
@@ -19,7 +19,7 @@ use Rattle.sizing.specs.Size.{size}
 use Rattle.sizing.proofs.Opened.{sizing-opened}
 use Rattle.searching.specs.declared.SizedDesign.{SizedDesign}
 use Rattle.searching.specs.Designs.{bare, with_pair, continued}
-use Rattle.searching.specs.Best.{is_admitted, nothing, better, best_of}
+use Rattle.searching.specs.Best.{is_admitted, fewer, better, best_of}
 use Rattle.optimum.specs.Order.{Before, by-m}
 
 abbrev pair : ℕ → ℕ → Pair
@@ -66,8 +66,8 @@ at-limit =
 abbrev measured : Design → ℕ × ℕ
 measured d = (budget d, size d)
 
-abbrev with_size : Design → ℕ → SizedDesign
-with_size d bits = record { design = d; bits = bits }
+abbrev with_size : Design → ℕ → Option SizedDesign
+with_size d bits = Some (record { design = d; bits = bits })
 
 pub record Examples : Type 0 where
   pub eight : measured best-of-8 ≡ (3973610, 728)
@@ -79,9 +79,9 @@ pub record Examples : Type 0 where
   -- "m decides"
   pub decided : Before two three
   -- the first of equals, whichever that is, and none that is not admitted
-  pub best : map (best_of nothing)
+  pub best : map (best_of None)
       ((G ∷ cheaper ∷ best-of-8 ∷ []) ∷ (two ∷ three ∷ []) ∷ (three ∷ two ∷ []) ∷ (cheaper ∷ []) ∷ [])
-      ≡ with_size best-of-8 728 ∷ with_size two 416 ∷ with_size three 416 ∷ nothing ∷ []
+      ≡ with_size best-of-8 728 ∷ with_size two 416 ∷ with_size three 416 ∷ None ∷ []
   -- "a_i before b_i, smaller first": 2·8 pairs for alpha 2 and one table, and 16·16 for two
   pub first-pairs : map (λ d. d.pairs) (take 3 (continued 1 (bare 0 6 6 2 2 1) 0))
       ≡ (pair 1 1 ∷ no_pair ∷ no_pair ∷ no_pair ∷ []) ∷ (pair 1 2 ∷ no_pair ∷ no_pair ∷ no_pair ∷ [])
@@ -93,7 +93,7 @@ pub record Examples : Type 0 where
       × (verdict (function_checks (limits_of 0) 0 6 5) ≡ Err Cause.OutputWidth)
 
 pub examples : Examples
-unfolding sizing-opened joined bare with_pair continued is_admitted nothing better best_of
+unfolding sizing-opened joined bare with_pair continued is_admitted fewer better best_of
 examples =
     record {
       eight = refl;

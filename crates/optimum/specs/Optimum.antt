@@ -9,7 +9,7 @@ use Rattle.design.specs.Same.{Same}
 use Rattle.design.specs.Budget.{Admitted}
 use Rattle.sizing.specs.Size.{size}
 use Rattle.searching.specs.declared.SizedDesign.{SizedDesign}
-use Rattle.searching.specs.Best.{smallest_of, smallest_verdict}
+use Rattle.searching.specs.Best.{smallest_answer}
 use Rattle.optimum.specs.Order.{Before}
 
 -- "of that kind, w and q"
@@ -32,14 +32,14 @@ pub record Cheapest (kind w q : ℕ) (found : SizedDesign) : Type 0 where
 pub record Optimum : Type 0 where
   -- "Kind, w and q are checked as before": 1, 2, 3
   pub checked : (kind w q : ℕ) (cause : Cause) → verdict (function_checks (limits_of kind) kind w q) ≡ Err cause
-      → smallest_verdict kind w q ≡ Err cause
+      → smallest_answer kind w q ≡ Err cause
   -- "24, no legal design of that kind, w and q is admitted; after 3"
-  pub none : (kind w q : ℕ) → verdict (function_checks (limits_of kind) kind w q) ≡ (Ok tt)
-      → (smallest_verdict kind w q ≡ Err Cause.NoneAdmitted) ↔ ((e : Design) → Of kind w q e → Admitted e → ⊥)
-  -- and else a design is found,
-  pub some : (kind w q : ℕ) → verdict (function_checks (limits_of kind) kind w q) ≡ (Ok tt)
-      → (e : Design) → Of kind w q e → Admitted e → smallest_verdict kind w q ≡ (Ok tt)
-  -- which is the one that is handed back.
-  pub found : (kind w q : ℕ) → smallest_verdict kind w q ≡ (Ok tt) → Cheapest kind w q (smallest_of kind w q)
+  pub none : (kind w q : ℕ) → verdict (function_checks (limits_of kind) kind w q) ≡ Ok tt
+      → (smallest_answer kind w q ≡ Err Cause.NoneAdmitted) ↔ ((e : Design) → Of kind w q e → Admitted e → ⊥)
+  -- and else a design is handed back,
+  pub some : (kind w q : ℕ) → verdict (function_checks (limits_of kind) kind w q) ≡ Ok tt
+      → (e : Design) → Of kind w q e → Admitted e → (found : SizedDesign) × (smallest_answer kind w q ≡ Ok found)
+  -- which is this one.
+  pub found : (kind w q : ℕ) (found : SizedDesign) → smallest_answer kind w q ≡ Ok found → Cheapest kind w q found
   -- What comes later does not come before.
   pub strict : (d e : Design) → Before d e → Before e d → ⊥

@@ -10,6 +10,7 @@ use borrow.Author.Tests.{lt-ltb, le-ltb, le-leb, lt-leb}
 use Rattle.general.specs.Lists.{over}
 use Rattle.refusal.specs.declared.Cause.{Cause}
 use Rattle.refusal.specs.Checks.{verdict}
+use Rattle.refusal.specs.Told.{told_by}
 use Rattle.refusal.proofs.Checks.{verdict-append}
 use Rattle.design.specs.declared.Design.{Design}
 use Rattle.design.specs.Stored.{initial_count}
@@ -18,7 +19,7 @@ use Rattle.tables.specs.Set.{set_checks}
 use Rattle.tables.proofs.SetLaws.{set-passed}
 use Rattle.encoding.specs.Bytes.{entry_bytes}
 use Rattle.encoding.specs.Encode.{line_of}
-use Rattle.writing.specs.Write.{width_check, room_check, told_by}
+use Rattle.writing.specs.Write.{width_check, room_check}
 use Rattle.writing.proofs.WriteLaws.{refuses-by, writes-by}
 use Rattle.records.specs.declared.Extent.{Extent}
 use Rattle.records.specs.IntelHex.{record_count, length_at, record_head, record_text, data_in, record_of}
@@ -102,19 +103,24 @@ module _ (d : Design) (initial : List ℕ) (offsets : List ℤ) (n : ℕ) (exten
 -- The answer and the record buffer, by the verdict
 module _ (d : Design) (initial : List ℕ) (offsets : List ℤ) (n : ℕ) (buffer : List ℕ) where
   -- What is promised of an answer and of what the record buffer is left with
-  abbrev pub Promised : (Result ℕ Cause) → List ℕ → Type 0
-  Promised r left =
-      (r ≡ hex_write_answer d initial offsets n (length buffer))
-      × ((told_by r ≡ hex_write_told d initial offsets n (length buffer))
-      × (left ≡ record_buffer_after d initial offsets n buffer))
+  abbrev pub Promised : Result ℕ Cause → List ℕ → Type 0
+  Promised r left = record {
+    answer : r ≡ hex_write_answer d initial offsets n (length buffer);
+    told : told_by r ≡ hex_write_told d initial offsets n (length buffer);
+    record_buffer : left ≡ record_buffer_after d initial offsets n buffer;
+  }
 
   pub refuses : {cause : Cause} → hex_write_verdict d initial offsets n (length buffer) ≡ Err cause
       → Promised (Err cause) buffer
   unfolding hex_write_answer record_buffer_after hex_write_told
-  refuses e = refuses-by _ (set_record d initial offsets n) buffer e
+  refuses e =
+      let p = refuses-by _ (set_record d initial offsets n) buffer e in
+      record { answer = p.0; told = p.1.0; record_buffer = p.1.1 }
 
-  pub writes : {count : ℕ} {left : List ℕ} → hex_write_verdict d initial offsets n (length buffer) ≡ (Ok tt)
+  pub writes : {count : ℕ} {left : List ℕ} → hex_write_verdict d initial offsets n (length buffer) ≡ Ok tt
       → length (set_record d initial offsets n) ≡ count → left ≡ over buffer 0 (set_record d initial offsets n)
       → Promised (Ok count) left
   unfolding hex_write_answer record_buffer_after hex_write_told
-  writes e count-is left_is = writes-by _ (set_record d initial offsets n) buffer e count-is left_is
+  writes e count-is left_is =
+      let p = writes-by _ (set_record d initial offsets n) buffer e count-is left_is in
+      record { answer = p.0; told = p.1.0; record_buffer = p.1.1 }

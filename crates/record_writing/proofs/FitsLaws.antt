@@ -1,6 +1,7 @@
 -- Which entries have a byte in a record, and whether all of them fit.
+use Rattle.std.specs.Prelude.{Some, None}
 use mathlib.Core.Path.{◌≡◌, refl, sym}
-use mathlib.Core.Bool.{Bool, true, false, not, ◌&&◌, true≢false}
+use mathlib.Core.Bool.{Bool, true, false, cond, not, ◌&&◌, true≢false}
 use mathlib.Core.List.{List}
 use Prim.Native.Nat.{ℕ, suc, ◌+◌, ◌*◌, ◌/◌, ◌≤◌, ◌<◌}
 use native.Mathlib.Omega.{arith}
@@ -10,8 +11,29 @@ use Rattle.general.proofs.Sums.{below_suc, none_below, none_of, some_of}
 use Rattle.general.proofs.Tests.{both}
 use Rattle.encoding.specs.Bytes.{entry_bytes}
 use Rattle.records.specs.IntelHex.{data_bytes, bytes_before}
-use Rattle.records.specs.SetBytes.{entry_fits}
+use Rattle.records.specs.SetBytes.{entry_at, entry_fits}
+use Rattle.record_writing.specs.Inputs.{entry_written}
 use Rattle.record_writing.specs.WriteRecord.{has_byte_in, record_fits}
+
+-- An entry is written as its number where it fits, and else not at all.
+module _ (initials : ℕ) (initial : List ℕ) (offsets : List ℤ) (e : ℕ) where
+  either : (fits : Bool) {number : ℕ} → cond fits (Some (entry_at initials initial offsets e)) None ≡ Some number
+      → (fits ≡ true) × (number ≡ entry_at initials initial offsets e)
+  either true w = (refl, cc)
+  either false w = let z : ◌≡◌ {A = ℕ} 0 1 = cc in absurd (omega arith)
+
+  pub written : {number : ℕ} → entry_written initials initial offsets e ≡ Some number
+      → (entry_fits initials initial offsets e ≡ true) × (number ≡ entry_at initials initial offsets e)
+  unfolding entry_written
+  written w = either (entry_fits initials initial offsets e) w
+
+  neither : (fits : Bool) → cond fits (Some (entry_at initials initial offsets e)) None ≡ None → fits ≡ false
+  neither true w = let z : ◌≡◌ {A = ℕ} 0 1 = cc in absurd (omega arith)
+  neither false w = refl
+
+  pub unwritten : entry_written initials initial offsets e ≡ None → entry_fits initials initial offsets e ≡ false
+  unfolding entry_written
+  unwritten w = neither (entry_fits initials initial offsets e) w
 
 -- The entries from the first up to e fit.
 abbrev pub FitTo : ℕ → List ℕ → List ℤ → ℕ → ℕ → Type 0

@@ -24,7 +24,7 @@ use Rattle.record_writing.specs.WriteRecord.{hex_number_check, record_fits, hex_
 module _ (d : Design) (initial : List ℕ) (offsets : List ℤ) (n buffer : ℕ) where
   -- The writer gives a record only where nothing turned it down:
   pub record-given : {count : ℕ} → hex_write_answer d initial offsets n buffer ≡ Ok count
-      → hex_write_verdict d initial offsets n buffer ≡ (Ok tt)
+      → hex_write_verdict d initial offsets n buffer ≡ Ok tt
   unfolding hex_write_answer
   record-given {count} e =
       only-passed (λ (answer : Result ℕ Cause). answer ≡ Ok count) _ _ Err
@@ -37,7 +37,7 @@ module _ (d : Design) (initial : List ℕ) (offsets : List ℤ) (n buffer : ℕ)
     pub within : n < record_count (byte_count d)
     pub fit : record_fits (entry_count d) (initial_count d) initial offsets n ≡ true
 
-  pub given : hex_write_verdict d initial offsets n buffer ≡ (Ok tt) → Given
+  pub given : hex_write_verdict d initial offsets n buffer ≡ Ok tt → Given
   unfolding hex_write_verdict record_set_checks bytes_check hex_number_check
   given e =
       let before = set_checks d (length initial) (length offsets) in

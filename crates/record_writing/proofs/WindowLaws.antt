@@ -1,17 +1,17 @@
 -- The window of a record while its entries are put into it, and the record's bytes in it.
 use mathlib.Core.Path.{◌≡◌, refl, ◌∙◌}
-use mathlib.Core.List.{List, [], ◌∷◌, ◌++◌}
-use Prim.Native.Nat.{ℕ, zero, suc, ◌+◌, ◌-◌, ◌*◌, ◌/◌, ◌%◌, ◌^◌, ◌≤◌, ◌<◌}
+use mathlib.Core.List.{List, [], ◌∷◌, ◌++◌, append_assoc}
+use borrow.Rule.Slice.PartMut.{put_mid}
+use Prim.Native.Nat.{ℕ, zero, suc, ◌+◌, ◌-◌, ◌*◌, ◌%◌, ◌≤◌, ◌<◌}
 use native.Mathlib.Nat.{le_refl}
 use native.Mathlib.Omega.{arith}
 use native.Mathlib.Decide.{dec_lt}
-use lib.ListN.{length, take, drop, get_or, set, length-take, length-drop, length-append}
+use lib.ListN.{length, take, drop, length-take, length-drop, length-append}
 use lib.Seq.{take-nil, take_all, take-take, take-add, drop-drop, take_at, drop_at, take-append-le, drop-append-le, length-take-le}
 use Rattle.general.specs.Lists.{over}
-use Rattle.general.proofs.WritingLaws.{over_none, over-start, over-length, over-one, over-more}
+use Rattle.general.proofs.WritingLaws.{over_none, over-start, over-length, over-more}
 use Rattle.encoding.specs.Bytes.{big_endian, entry_bytes}
 use Rattle.encoding.proofs.NumberBack.{big-endian-length}
-use Rattle.encoding.proofs.Putting.{two-stores}
 use Rattle.records.specs.IntelHex.{data_bytes, bytes_before, length_at, record_head, data_in}
 use Rattle.records.specs.SetBytes.{bytes_below}
 use Rattle.records.proofs.CountLaws.{length-small, before-next, data-start, some-data}
@@ -19,29 +19,10 @@ use Rattle.records.proofs.BytesLaws.{below_length, below-entry, data-length, hea
 use Rattle.record_writing.specs.Inputs.{window_bytes, Windowed}
 use Rattle.record_writing.proofs.FitsLaws.{first_in, past_in, first_small, past-small}
 
--- Three stores, one behind the other, put the bytes of a number,
-pub entry-put : (window : List ℕ) (at number : ℕ) → at + entry_bytes ≤ length window
-    → set (set (set window at (number / 2 ^ 16 % 256)) (at + 1) (number / 2 ^ 8 % 256)) (at + 2) (number % 256)
-    ≡ over window at (big_endian entry_bytes number)
-unfolding big_endian
-entry-put window at number room =
-    let last : number / 1 % 256 ≡ number % 256 = omega arith in
-    rw (two-stores window at (number / 2 ^ 16 % 256) (number / 2 ^ 8 % 256) (omega arith), last)
-    (over-one window at (number / 2 ^ 16 % 256 ∷ number / 2 ^ 8 % 256 ∷ []) (omega arith) (number % 256) (omega arith))
-
--- and four at the start a head.
-pub head-put : (window head : List ℕ) → 4 ≤ length window → 4 ≤ length head
-    → set (set (set (set window 0 (get_or head 0 0)) 1 (get_or head 1 0)) 2 (get_or head 2 0)) 3 (get_or head 3 0) ≡ over window 0 (take 4 head)
+-- A part of the window that is copied over is written over it.
+pub put-over : (window : List ℕ) (at k : ℕ) (bytes : List ℕ) → length bytes ≡ k → put_mid at k window bytes ≡ over window at bytes
 unfolding over
-head-put (a ∷ b ∷ c ∷ d ∷ rest) (p ∷ q ∷ r ∷ s ∷ more) h k = refl
-head-put (a ∷ b ∷ c ∷ d ∷ rest) (p ∷ q ∷ r ∷ []) h k = absurd (omega arith)
-head-put (a ∷ b ∷ c ∷ d ∷ rest) (p ∷ q ∷ []) h k = absurd (omega arith)
-head-put (a ∷ b ∷ c ∷ d ∷ rest) (p ∷ []) h k = absurd (omega arith)
-head-put (a ∷ b ∷ c ∷ d ∷ rest) [] h k = absurd (omega arith)
-head-put (a ∷ b ∷ c ∷ []) head h k = absurd (omega arith)
-head-put (a ∷ b ∷ []) head h k = absurd (omega arith)
-head-put (a ∷ []) head h k = absurd (omega arith)
-head-put [] head h k = absurd (omega arith)
+put-over window at k bytes e = rw (e, drop-drop, append_assoc, ← e)
 
 -- A part of a list is that part of a front of it that is long enough.
 part-take : (k size m : ℕ) (l : List ℕ) → k + size ≤ m → take size (drop k (take m l)) ≡ take size (drop k l)
@@ -91,28 +72,27 @@ module _ (number : ℕ → ℕ) (entries first : ℕ) where
       )
 
   -- A window while the entries up to e are put into it from a place on, one behind the other
-  pub record Putting (before window : List ℕ) (from at e : ℕ) : Type 0 where
+  pub record Putting (before window : List ℕ) (from e : ℕ) : Type 0 where
     pub long : length window ≡ window_bytes
     pub low : first ≤ e
-    pub place : at + entry_bytes * first ≡ from + entry_bytes * e
     pub so_far : window ≡ over before from (entries_from (e - first))
 
   -- None yet,
-  pub putting-none : (window : List ℕ) (from : ℕ) → length window ≡ window_bytes → Putting window window from from first
+  pub putting-none : (window : List ℕ) (from : ℕ) → length window ≡ window_bytes → Putting window window from first
   putting-none window from long =
       let none : first - first ≡ 0 = omega arith in
-      record { long = long; low = le_refl _; place = refl; so_far = rw none (over_none window from) }
+      record { long = long; low = le_refl _; so_far = rw none (over_none window from) }
 
-  -- and one more.
-  pub putting-more : {before window : List ℕ} {from at e : ℕ} → Putting before window from at e → e < entries
-      → length before ≡ window_bytes → at + entry_bytes ≤ window_bytes
-      → Putting before (over window at (big_endian entry_bytes (number e))) from (at + entry_bytes) (e + 1)
-  putting-more {before} {window} {from} {at} {e} part within long room =
+  -- and one more, at its place.
+  pub putting-more : {before window : List ℕ} {from e : ℕ} → Putting before window from e → e < entries
+      → length before ≡ window_bytes → (at : ℕ) → at ≡ from + entry_bytes * (e - first) → at + entry_bytes ≤ window_bytes
+      → Putting before (over window at (big_endian entry_bytes (number e))) from (e + 1)
+  putting-more {before} {window} {from} {e} part within long at place room =
       let count = e - first in
-      let next : e + 1 - first ≡ count + 1 = omega arith in
-      let here : first + count ≡ e = omega arith in
+      let next : e + 1 - first ≡ count + 1 = omega (arith, part.low) in
+      let here : first + count ≡ e = omega (arith, part.low) in
       let size : length (entries_from count) ≡ entry_bytes * count = from-length count (omega arith) in
-      let there : at ≡ from + length (entries_from count) = omega (arith, part.place) in
+      let there : at ≡ from + length (entries_from count) = omega arith in
       let fits : from + length (entries_from count) ≤ length before = omega arith in
       let added = over-more before from (entries_from count) fits (big_endian entry_bytes (number e)) in
       let whole : over window at (big_endian entry_bytes (number e)) ≡ over before from (entries_from (e + 1 - first)) =
@@ -120,8 +100,7 @@ module _ (number : ℕ → ℕ) (entries first : ℕ) where
       let three = big-endian-length entry_bytes (number e) in
       record {
         long = over-length window at (big_endian entry_bytes (number e)) (omega arith) ∙ part.long;
-        low = omega arith;
-        place = omega (arith, part.place);
+        low = omega (arith, part.low);
         so_far = whole;
       }
 
@@ -152,8 +131,8 @@ module _ (number : ℕ → ℕ) (entries n : ℕ) where
         | no none ↦ let nothing : size ≡ 0 = omega arith in rw nothing (rw nothing at whole)
       ]
 
-  pub put-window : {before window : List ℕ} {at : ℕ} → length before ≡ window_bytes
-      → Putting number entries (first_in entries n) before window (4 - held_back) at (past_in entries n)
+  pub put-window : {before window : List ℕ} → length before ≡ window_bytes
+      → Putting number entries (first_in entries n) before window (4 - held_back) (past_in entries n)
       → Windowed entries number n window
   put-window {before} {window} long part =
       let first = first_in entries n in

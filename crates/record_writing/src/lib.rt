@@ -3,15 +3,15 @@
 
 ghost use Rattle.std.specs.Prelude.{◌≡◌, true, ◌∷◌, ◌+◌, ◌*◌, ◌≤◌, length};
 ghost use Rattle.general.specs.Lists.{over};
+ghost use Rattle.refusal.specs.Told.{told_by};
 ghost use Rattle.frames.specs.Line.{capacity};
 ghost use Rattle.encoding.specs.Bytes.{big_endian, entry_bytes};
 ghost use Rattle.encoding.specs.Encode.{line_of};
-ghost use Rattle.writing.specs.Write.{told_by};
 ghost use Rattle.records.specs.IntelHex.{record_head};
-ghost use Rattle.records.specs.SetBytes.{entry_at, entry_fits};
+ghost use Rattle.records.specs.SetBytes.{entry_at};
 ghost use Rattle.records.specs.Inputs.{RecordInput, EntryIn};
 ghost use Rattle.record_writing.specs.WriteRecord.{record_fits, hex_write_answer, record_buffer_after, hex_write_told};
-ghost use Rattle.record_writing.specs.Inputs.{window_bytes, AskedInput, Windowed};
+ghost use Rattle.record_writing.specs.Inputs.{window_bytes, AskedInput, Windowed, entry_written};
 
 use design::Design;
 use encoding::numbers::{ENTRY_BYTES, complement, fits, fits_signed};
@@ -22,27 +22,22 @@ use records::{
 use refusal::Cause;
 use tables::set_verdict;
 
-// Whether entry e fits its 3 bytes.
-fn entry_fits(initials: usize, initial: &[u32], offsets: &[i32], e: usize) -> bool
+// The number that entry e is written as, or None where it does not fit its 3 bytes.
+fn entry_number(initials: usize, initial: &[u32], offsets: &[i32], e: usize) -> Option<u32>
     requires { EntryIn initials (length initial.now) (length offsets.now) e }
-    ensures { result ≡ entry_fits initials initial.now offsets.now e }
+    ensures { result ≡ entry_written initials initial.now offsets.now e }
 {
     if e < initials {
-        return fits(initial[e]);
+        let entry = initial[e];
+        if fits(entry) { Some(entry) } else { None }
+    } else {
+        let entry = offsets[e - initials];
+        if fits_signed(entry) {
+            Some(complement(entry))
+        } else {
+            None
+        }
     }
-    fits_signed(offsets[e - initials])
-}
-
-// Entry e as it is written.
-fn entry_number(initials: usize, initial: &[u32], offsets: &[i32], e: usize) -> u32
-    requires entry_in { EntryIn initials (length initial.now) (length offsets.now) e }
-    requires e_value { entry_fits initials initial.now offsets.now e ≡ true }
-    ensures { result ≡ entry_at initials initial.now offsets.now e }
-{
-    if e < initials {
-        return initial[e];
-    }
-    complement(offsets[e - initials])
 }
 
 // How many bytes a window holds into which a record's entries are put whole: those of its head, 16, and at most two more.
@@ -53,11 +48,7 @@ fn put_entry(number: u32, at: usize, window: &mut [u8])
     requires { at + entry_bytes ≤ length window.old }
     ensures { window.new ≡ over window.old at (big_endian entry_bytes number) }
 {
-    let high = number >> 16;
-    let middle = number >> 8;
-    window[at] = (high % 256) as u8;
-    window[at + 1] = (middle % 256) as u8;
-    window[at + 2] = (number % 256) as u8;
+    window[at..at + ENTRY_BYTES].copy_from_slice(&number.to_be_bytes()[1..]);
 }
 
 // Puts the entries that have a byte in record n into the window, from the one that its first byte is of to the one that its last byte is
@@ -79,13 +70,11 @@ fn put_entries(
     let total = ENTRY_BYTES * extent.entries;
     let start = bytes_before(total, n);
     let end = (bytes_before(total, n + 1) + 2) / ENTRY_BYTES;
-    let mut at = HEAD_BYTES - start % ENTRY_BYTES;
     for e in start / ENTRY_BYTES..end {
-        if !entry_fits(initials, initial, offsets, e) {
+        let Some(number) = entry_number(initials, initial, offsets, e) else {
             return false;
-        }
-        put_entry(entry_number(initials, initial, offsets, e), at, window);
-        at += ENTRY_BYTES;
+        };
+        put_entry(number, HEAD_BYTES + ENTRY_BYTES * e - start, window);
     }
     true
 }
@@ -97,11 +86,7 @@ fn put_head(total: usize, n: usize, window: &mut [u8])
     ensures { window.new ≡ over window.old 0 (record_head total n) }
 {
     let head = head_of(total, n);
-    let bytes = head.bytes;
-    window[0] = bytes[0];
-    window[1] = bytes[1];
-    window[2] = bytes[2];
-    window[3] = bytes[3];
+    window[..HEAD_BYTES].copy_from_slice(&head.bytes[..HEAD_BYTES]);
 }
 
 // Puts a record, which is given as its bytes without the sum, at the start of the record buffer: a colon, and behind it what a line has.

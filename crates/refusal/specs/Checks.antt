@@ -42,3 +42,8 @@ outside low high n = ltb n low || ltb high n
 -- What a call answers by the verdict of its checks: its values where nothing was turned down, else the cause
 abbrev pub answer : {Values : Type 0} → Verdict → Values → Result Values Cause
 answer v values = if_passed v (Ok values) Err
+
+-- Which verdict an answer has, whatever its values are
+abbrev pub verdict_of : {Values : Type 0} → Result Values Cause → Verdict
+verdict_of (Ok values) = Ok tt
+verdict_of (Err cause) = Err cause

@@ -6,16 +6,13 @@ ghost use Rattle.refusal.specs.Told.{told_by};
 ghost use Rattle.values.specs.Room.{finest_unit};
 ghost use Rattle.design.specs.Limits.{most_initial_bits};
 ghost use Rattle.design.specs.Cut as Cut;
-ghost use Rattle.design.specs.Legal.{Legal};
 ghost use Rattle.entries.specs.Inputs.{OffsetInput};
 ghost use Rattle.sizing.specs.Width.{offset_bits};
 ghost use Rattle.sizing.specs.Size.{table_size, size_answer, size_told};
 ghost use Rattle.sizing.specs.Size as Size;
 ghost use Rattle.sizing.specs.Widest.{widest_offset, bits_for};
 
-use design::legal::{design_verdict, pair_at};
-use design::measure::{budget_of, limit_of, offset_count, table_slopes};
-use design::Design;
+use design::{Design, LegalDesign};
 use entries::magnitude_of;
 use general::{digit_count, pow2};
 use refusal::Cause;
@@ -38,37 +35,34 @@ pub fn initial_size(alpha: u32, fraction: u32) -> u64
     pow2(alpha) * (fraction as u64 + 2)
 }
 
-// The bits of each offset of table i of a legal design, whose b_i bits begin at p_i.
-fn offset_bits(d: Design, i: u32, position: u32) -> u32
-    requires legal { Legal d }
-    requires i_lt_m { (i < d.m) × (position ≡ Cut.position d i) }
-    ensures { result ≡ offset_bits d i }
+// The bits of each offset of table i, whose b_i bits begin at p_i.
+fn offset_bits(legal: LegalDesign, i: u32, position: u32) -> u32
+    requires { (i < legal.design.m) × (position ≡ Cut.position legal.design i) }
+    ensures { result ≡ offset_bits legal.design i }
 {
-    let pair = pair_at(d, i);
-    let slopes = table_slopes(d, i);
+    let pair = legal.pair(i);
+    let slopes = legal.table_slopes(i);
     bits_of(slopes.sum, pair.b, position)
 }
 
 // The size of table i.
-fn table_size(d: Design, i: u32, position: u32) -> u64
-    requires legal { Legal d }
-    requires i_lt_m { (i < d.m) × (position ≡ Cut.position d i) }
-    ensures { result ≡ table_size d i }
+fn table_size(legal: LegalDesign, i: u32, position: u32) -> u64
+    requires { (i < legal.design.m) × (position ≡ Cut.position legal.design i) }
+    ensures { result ≡ table_size legal.design i }
 {
-    offset_count(d, i) * offset_bits(d, i, position) as u64
+    legal.offset_count(i) * offset_bits(legal, i, position) as u64
 }
 
 // inner: the size of a legal design, admitted or not.
-pub fn size_of(d: Design) -> u64
-    requires { Legal d }
-    ensures { result ≡ Size.size d }
+pub fn size_of(legal: LegalDesign) -> u64
+    ensures { result ≡ Size.size legal.design }
 {
-    let m = d.m;
+    let d = legal.design;
     let mut bits = initial_size(d.alpha, d.q + d.g);
     let mut position = 0;
-    for i in 0..m {
-        bits += table_size(d, i, position);
-        position += pair_at(d, i).b;
+    for i in 0..d.m {
+        bits += table_size(legal, i, position);
+        position += legal.pair(i).b;
     }
     bits
 }
@@ -78,9 +72,9 @@ pub fn size(d: Design) -> Result<u64, Cause>
     ensures answer { result ≡ size_answer d }
     ensures told { told_by result ≡ size_told d }
 {
-    design_verdict(d)?;
-    if limit_of(d) <= budget_of(d) {
+    let legal = d.checked()?;
+    if d.limit() <= legal.budget() {
         return Err(Cause::NotAdmitted);
     }
-    Ok(size_of(d))
+    Ok(size_of(legal))
 }

@@ -1,7 +1,6 @@
 -- Refusals 1 to 10: what fill, evaluation, check, counts and writer try first of a design and the tables that are lent for it.
-use Rattle.std.specs.Prelude.{◌||◌, List, [], ◌∷◌, ◌++◌, ℕ, ltb, Result, Ok, Err}
+use Rattle.std.specs.Prelude.{◌||◌, List, [], ◌∷◌, ◌++◌, ℕ, ltb}
 use Rattle.refusal.specs.declared.Cause.{Cause}
-use Rattle.refusal.specs.Verdict.{Verdict}
 use Rattle.refusal.specs.Checks.{Check, ◌↝◌}
 use Rattle.design.specs.declared.Design.{Design}
 use Rattle.design.specs.Stored.{initial_count, offset_total}
@@ -14,8 +13,3 @@ tables_check d initial offsets = (ltb initial (initial_count d) || ltb offsets (
 -- 1 to 10
 unfoldable pub set_checks : Design → ℕ → ℕ → List Check
 set_checks d initial offsets = design_checks d ++ tables_check d initial offsets ∷ []
-
--- Whether an answer has values, or the cause that it gives
-abbrev pub verdict_of : {Values : Type 0} → Result Values Cause → Verdict
-verdict_of (Ok values) = Ok tt
-verdict_of (Err cause) = Err cause

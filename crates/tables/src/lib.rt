@@ -1,36 +1,35 @@
 // Table sets: the refusals 1 to 10 that the calls over them share, and the sums and words that they give.
 #![tactic(auto)]
 
-ghost use Rattle.std.specs.Prelude.{◌≡◌};
-ghost use Rattle.refusal.specs.Checks.{verdict};
-ghost use Rattle.design.specs.Legal.{Legal};
+ghost use Rattle.std.specs.Prelude.{◌≡◌, IfOk};
+ghost use Rattle.refusal.specs.Checks.{verdict, verdict_of};
 ghost use Rattle.tables.specs.Set.{tables_check, set_checks};
 
+mod before;
 pub mod lookups;
 pub mod runs;
 pub mod sums;
 
-use design::Design;
-use design::legal::design_verdict;
-use design::measure::offset_total;
+pub use before::{set_verdict, tables_short};
+use design::{Design, LegalDesign};
 use general::pow2;
 use refusal::Cause;
 
 // inner: whether either table is shorter than the set, by their lengths.
-pub fn tables_short(d: Design, initial: usize, offsets: usize) -> bool
-    requires { Legal d }
-    ensures { result ≡ (tables_check d initial offsets).fails }
+pub fn short_tables(legal: LegalDesign, initial: usize, offsets: usize) -> bool
+    ensures { result ≡ (tables_check legal.design initial offsets).fails }
 {
-    (initial as u64) < pow2(d.alpha) || (offsets as u64) < offset_total(d)
+    (initial as u64) < pow2(legal.design.alpha) || (offsets as u64) < legal.offset_total()
 }
 
-// Refusals 1 to 10 of any call that takes a set, by the lengths of its tables.
-pub fn set_verdict(d: Design, initial: usize, offsets: usize) -> Result<(), Cause>
-    ensures { result ≡ verdict (set_checks d initial offsets) }
+// The design of a set, or the first of the refusals 1 to 10 of any call that takes the set, by the lengths of its tables.
+pub fn checked_set(d: Design, initial: usize, offsets: usize) -> Result<LegalDesign, Cause>
+    ensures verdict { verdict_of result ≡ verdict (set_checks d initial offsets) }
+    ensures same { IfOk result (λ legal. legal.design ≡ d) }
 {
-    design_verdict(d)?;
-    if tables_short(d, initial, offsets) {
+    let legal = d.checked()?;
+    if short_tables(legal, initial, offsets) {
         return Err(Cause::TablesShort);
     }
-    Ok(())
+    Ok(legal)
 }

@@ -3,12 +3,10 @@ ghost use Rattle.std.specs.Prelude.{◌≡◌, ◌+◌, ◌<◌};
 ghost use Rattle.values.specs.Room.{word_bound};
 ghost use Rattle.design.specs.Cut as Cut;
 ghost use Rattle.design.specs.Stored.{table_start};
-ghost use Rattle.design.specs.Legal.{Legal};
 ghost use Rattle.tables.specs.Inputs.{Small};
 ghost use Rattle.tables.specs.Lookup.{lookup_of, lookups_of, place_at};
 
-use design::Design;
-use design::legal::pair_at;
+use design::LegalDesign;
 
 // One offset table: how far down the top a + b bits of x are shifted, how many bits of x are its offset word, where in x they begin, and
 // where the table begins among the offsets.
@@ -30,11 +28,11 @@ pub struct Lookups {
 }
 
 // Table i, whose bits begin at `position` and whose offsets begin at `start`. Where there is none, a table of no bits.
-fn lookup_of(d: Design, i: u32, position: u32, start: u32) -> Lookup
-    requires legal { Legal d }
-    requires position_value { (position ≡ Cut.position d i) × (start ≡ table_start d i) }
-    ensures { result ≡ lookup_of d i }
+fn lookup_of(legal: LegalDesign, i: u32, position: u32, start: u32) -> Lookup
+    requires { (position ≡ Cut.position legal.design i) × (start ≡ table_start legal.design i) }
+    ensures { result ≡ lookup_of legal.design i }
 {
+    let d = legal.design;
     if d.m <= i {
         return Lookup {
             shift: d.w,
@@ -43,7 +41,7 @@ fn lookup_of(d: Design, i: u32, position: u32, start: u32) -> Lookup
             start,
         };
     }
-    let pair = pair_at(d, i);
+    let pair = legal.pair(i);
     Lookup {
         shift: d.w - (pair.a + pair.b),
         b: pair.b,
@@ -53,14 +51,13 @@ fn lookup_of(d: Design, i: u32, position: u32, start: u32) -> Lookup
 }
 
 // Table i + 1, whose bits and offsets begin where those of table i end.
-fn lookup_after(d: Design, i: u32, previous: Lookup) -> Lookup
-    requires legal { Legal d }
-    requires i_bound { (i < 3) × (previous ≡ lookup_of d i) }
-    ensures { result ≡ lookup_of d (i + 1) }
+fn lookup_after(legal: LegalDesign, i: u32, previous: Lookup) -> Lookup
+    requires { (i < 3) × (previous ≡ lookup_of legal.design i) }
+    ensures { result ≡ lookup_of legal.design (i + 1) }
 {
-    let count = 1 << (d.w - previous.shift);
+    let count = 1 << (legal.design.w - previous.shift);
     lookup_of(
-        d,
+        legal,
         i + 1,
         previous.position + previous.b,
         previous.start + count,
@@ -68,14 +65,13 @@ fn lookup_after(d: Design, i: u32, previous: Lookup) -> Lookup
 }
 
 // inner: the lookups of all tables.
-pub fn lookups_of(d: Design) -> Lookups
-    requires { Legal d }
-    ensures { result ≡ lookups_of d }
+pub fn lookups_of(legal: LegalDesign) -> Lookups
+    ensures { result ≡ lookups_of legal.design }
 {
-    let first = lookup_of(d, 0, 0, 0);
-    let second = lookup_after(d, 0, first);
-    let third = lookup_after(d, 1, second);
-    let fourth = lookup_after(d, 2, third);
+    let first = lookup_of(legal, 0, 0, 0);
+    let second = lookup_after(legal, 0, first);
+    let third = lookup_after(legal, 1, second);
+    let fourth = lookup_after(legal, 2, third);
     Lookups {
         first,
         second,

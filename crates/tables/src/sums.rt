@@ -1,18 +1,17 @@
 // The sum Y of an input word over any tables, whoever filled them, and the word that it comes to.
 ghost use Rattle.std.specs.Prelude.{◌≡◌, false, ◌+◌, ◌^◌, ◌≤◌, ◌<◌, length, get_or, pos, ◌+ℤ◌, IfOk};
 ghost use Rattle.std.specs.Int.Signed.{mag};
-ghost use Rattle.refusal.specs.Checks.{verdict};
 ghost use Rattle.design.specs.Stored.{initial_count, offset_total};
 ghost use Rattle.design.specs.Legal.{Legal};
 ghost use Rattle.tables.specs.Inputs.{SameInterval, sum_above};
 ghost use Rattle.tables.specs.Lookup.{lookups_of, lookup_of};
-ghost use Rattle.tables.specs.Set.{set_checks, verdict_of};
+ghost use Rattle.refusal.specs.Checks.{verdict, verdict_of};
+ghost use Rattle.tables.specs.Set.{set_checks};
 ghost use Rattle.tables.specs.Sum.{offset_for, sum_from, sum_at, sum_outside, word_of};
 
+use crate::checked_set;
 use crate::lookups::{Lookup, Lookups, lookups_of, place_of};
-use crate::set_verdict;
-use design::Design;
-use design::measure::sum_limit;
+use design::{Design, LegalDesign};
 use refusal::Cause;
 use values::{OutputUnits, TableUnits};
 
@@ -101,7 +100,10 @@ impl OffsetTables<'_> {
     pub fn sum_outside(self, sum: TableUnits) -> bool
         ensures { result ≡ sum_outside self.entry.design sum.0 }
     {
-        let limit = sum_limit(self.design) as i64;
+        let legal = LegalDesign {
+            design: self.design,
+        };
+        let limit = legal.sum_limit() as i64;
         sum.0 < 0 || limit <= sum.0
     }
 
@@ -124,10 +126,10 @@ impl<'a> TableSet<'a> {
         ensures kept { IfOk result
             (λ set. (set.tables.design ≡ d) × (set.initial.now ≡ initial.now) × (set.tables.offsets.now ≡ offsets.now)) }
     {
-        set_verdict(d, initial.len(), offsets.len())?;
+        let legal = checked_set(d, initial.len(), offsets.len())?;
         let tables = OffsetTables {
             design: d,
-            lookups: lookups_of(d),
+            lookups: lookups_of(legal),
             offsets,
         };
         Ok(TableSet { tables, initial })

@@ -37,44 +37,44 @@ returns c =
     let b = c.before.before.before in
     let e = b.before.before in
     let s = e.before.before in
-    entry-is _ _ s.requires.legal s.requires.row_value.1 _ _ e.segment_start-start.ensures e.segment_end-end.ensures _ _ _
+    entry-is _ _ s.args.legal.legal s.requires.1 _ _ e.segment_start-start.ensures e.segment_end-end.ensures _ _ _
     b.value_at.ensures.0 b.value_at-2.ensures.0 c.pow2.ensures
 
 pub segment_start-start-requires : goal.segment_start-start-requires
-segment_start-start-requires c = interval _ _ c.requires.legal c.requires.row_value.1
+segment_start-start-requires c = interval _ _ c.args.legal.legal c.requires.1
 
 pub segment_end-end-requires : goal.segment_end-end-requires
-segment_end-end-requires c = interval _ _ c.requires.legal c.requires.row_value.1
+segment_end-end-requires c = interval _ _ c.args.legal.legal c.requires.1
 
 both_ends : (c : After-segment_end-end) → let a = c.args in
-    InRange a.d.w c.segment_start-start.result × InRange a.d.w c.segment_end-end.result
+    InRange a.legal.design.w c.segment_start-start.result × InRange a.legal.design.w c.segment_end-end.result
 both_ends c =
     let s = c.before.before in
-    ranges _ _ s.requires.legal s.requires.row_value.1 _ _ c.segment_start-start.ensures c.segment_end-end.ensures
+    ranges _ _ s.args.legal.legal s.requires.1 _ _ c.segment_start-start.ensures c.segment_end-end.ensures
 
 pub value_at-requires : goal.value_at-requires
-value_at-requires c = let p = c.requires in record { legal = p.legal; row_value = (p.row_value.0, (both_ends c).0) }
+value_at-requires c = (c.requires.0, (both_ends c).0)
 
 pub value_at-requires-2 : goal.value_at-requires-2
-value_at-requires-2 c = let p = c.requires in record { legal = p.legal; row_value = (p.row_value.0, (both_ends c.before).1) }
+value_at-requires-2 c = (c.requires.0, (both_ends c.before).1)
 
 pub overflow_sub-d : goal.overflow_sub-d
-overflow_sub-d c = omega (arith, (limits _ c.requires.legal).widths)
+overflow_sub-d c = omega (arith, (limits _ c.args.legal.legal).widths)
 
 pub pow2-requires : goal.pow2-requires
-pow2-requires c = omega (arith, (limits _ c.requires.legal).widths)
+pow2-requires c = omega (arith, (limits _ c.args.legal.legal).widths)
 
 -- the half unit
 half-unit : (c : After-pow2) → c.pow2.result * 2 ≤ floor_bound
-half-unit c = rw c.pow2.ensures (unit-small _ (limits _ c.requires.legal))
+half-unit c = rw c.pow2.ensures (unit-small _ (limits _ c.args.legal.legal))
 
 -- so the entry is small
 entry-small : (c : After-pow2) → let values = c.before.before.before in
-    (values.value_at.result + values.value_at-2.result + 1 + values.args.d.m) / 2
+    (values.value_at.result + values.value_at-2.result + 1 + values.args.legal.design.m) / 2
     + c.pow2.result < entry_bound
 entry-small c =
     let values = c.before.before.before in
-    let l = limits _ values.requires.legal in
+    let l = limits _ values.args.legal.legal in
     half-sum-below floor_bound _ _ _ _ values.value_at.ensures.1 values.value_at-2.ensures.1 l.m-high (half-unit c)
     (omega arith)
 

@@ -37,26 +37,26 @@ module _ (d : Design) (initial : List ℕ) {n : ℕ} (count : n ≡ 2 ^ d.alpha)
       rw part-is (front-over initial (initial_entries d) n long)
 
 pub returns : goal.returns
-returns c = written _ _ c.pow2-words.ensures c.requires.d_in_bounds c.loop-word.invariant (omega arith)
+returns c = written _ _ c.pow2-words.ensures c.requires c.loop-word.invariant (omega arith)
 
 pub row_of-row-requires : goal.row_of-row-requires
-row_of-row-requires c = (limits _ c.requires.legal).widths.kind-known
+row_of-row-requires c = (limits _ c.args.legal.legal).widths.kind-known
 
 pub pow2-words-requires : goal.pow2-words-requires
-pow2-words-requires c = omega (arith, limits _ c.requires.legal)
+pow2-words-requires c = omega (arith, limits _ c.args.legal.legal)
 
 pub slice_bounds-entry-items-end : goal.slice_bounds-entry-items-end
-slice_bounds-entry-items-end c = omega (arith, fits _ _ c.pow2-words.ensures c.requires.d_in_bounds)
+slice_bounds-entry-items-end c = omega (arith, fits _ _ c.pow2-words.ensures c.requires)
 
 pub slice_bounds-entry-items-end-2 : goal.slice_bounds-entry-items-end-2
-slice_bounds-entry-items-end-2 c = sym (length-take-le _ c.args.initial.now (fits _ _ c.pow2-words.ensures c.requires.d_in_bounds))
+slice_bounds-entry-items-end-2 c = sym (length-take-le _ c.args.initial.now (fits _ _ c.pow2-words.ensures c.requires))
 
 pub loop-word-init : goal.loop-word-init
 loop-word-init c = record { so_far = run_none _ _ 0; kept = refl }
 
-pub initial_at-requires-clause-row_value : goal.initial_at-requires-clause-row_value
-initial_at-requires-clause-row_value c =
-    (c.row_of-row.ensures, rw (as_many _ _ c.pow2-words.ensures c.requires.d_in_bounds) at c.loop-word-test.true)
+pub initial_at-requires : goal.initial_at-requires
+initial_at-requires c =
+    (c.row_of-row.ensures, rw (as_many _ _ c.pow2-words.ensures c.requires) at c.loop-word-test.true)
 
 pub loop-word-preserved : goal.loop-word-preserved
 loop-word-preserved c =

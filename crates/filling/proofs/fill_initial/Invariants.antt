@@ -14,4 +14,4 @@ pub record Inv (d : Design) (before table : List ℕ) (n : ℕ) : Type 0 where
   pub kept : length table ≡ length before
 
 abbrev pub invariant-loop-word : goal.invariant-loop-word
-invariant-loop-word l = Inv l.d l.initial.entry-items l.entry-items l.word
+invariant-loop-word l = Inv l.legal.design l.initial.entry-items l.entry-items l.word

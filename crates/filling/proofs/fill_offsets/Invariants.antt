@@ -3,4 +3,4 @@ use Rattle.filling.proofs.TableLaws.{Tables}
 use Rattle.filling.proofs.fill_offsets.Given as goal
 
 abbrev pub invariant-loop-i : goal.invariant-loop-i
-invariant-loop-i l = Tables l.d l.initial.offsets l.offsets l.at l.p l.i
+invariant-loop-i l = Tables l.legal.design l.initial.offsets l.offsets l.at l.p l.i

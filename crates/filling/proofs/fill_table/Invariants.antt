@@ -3,4 +3,4 @@ use Rattle.filling.proofs.TableLaws.{Segments}
 use Rattle.filling.proofs.fill_table.Given as goal
 
 abbrev pub invariant-loop-segment : goal.invariant-loop-segment
-invariant-loop-segment l = Segments l.fn.d l.i l.initial.table l.table l.segment
+invariant-loop-segment l = Segments l.fn.legal.design l.i l.initial.table l.table l.segment

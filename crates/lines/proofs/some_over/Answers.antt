@@ -1,55 +1,42 @@
--- `lines::some_over` meets its contract: none of the first i initial entries is over.
-use mathlib.Core.Path.{◌≡◌, refl, sym, ◌∙◌}
-use Prim.Native.Nat.{ℕ, ◌^◌}
+-- `lines::some_over` meets its contract: some of the first initial entries is over.
+use mathlib.Core.Path.{◌≡◌, refl, sym, ap, ◌∙◌}
+use mathlib.Core.Bool.{Bool, ◌||◌}
+use mathlib.Core.List.{List}
+use Prim.Native.Nat.{ℕ, zero, suc, ◌≤◌}
+use native.Mathlib.Numerals.{add-one}
 use native.Mathlib.Omega.{arith}
+use borrow.Author.Rules.{rules}
+use lib.ListN.{length, take, get_or}
+use lib.Seq.{length-take-le}
+use Rattle.std.proofs.Common.{tests}
+use Rattle.std.specs.List.{list_any}
+use Rattle.std.proofs.lemmas.List.Folds.{list_any_more}
+use Rattle.std.proofs.lemmas.Iterator.{YieldsList-from_slice}
+use Rattle.std.proofs.lemmas.Iterator.Search.{any_from_yields_List}
 use Rattle.general.specs.Below.{some_below}
-use Rattle.general.proofs.Sums.{some_of, some-not-here}
-use Rattle.design.specs.declared.Design.{Design}
 use Rattle.design.specs.Stored.{initial_count}
 use Rattle.design.proofs.LegalLaws.{limits}
-use Rattle.lines.specs.Lines.{some_over}
+use Rattle.lines.specs.Lines.{initial_over, some_over}
 use Rattle.lines.proofs.some_over.Goals as goal
 
-pub pow2-count-requires : goal.pow2-count-requires
-pow2-count-requires c = omega (arith, (limits _ c.requires.0).alpha-high)
-
--- so many initial entries are looked at
-count-is : (d : Design) {count : ℕ} → count ≡ 2 ^ d.alpha → count ≡ initial_count d
-unfolding initial_count
-count-is d e = e
-
-pub loop-i-init : goal.loop-i-init
+-- Some of the first n elements passes a test.
+any-below : (n : ℕ) (test : ℕ → Bool) (xs : List ℕ) → n ≤ length xs → list_any test (take n xs) ≡ some_below n (λ i. test (get_or xs i 0))
 unfolding some_below
-loop-i-init c = (refl, omega arith)
+any-below zero test xs h = refl
+any-below (suc n) test xs h =
+    rw add-one at (list_any_more test xs n 0 (omega arith)) ∙ ap (λ (b : Bool). b || test (get_or xs n 0)) (any-below n test xs (omega arith))
 
-pub offset_bounds-initial-i : goal.offset_bounds-initial-i
-offset_bounds-initial-i c =
-    let e : c.pow2-count.result ≡ initial_count c.args.d = count-is c.args.d c.pow2-count.ensures in
-    omega (arith, c.requires.1)
+pub pow2-requires : goal.pow2-requires
+pow2-requires c = omega (arith, (limits _ c.args.legal.legal).alpha-high)
 
-pub bounds-initial-i : goal.bounds-initial-i
-bounds-initial-i c =
-    let e : c.pow2-count.result ≡ initial_count c.args.d = count-is c.args.d c.pow2-count.ensures in
-    omega (arith, c.requires.1)
-
-pub initial_over-requires : goal.initial_over-requires
-initial_over-requires c = c.requires.0
-
-pub returns-then-initial_over : goal.returns-then-initial_over
-unfolding some_over
-returns-then-initial_over c =
-    let e : c.pow2-count.result ≡ initial_count c.args.d = count-is c.args.d c.pow2-count.ensures in
-    rw (← e) (sym (some_of _ _ c.loop-i.i (omega arith) (sym c.initial_over.ensures ∙ c.if-initial_over.true)))
-
-pub loop-i-smaller : goal.loop-i-smaller
-loop-i-smaller c = omega arith
-
-pub loop-i-preserved : goal.loop-i-preserved
-loop-i-preserved c =
-    (some-not-here _ _ (sym c.initial_over.ensures ∙ c.if-initial_over.false) ∙ c.loop-i.invariant.0, omega arith)
+pub slice_bounds-iter-end : goal.slice_bounds-iter-end
+unfolding initial_count
+slice_bounds-iter-end c = sym (length-take-le _ _ (rw c.pow2.ensures c.requires))
 
 pub returns : goal.returns
-unfolding some_over
+unfolding some_over initial_count
 returns c =
-    let e : c.loop-i.i ≡ c.pow2-count.result = omega arith in
-    sym (rw (e, count-is c.args.d c.pow2-count.ensures) at c.loop-i.invariant.0)
+    let entries = take c.pow2.result c.args.initial.now in
+    let some : c.any.result ≡ list_any (initial_over c.args.legal.design) entries =
+    any_from_yields_List (initial_over c.args.legal.design) _ _ _ c.any.ensures.ran (YieldsList-from_slice entries cc) (λ x b q k. search (rules, tests)) in
+    some ∙ rw c.pow2.ensures (any-below _ (initial_over c.args.legal.design) c.args.initial.now c.requires)

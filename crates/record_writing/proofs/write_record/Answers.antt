@@ -1,5 +1,6 @@
 -- `record_writing::write_record` meets its contract: the verdict of the set, then 20, the number, the record's own checks, the record.
 use Rattle.std.specs.Prelude.{Ok, Err}
+use Rattle.std.proofs.lemmas.Result.{err_from_is_err_and}
 use mathlib.Core.Path.{◌≡◌, sym, ap, ◌∙◌}
 use mathlib.Core.Bool.{true, false}
 use mathlib.Core.List.{[], ◌∷◌, ◌++◌}
@@ -37,20 +38,21 @@ use Rattle.record_writing.proofs.AskedLaws.{
 }
 use Rattle.record_writing.proofs.write_record.Goals as goal
 
-pub returns-in-Refused : goal.returns-in-Refused
-returns-in-Refused c =
-    let both = refuses _ _ _ _ _ (refused-before _ _ _ _ _ (sym c.set_verdict.ensures ∙ c.in-Refused.is)) in record { answer = both.0; told = both.1.0; record_buffer = both.1.1 }
+pub returns-in_err-set_verdict : goal.returns-in_err-set_verdict
+returns-in_err-set_verdict c =
+    let r = err_from_is_err_and c.from_residual.result c.from_residual.ensures.1 in
+    rw (r.1, r.2) (refuses _ _ _ _ _ (refused-before _ _ _ _ _ (sym c.set_verdict.ensures ∙ c.in_err-set_verdict.was)))
 
 pub extent_of-extent-requires : goal.extent_of-extent-requires
 extent_of-extent-requires c =
     let set : (let a = c.args in Usable a.d (length a.initial.now) (length a.offsets.now)) =
-    usable _ _ _ (sym c.set_verdict.ensures ∙ c.in_default.is) in
+    usable _ _ _ (sym c.set_verdict.ensures ∙ c.in_ok-set_verdict.was) in
     (set).legal
 
 pub overflow_mul-total : goal.overflow_mul-total
 overflow_mul-total c =
     let set : (let a = c.args in Usable a.d (length a.initial.now) (length a.offsets.now)) =
-    usable _ _ _ (sym c.set_verdict.ensures ∙ c.in_default.is) in
+    usable _ _ _ (sym c.set_verdict.ensures ∙ c.in_ok-set_verdict.was) in
     let total-is : (let a = c.args in entry_bytes * c.extent_of-extent.result.entries ≡ byte_count a.d) =
     extent-bytes _ _ c.extent_of-extent.ensures in
     let d = c.args.d in
@@ -59,27 +61,27 @@ overflow_mul-total c =
 pub returns-then-total-gt-MOST_BYTES : goal.returns-then-total-gt-MOST_BYTES
 returns-then-total-gt-MOST_BYTES c =
     let set : (let a = c.args in Usable a.d (length a.initial.now) (length a.offsets.now)) =
-    usable _ _ _ (sym c.set_verdict.ensures ∙ c.in_default.is) in
+    usable _ _ _ (sym c.set_verdict.ensures ∙ c.in_ok-set_verdict.was) in
     let total-is : (let a = c.args in entry_bytes * c.extent_of-extent.result.entries ≡ byte_count a.d) =
     extent-bytes _ _ c.extent_of-extent.ensures in
-    let both = refuses _ _ _ _ _ (past-addresses _ _ _ _ _ (set) (omega (arith, total-is, c.if-total-gt-MOST_BYTES.true))) in record { answer = both.0; told = both.1.0; record_buffer = both.1.1 }
+    refuses _ _ _ _ _ (past-addresses _ _ _ _ _ (set) (omega (arith, total-is, c.if-total-gt-MOST_BYTES.true)))
 
 pub returns-then-record_count-number : goal.returns-then-record_count-number
 returns-then-record_count-number c =
     let set : (let a = c.args in Usable a.d (length a.initial.now) (length a.offsets.now)) =
-    usable _ _ _ (sym c.set_verdict.ensures ∙ c.in_default.is) in
+    usable _ _ _ (sym c.set_verdict.ensures ∙ c.in_ok-set_verdict.was) in
     let total-is : (let a = c.args in entry_bytes * c.extent_of-extent.result.entries ≡ byte_count a.d) =
     extent-bytes _ _ c.extent_of-extent.ensures in
     let few : (let a = c.args in byte_count a.d ≤ most_bytes) =
     omega (arith, total-is, c.if-total-gt-MOST_BYTES.false) in
     let count-is : (let a = c.args in c.record_count.result ≡ record_count (byte_count a.d)) =
     c.record_count.ensures ∙ ap record_count (total-is) in
-    let both = refuses _ _ _ _ _ (past-records _ _ _ _ _ (set) (few) (omega (arith, count-is, c.if-record_count-number.true))) in record { answer = both.0; told = both.1.0; record_buffer = both.1.1 }
+    refuses _ _ _ _ _ (past-records _ _ _ _ _ (set) (few) (omega (arith, count-is, c.if-record_count-number.true)))
 
 pub put_entries-fits-requires : goal.put_entries-fits-requires
 put_entries-fits-requires c =
     let set : (let a = c.args in Usable a.d (length a.initial.now) (length a.offsets.now)) =
-    usable _ _ _ (sym c.set_verdict.ensures ∙ c.in_default.is) in
+    usable _ _ _ (sym c.set_verdict.ensures ∙ c.in_ok-set_verdict.was) in
     let total-is : (let a = c.args in entry_bytes * c.extent_of-extent.result.entries ≡ byte_count a.d) =
     extent-bytes _ _ c.extent_of-extent.ensures in
     let few : (let a = c.args in byte_count a.d ≤ most_bytes) =
@@ -128,7 +130,7 @@ overflow_add-characters c =
 pub returns-then-not-fits : goal.returns-then-not-fits
 returns-then-not-fits c =
     let set : (let a = c.args in Usable a.d (length a.initial.now) (length a.offsets.now)) =
-    usable _ _ _ (sym c.set_verdict.ensures ∙ c.in_default.is) in
+    usable _ _ _ (sym c.set_verdict.ensures ∙ c.in_ok-set_verdict.was) in
     let total-is : (let a = c.args in entry_bytes * c.extent_of-extent.result.entries ≡ byte_count a.d) =
     extent-bytes _ _ c.extent_of-extent.ensures in
     let few : (let a = c.args in byte_count a.d ≤ most_bytes) =
@@ -148,12 +150,12 @@ returns-then-not-fits c =
     rw (fits, ← length-is) (within-records _ _ _ _ (length a.«record».now) (set) (few) (within)) in
     let too_wide : c.put_entries-fits.result ≡ false → (let a = c.args in hex_write_verdict a.d a.initial.now a.offsets.now a.number (length a.«record».now)) ≡ Err Cause.EntryWidth =
     λ wide. settles ∙ rw wide in
-    let both = refuses _ _ _ _ _ (too_wide c.if-not-fits.true) in record { answer = both.0; told = both.1.0; record_buffer = both.1.1 }
+    refuses _ _ _ _ _ (too_wide c.if-not-fits.true)
 
 pub returns-then-record-characters : goal.returns-then-record-characters
 returns-then-record-characters c =
     let set : (let a = c.args in Usable a.d (length a.initial.now) (length a.offsets.now)) =
-    usable _ _ _ (sym c.set_verdict.ensures ∙ c.in_default.is) in
+    usable _ _ _ (sym c.set_verdict.ensures ∙ c.in_ok-set_verdict.was) in
     let total-is : (let a = c.args in entry_bytes * c.extent_of-extent.result.entries ≡ byte_count a.d) =
     extent-bytes _ _ c.extent_of-extent.ensures in
     let few : (let a = c.args in byte_count a.d ≤ most_bytes) =
@@ -173,7 +175,7 @@ returns-then-record-characters c =
     rw (fits, ← length-is) (within-records _ _ _ _ (length a.«record».now) (set) (few) (within)) in
     let no_room : c.put_entries-fits.result ≡ true → (let a = c.args in length a.«record».now) < (11 + 2 * (c.bytes_before.result - c.bytes_before-2.result)) → (let a = c.args in hex_write_verdict a.d a.initial.now a.offsets.now a.number (length a.«record».now)) ≡ Err Cause.OutputShort =
     λ narrow short. settles ∙ rw (narrow, lt-ltb _ _ short) in
-    let both = refuses _ _ _ _ _ (no_room (search rules) c.if-record-characters.true) in record { answer = both.0; told = both.1.0; record_buffer = both.1.1 }
+    refuses _ _ _ _ _ (no_room (search rules) c.if-record-characters.true)
 
 pub overflow_add-window : goal.overflow_add-window
 overflow_add-window c =
@@ -227,7 +229,7 @@ put_record-requires c =
 pub returns : goal.returns
 returns c =
     let set : (let a = c.args in Usable a.d (length a.initial.now) (length a.offsets.now)) =
-    usable _ _ _ (sym c.set_verdict.ensures ∙ c.in_default.is) in
+    usable _ _ _ (sym c.set_verdict.ensures ∙ c.in_ok-set_verdict.was) in
     let total-is : (let a = c.args in entry_bytes * c.extent_of-extent.result.entries ≡ byte_count a.d) =
     extent-bytes _ _ c.extent_of-extent.ensures in
     let few : (let a = c.args in byte_count a.d ≤ most_bytes) =
@@ -245,7 +247,7 @@ returns c =
     let a = c.args in
     let fits = c.put_entries-fits.ensures.value ∙ asked-fits a.d a.initial.now a.offsets.now a.number _ c.extent_of-extent.ensures in
     rw (fits, ← length-is) (within-records _ _ _ _ (length a.«record».now) (set) (few) (within)) in
-    let writable : c.put_entries-fits.result ≡ true → (11 + 2 * (c.bytes_before.result - c.bytes_before-2.result)) ≤ (let a = c.args in length a.«record».now) → (let a = c.args in hex_write_verdict a.d a.initial.now a.offsets.now a.number (length a.«record».now)) ≡ (Ok tt) =
+    let writable : c.put_entries-fits.result ≡ true → (11 + 2 * (c.bytes_before.result - c.bytes_before-2.result)) ≤ (let a = c.args in length a.«record».now) → (let a = c.args in hex_write_verdict a.d a.initial.now a.offsets.now a.number (length a.«record».now)) ≡ Ok tt =
     λ narrow long. settles ∙ rw (narrow, le-ltb _ _ long) in
     let a = c.args in
     let extent = c.extent_of-extent.result in
@@ -257,4 +259,4 @@ returns c =
     let all = bytes_below extent.entries number in
     let bytes : take count c.put_head.new.window ≡ record_head (entry_bytes * extent.entries) a.number ++ data_in all a.number =
     rw (c.put_head.ensures, size) (window-record number extent.entries a.number _ put) in
-    let text = asked-text a.d a.initial.now a.offsets.now a.number extent c.extent_of-extent.ensures bytes in let both = writes _ _ _ _ _ (writable c.if-not-fits.false c.if-record-characters.false) (length-is) (c.put_record.ensures ∙ ap (over _ 0) text) in record { answer = both.0; told = both.1.0; record_buffer = both.1.1 }
+    let text = asked-text a.d a.initial.now a.offsets.now a.number extent c.extent_of-extent.ensures bytes in writes _ _ _ _ _ (writable c.if-not-fits.false c.if-record-characters.false) (length-is) (c.put_record.ensures ∙ ap (over _ 0) text)

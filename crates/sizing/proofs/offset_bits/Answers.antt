@@ -26,13 +26,13 @@ module _ (d : Design) (i at : ℕ) (pair : Pair) (slopes : LargestSlopes) (place
 pub returns : goal.returns
 returns c =
     let slopes = c.before in
-    bits_are _ _ _ _ _ slopes.requires.i_lt_m.1 slopes.pair_at-pair.ensures slopes.table_slopes-slopes.ensures _
+    bits_are _ _ _ _ _ slopes.requires.1 slopes.pair-pair.ensures slopes.table_slopes-slopes.ensures _
     c.bits_of.ensures
 
-pub pair_at-pair-requires : goal.pair_at-pair-requires
-pair_at-pair-requires c = (c.requires.i_lt_m.0, (limits _ c.requires.legal).m-high)
+pub pair-pair-requires : goal.pair-pair-requires
+pair-pair-requires c = c.requires.0
 
 pub bits_of-requires : goal.bits_of-requires
 bits_of-requires c =
     let e = c.requires in
-    asked _ _ _ _ _ e.i_lt_m.1 c.pair_at-pair.ensures c.table_slopes-slopes.ensures (limits _ e.legal) e.i_lt_m.0
+    asked _ _ _ _ _ e.1 c.pair-pair.ensures c.table_slopes-slopes.ensures (limits _ c.args.legal.legal) e.0

@@ -11,7 +11,6 @@ use Rattle.design.proofs.AdmittedLaws.{refused-before, not-admitted, admitted}
 use Rattle.sizing.specs.Size.{size, size_verdict, size_answer, size_told}
 use Rattle.std.proofs.lemmas.Result.{err_from_is_err_and}
 use Rattle.sizing.proofs.size.Goals as goal
-use Rattle.sizing.proofs.size.Goals.{In_ok-design_verdict}
 
 -- what is promised by the verdict
 module _ (d : Design) where
@@ -26,36 +25,28 @@ module _ (d : Design) where
   unfolding size_answer size_told
   answered bits e is = rw (e, is) (refl, refl)
 
-pub returns-in_err-design_verdict : goal.returns-in_err-design_verdict
+pub returns-in_err-legal : goal.returns-in_err-legal
 unfolding size_verdict design_verdict
-returns-in_err-design_verdict c =
+returns-in_err-legal c =
     let r = err_from_is_err_and c.from_residual.result c.from_residual.ensures.1 in
-    let p = refused-with _ _ (refused-before _ (design_checks _) _ (sym c.design_verdict.ensures ∙ c.in_err-design_verdict.was)) in
+    let p = refused-with _ _ (refused-before _ (design_checks _) _ (sym c.in_err-legal.ensures.verdict)) in
     rw (r.1, r.2) (record { answer = p.0; told = p.1 })
 
--- where the verdict passed
-legal : (c : In_ok-design_verdict) → Legal c.args.d
-legal c = sym c.design_verdict.ensures ∙ c.in_ok-design_verdict.was
+pub limit-requires : goal.limit-requires
+limit-requires c = guard_small _ (limits _ (sym c.in_ok-legal.ensures.verdict))
 
-pub limit_of-requires : goal.limit_of-requires
-limit_of-requires c = guard_small _ (limits _ (legal c))
-
-pub budget_of-requires : goal.budget_of-requires
-budget_of-requires c = legal c.before
-
-pub returns-then-limit_of-budget_of : goal.returns-then-limit_of-budget_of
+pub returns-then-limit-budget : goal.returns-then-limit-budget
 unfolding size_verdict design_verdict
-returns-then-limit_of-budget_of c =
-    let p = refused-with _ _ (not-admitted _ (design_checks _) (legal c.before.before.before) (rw
-        (c.limit_of.ensures, c.budget_of.ensures) at c.if-limit_of-budget_of.true)) in
+returns-then-limit-budget c =
+    let same = c.in_ok-legal.ensures.same in
+    let p = refused-with _ _ (not-admitted _ (design_checks _) (sym c.in_ok-legal.ensures.verdict) (rw
+    (c.limit.ensures, c.budget.ensures, same) at c.if-limit-budget.true)) in
     record { answer = p.0; told = p.1 }
-
-pub size_of-requires : goal.size_of-requires
-size_of-requires c = legal c.before.before.before
 
 pub returns : goal.returns
 unfolding size_verdict design_verdict
 returns c =
-    let p = answered _ _ (admitted _ (design_checks _) (legal c.before.before.before.before) (rw (c.limit_of.ensures, c.budget_of.ensures) at
-        c.if-limit_of-budget_of.false)) c.size_of.ensures in
+    let same = c.in_ok-legal.ensures.same in
+    let p = answered _ _ (admitted _ (design_checks _) (sym c.in_ok-legal.ensures.verdict) (rw (c.limit.ensures, c.budget.ensures, same) at
+    c.if-limit-budget.false)) (rw same at c.size_of.ensures) in
     record { answer = p.0; told = p.1 }

@@ -15,15 +15,15 @@ use Rattle.sizing.proofs.SizeLaws.{initial-by-small, table-size-small}
 use Rattle.sizing.proofs.size_of.Goals as goal
 
 pub overflow_add-d : goal.overflow_add-d
-overflow_add-d c = omega (arith, (limits _ c.requires).widths.room.s-small)
+overflow_add-d c = omega (arith, (limits _ c.args.legal.legal).widths.room.s-small)
 
 pub initial_size-bits-requires : goal.initial_size-bits-requires
-initial_size-bits-requires c = let l = limits _ c.requires in (l.alpha-high, l.widths.room.s-small)
+initial_size-bits-requires c = let l = limits _ c.args.legal.legal in (l.alpha-high, l.widths.room.s-small)
 
 pub loop-i-init : goal.loop-i-init
 unfolding sum_below Cut.position initial_size initial_count
 loop-i-init c =
-    let l = limits _ c.requires in
+    let l = limits _ c.args.legal.legal in
     record {
       bits_are = omega (arith, c.initial_size-bits.ensures);
       place = refl;
@@ -32,7 +32,7 @@ loop-i-init c =
     }
 
 pub table_size-bits-requires : goal.table_size-bits-requires
-table_size-bits-requires c = record { legal = c.requires; i_lt_m = (c.loop-i-test.true, c.loop-i.invariant.place) }
+table_size-bits-requires c = (c.loop-i-test.true, c.loop-i.invariant.place)
 
 -- one table more
 module _ (d : Design) (bits i size : ℕ) where
@@ -41,7 +41,7 @@ module _ (d : Design) (bits i size : ℕ) where
 
 pub overflow_add-bits : goal.overflow_add-bits
 overflow_add-bits c =
-    let l = limits _ c.requires in
+    let l = limits _ c.args.legal.legal in
     omega (
       arith,
       c.table_size-bits.ensures,
@@ -50,13 +50,13 @@ overflow_add-bits c =
       l.m-high,
     )
 
-pub pair_at-position-requires : goal.pair_at-position-requires
-pair_at-position-requires c = (c.loop-i-test.true, (limits _ c.requires).m-high)
+pub pair-position-requires : goal.pair-position-requires
+pair-position-requires c = c.loop-i-test.true
 
 pub overflow_add-position : goal.overflow_add-position
 overflow_add-position c =
-    let l = limits _ c.requires in
-    rw (c.pair_at-position.ensures, c.loop-i.invariant.place)
+    let l = limits _ c.args.legal.legal in
+    rw (c.pair-position.ensures, c.loop-i.invariant.place)
     (omega (arith, bits-end _ l _ c.loop-i-test.true, l.table _ c.loop-i-test.true, l.alpha-high, l.widths.room.w-small))
 
 pub loop-i-preserved : goal.loop-i-preserved
@@ -65,12 +65,12 @@ loop-i-preserved c =
     let inv = c.loop-i.invariant in
     record {
       bits_are = grown _ _ _ _ inv.bits_are c.table_size-bits.ensures;
-      place = ap₂ ◌+◌ inv.place (ap (λ (p : Pair). p.b) c.pair_at-position.ensures) ∙ sym (sum-next _ (b_of _));
+      place = ap₂ ◌+◌ inv.place (ap (λ (p : Pair). p.b) c.pair-position.ensures) ∙ sym (sum-next _ (b_of _));
       within = omega arith;
       small = omega (
         arith,
         c.table_size-bits.ensures,
-        table-size-small _ _ (limits _ c.requires) c.loop-i-test.true,
+        table-size-small _ _ (limits _ c.args.legal.legal) c.loop-i-test.true,
         inv.small,
       );
     }
@@ -78,5 +78,5 @@ loop-i-preserved c =
 pub returns : goal.returns
 unfolding size
 returns c =
-    let e : c.loop-i.i ≡ c.args.d.m = omega arith in
+    let e : c.loop-i.i ≡ c.args.legal.design.m = omega arith in
     rw (rw e at c.loop-i.invariant.bits_are)

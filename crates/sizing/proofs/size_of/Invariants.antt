@@ -16,4 +16,4 @@ pub record Inv (d : Design) (bits at i : ℕ) : Type 0 where
   pub small : bits ≤ initial_bound + i * table_bound
 
 abbrev pub invariant-loop-i : goal.invariant-loop-i
-invariant-loop-i l = Inv l.d l.bits l.position l.i
+invariant-loop-i l = Inv l.legal.design l.bits l.position l.i

@@ -13,4 +13,4 @@ pub overflow_mul-result : goal.overflow_mul-result
 unfolding table_size
 overflow_mul-result c =
     let e = c.requires in
-    rw (c.offset_count.ensures, c.offset_bits.ensures) (omega (arith, table-size-small _ _ (limits _ e.legal) e.i_lt_m.0))
+    rw (c.offset_count.ensures, c.offset_bits.ensures) (omega (arith, table-size-small _ _ (limits _ c.args.legal.legal) e.0))

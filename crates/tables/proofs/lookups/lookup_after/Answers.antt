@@ -5,24 +5,24 @@ use Rattle.tables.proofs.LookupLaws.{lookup-small, shift-within, count-again-sma
 use Rattle.tables.proofs.lookups.lookup_after.Goals as goal
 
 pub overflow_sub-count : goal.overflow_sub-count
-overflow_sub-count c = let p = c.requires in shift-within _ (limits _ p.legal) _ _ p.i_bound.1
+overflow_sub-count c = let p = c.requires in shift-within _ (limits _ c.args.legal.legal) _ _ p.1
 
 pub overflow_shl-count : goal.overflow_shl-count
-overflow_shl-count c = omega (arith, (limits _ c.requires.legal).widths.room.w-small)
+overflow_shl-count c = omega (arith, (limits _ c.args.legal.legal).widths.room.w-small)
 
 pub overflow_add-previous : goal.overflow_add-previous
 overflow_add-previous c =
     let p = c.requires in
-    omega (arith, lookup-small _ (limits _ p.legal) _ _ p.i_bound.1 (omega (arith, p.i_bound.0)))
+    omega (arith, lookup-small _ (limits _ c.args.legal.legal) _ _ p.1 (omega (arith, p.0)))
 
 pub overflow_add-previous-2 : goal.overflow_add-previous-2
 overflow_add-previous-2 c =
     let p = c.requires in
-    let l = limits _ p.legal in
-    omega (arith, lookup-small _ l _ _ p.i_bound.1 (omega (arith, p.i_bound.0)), count-again-small _ l _ _ p.i_bound.1)
+    let l = limits _ c.args.legal.legal in
+    omega (arith, lookup-small _ l _ _ p.1 (omega (arith, p.0)), count-again-small _ l _ _ p.1)
 
 pub lookup_of-requires : goal.lookup_of-requires
 lookup_of-requires c =
     let p = c.requires in
-    let l = limits _ p.legal in
-    record { legal = p.legal; position_value = (position-next _ l _ _ p.i_bound.1, start-next _ l _ _ p.i_bound.1) }
+    let l = limits _ c.args.legal.legal in
+    (position-next _ l _ _ p.1, start-next _ l _ _ p.1)

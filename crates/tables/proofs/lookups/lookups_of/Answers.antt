@@ -8,7 +8,7 @@ use Rattle.tables.proofs.lookups.lookups_of.Goals as goal
 
 pub lookup_of-first-requires : goal.lookup_of-first-requires
 unfolding position table_start sum_below
-lookup_of-first-requires c = record { legal = c.requires; position_value = (refl, refl) }
+lookup_of-first-requires c = (refl, refl)
 
 pub returns : goal.returns
 unfolding lookups_of
