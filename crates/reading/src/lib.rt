@@ -147,7 +147,7 @@ fn later_line(
     if head_fails(head, width, frame) {
         return Err(Cause::Frame);
     }
-    let number = number_in(&frame.bytes, head.count, width);
+    let number = number_in(&frame.bytes[head.count..head.count + width]);
     let over = entry_over(d, slot, number);
     let short = tables_short(d, initial.len(), offsets.len());
     if over {
