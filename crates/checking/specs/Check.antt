@@ -1,5 +1,6 @@
 -- What the call `check` answers: "check 1 to 10", else faithful or the lowest unfaithful word.
-use Rattle.std.specs.Prelude.{◌≡◌, Bool, true, false, not, ◌&&◌, ◌⊎◌, List, ℕ, zero, suc, ◌+◌, ◌^◌, ◌<◌, length, ℤ, Option, None, Some, Result, Ok}
+use Rattle.std.specs.Prelude.{◌≡◌, Bool, true, false, not, ◌&&◌, ◌⊎◌, List, ℕ, zero, suc, ◌+◌, ◌^◌, ◌<◌, length, ℤ}
+use Rattle.std.specs.Prelude.{Option, None, Some, Result, Ok}
 use Rattle.refusal.specs.declared.Cause.{Cause}
 use Rattle.refusal.specs.Verdict.{Verdict}
 use Rattle.refusal.specs.Checks.{verdict, answer}

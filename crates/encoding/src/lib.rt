@@ -3,7 +3,6 @@
 
 ghost use Rattle.std.specs.Prelude.{◌≡◌, [], ◌∷◌, ◌++◌, ◌+◌, ◌≤◌, ◌<◌, length};
 ghost use Rattle.general.specs.Lists.{over};
-ghost use Rattle.design.specs.Legal.{Legal};
 ghost use Rattle.encoding.specs.Bytes.{big_endian};
 ghost use Rattle.encoding.specs.Encode.{digit_of, hex_of, line_of};
 ghost use Rattle.encoding.specs.DesignBytes.{design_bytes};
@@ -11,8 +10,7 @@ ghost use Rattle.encoding.specs.Inputs.{held, WidthInput, PutInput};
 
 pub mod numbers;
 
-use design::Design;
-use design::legal::pair_at;
+use design::LegalDesign;
 use frames::CAPACITY;
 
 // A frame while it is put together: its first `count` bytes are there.
@@ -49,11 +47,11 @@ impl Frame {
 }
 
 // The frame 01 of a legal design before its pairs. Each number of a legal design fits a byte.
-fn design_head(d: Design) -> Frame
-    requires { Legal d }
-    ensures result_value { held result ≡ 1 ∷ d.kind ∷ d.w ∷ d.q ∷ d.g ∷ d.alpha ∷ d.m ∷ [] }
+fn design_head(legal: LegalDesign) -> Frame
+    ensures result_value { let d = legal.design in held result ≡ 1 ∷ d.kind ∷ d.w ∷ d.q ∷ d.g ∷ d.alpha ∷ d.m ∷ [] }
     ensures count_value { result.count ≡ 7 }
 {
+    let d = legal.design;
     Frame::of_kind(1)
         .with(1, d.kind)
         .with(1, d.w)
@@ -64,14 +62,13 @@ fn design_head(d: Design) -> Frame
 }
 
 // inner: the frame 01 of a legal design.
-pub fn design_frame(d: Design) -> Frame
-    requires { Legal d }
-    ensures result_value { held result ≡ design_bytes d }
-    ensures count_value { result.count ≡ length (design_bytes d) }
+pub fn design_frame(legal: LegalDesign) -> Frame
+    ensures result_value { held result ≡ design_bytes legal.design }
+    ensures count_value { result.count ≡ length (design_bytes legal.design) }
 {
-    let mut frame = design_head(d);
-    for i in 0..d.m {
-        let pair = pair_at(d, i);
+    let mut frame = design_head(legal);
+    for i in 0..legal.design.m {
+        let pair = legal.pair(i);
         frame = frame.with(1, pair.a).with(1, pair.b);
     }
     frame

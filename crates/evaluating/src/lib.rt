@@ -2,8 +2,7 @@
 #![tactic(auto)]
 
 ghost use Rattle.std.specs.Prelude.{◌≡◌, ◌++◌, map, ℕ, ◌<◌, ◌≤◌, length, drop, IfOk, Ok};
-ghost use Rattle.refusal.specs.Checks.{verdict};
-ghost use Rattle.tables.specs.Set.{verdict_of};
+ghost use Rattle.refusal.specs.Checks.{verdict, verdict_of};
 ghost use Rattle.tables.specs.Sum.{word_at};
 ghost use Rattle.evaluating.specs.Evaluate.{word_checks, evaluated, evaluate_answer, evaluate_told};
 ghost use Rattle.evaluating.specs.Evaluate as Evaluate;
@@ -12,8 +11,7 @@ ghost use Rattle.evaluating.specs.Batch as Batch;
 
 mod range;
 
-use design::Design;
-use design::measure::offset_total;
+use design::{Design, LegalDesign};
 use general::pow2;
 use range::{sums_in_range, width_answer};
 use refusal::Cause;
@@ -101,7 +99,8 @@ fn words_verdict(set: TableSet, words: &[u32]) -> Result<usize, BatchRefusal>
         (place_verdict set.entry.tables.design set.entry.initial.now set.entry.tables.offsets.now words.now) }
 {
     let d = set.tables.design;
-    let entries = pow2(d.alpha) + offset_total(d);
+    let legal = LegalDesign { design: d };
+    let entries = pow2(d.alpha) + legal.offset_total();
     if entries < words.len() as u64 && sums_in_range(set) {
         return width_answer(d.w, words);
     }

@@ -7,7 +7,7 @@ ghost use Rattle.refusal.specs.Checks as Checks;
 ghost use Rattle.evaluating.specs.Range.{SumsInRange, width_answer};
 
 use crate::BatchRefusal;
-use design::measure::{offset_total, sum_limit};
+use design::LegalDesign;
 use general::pow2;
 use refusal::{Cause, outside};
 use tables::sums::TableSet;
@@ -41,10 +41,11 @@ pub fn sums_in_range(set: TableSet) -> bool
     ensures { result ≡ true → SumsInRange set.entry.tables.design set.entry.initial.now set.entry.tables.offsets.now }
 {
     let d = set.tables.design;
-    let offsets = &set.tables.offsets[..offset_total(d) as usize];
+    let legal = LegalDesign { design: d };
+    let offsets = &set.tables.offsets[..legal.offset_total() as usize];
     let size = largest_magnitude(offsets) as u64 + 1;
     let reach = d.m as u64 * size;
-    let limit = sum_limit(d);
+    let limit = legal.sum_limit();
     if limit <= reach {
         return false;
     }

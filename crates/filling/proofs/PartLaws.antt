@@ -18,7 +18,8 @@ module _ {A : Type 0} (table entries : List A) where
   -- A part of k places from n on, with its k entries
   pub part-over : (n k : ℕ) → length entries ≡ k → put_mid n k table entries ≡ over table n entries
   unfolding over
-  part-over n k e = rw (← e, drop-drop (length entries) n table) (sym (append_assoc (take n table) entries (drop (n + length entries) table)))
+  part-over n k e =
+      rw (← e, drop-drop (length entries) n table) (sym (append_assoc (take n table) entries (drop (n + length entries) table)))
 
   -- and one from the start
   pub front-over : (k : ℕ) → length entries ≡ k → entries ++ drop k table ≡ over table 0 entries

@@ -32,7 +32,7 @@ fn fill_initial(legal: LegalDesign, initial: &mut [u32])
 
 // The offsets of a segment, by Hi + Lo of the segment, b and p of its table, and the function's sign.
 // The entries of B and 2^b - 1 - B add up to -1, so one product serves both, from the middle of the segment outwards.
-// An index and no iterators from the middle: their `next` would be a branch on the way to an offset, and `.ci/straight` checks that none is.
+// By an index: an iterator's `next` would be a branch on the way to an offset, and `.ci/straight` checks that there is none.
 fn fill_segment(slopes: u64, b: u32, p: u32, rising: bool, segment: &mut [i32])
     requires offset_input { OffsetInput slopes b p }
     requires length_value { length segment.old ≡ 2 ^ b }

@@ -1,11 +1,13 @@
 -- What is read from digits, by whether they fail: nothing, or their bytes.
-use Rattle.std.specs.Prelude.{Some, None}
-use mathlib.Core.Path.{◌≡◌}
-use mathlib.Core.Bool.{true, false, or-true}
-use mathlib.Core.List.{List}
+use Rattle.std.specs.Prelude.{Some, None, ok_or}
+use mathlib.Core.Path.{◌≡◌, refl}
+use mathlib.Core.Bool.{Bool, true, false, cond, or-true}
+use mathlib.Core.List.{List, [], ◌∷◌}
 use Prim.Native.Nat.{ℕ, ◌≤◌}
 use lib.ListN.{length, take}
 use lib.Seq.{take_all}
+use Rattle.refusal.specs.declared.Cause.{Cause}
+use Rattle.refusal.specs.Checks.{◌↝◌, verdict, answer}
 use Rattle.frames.specs.declared.Decoded.{Decoded}
 use Rattle.frames.specs.Hex.{all_digits, bytes_of}
 use Rattle.frames.specs.Line.{sum_fails, text_fails, capacity, padded, kept, decoded_digits}
@@ -42,3 +44,12 @@ module _ (digits : List ℕ) where
   pub sound-text : all_digits digits ≡ true → sum_fails (bytes_of digits) ≡ false → text_fails digits ≡ false
   unfolding text_fails
   sound-text d s = rw (d, s)
+
+  -- With a cause where nothing is read, it is an answer by one check.
+  pub read-answer : (cause : Cause) → ok_or (decoded_digits digits) cause ≡ answer (verdict (text_fails digits ↝ cause ∷ [])) (kept digits)
+  unfolding decoded_digits
+  read-answer cause = either (text_fails digits)
+    where
+      either : (fails : Bool) → ok_or (cond fails None (Some (kept digits))) cause ≡ answer (verdict (fails ↝ cause ∷ [])) (kept digits)
+      either true = refl
+      either false = refl

@@ -1,8 +1,8 @@
 -- Which tests of a line refuse it, and what it decodes to then and otherwise.
-use Rattle.std.specs.Prelude.{Ok, Err, Some, None, ok_or}
-use mathlib.Core.Path.{◌≡◌, refl, sym, ◌∙◌}
-use mathlib.Core.Bool.{Bool, true, false, cond, or-true}
-use mathlib.Core.List.{List, [], ◌∷◌}
+use Rattle.std.specs.Prelude.{Ok, Err, ok_or}
+use mathlib.Core.Path.{◌≡◌, sym, ◌∙◌}
+use mathlib.Core.Bool.{true, false, or-true}
+use mathlib.Core.List.{List}
 use Prim.Native.Nat.{ℕ, ◌*◌, ◌/◌, ◌%◌, ◌≤◌, ◌<◌}
 use native.Mathlib.Omega.{arith}
 use lib.Dec.{ltb, eqb}
@@ -10,7 +10,7 @@ use lib.ListN.{length}
 use borrow.Author.Tests.{lt-ltb, ltb-false, eqb-false}
 use Rattle.general.proofs.Tests.{neither}
 use Rattle.refusal.specs.declared.Cause.{Cause}
-use Rattle.refusal.specs.Checks.{◌↝◌, verdict, answer}
+use Rattle.refusal.specs.Checks.{verdict}
 use Rattle.refusal.proofs.Checks.{none-fails}
 use Rattle.refusal.proofs.Answers.{answer-refused, answer-given}
 use Rattle.frames.specs.declared.Decoded.{Decoded}
@@ -30,7 +30,7 @@ use Rattle.frames.specs.Line.{
   decoded,
 }
 use Rattle.frames.proofs.HexLaws.{bytes-length}
-use Rattle.frames.proofs.DecodedLaws.{whole, kept_whole}
+use Rattle.frames.proofs.DecodedLaws.{whole, kept_whole, read-answer}
 
 pub record SoundLength (digits : ℕ) : Type 0 where
   pub even : digits ≡ 2 * (digits / 2)
@@ -81,12 +81,8 @@ module _ (line : List ℕ) where
 
   -- Any other is what its digits are.
   pub text-decides : is_empty line ≡ false → length_fails (length line) ≡ false → ok_or (decoded_digits line) Cause.Line ≡ decoded line
-  unfolding decoded decoded_digits line_checks line_fails digits_fail
-  text-decides some l = rw (some, l) (either (text_fails line))
-    where
-      either : (fails : Bool) → ok_or (cond fails None (Some (kept line))) Cause.Line ≡ answer (verdict (fails ↝ Cause.Line ∷ [])) (kept line)
-      either true = refl
-      either false = refl
+  unfolding decoded line_checks line_fails digits_fail
+  text-decides some l = rw (some, l) (read-answer line Cause.Line)
 
   -- What `decode` tells: a line that it refuses fails its checks, and one that it does not passes them and is there whole.
   pub line-refused : (cause : Cause) → decoded line ≡ Err cause → verdict (line_checks line) ≡ Err cause

@@ -1,5 +1,5 @@
 -- What is tried on a first line and on a later one, and what a line that passes tells.
-use Rattle.std.specs.Prelude.{Ok, Err, is_err}
+use Rattle.std.specs.Prelude.{Ok, Err}
 use mathlib.Core.Path.{◌≡◌, refl, sym, ap, ◌∙◌}
 use mathlib.Core.Bool.{Bool, true, false, ◌||◌, ◌&&◌, true≢false, or-true}
 use mathlib.Core.List.{List, [], ◌∷◌, ◌++◌}
@@ -14,7 +14,7 @@ use Rattle.refusal.specs.Verdict.{Verdict}
 use Rattle.refusal.specs.Checks.{Check, ◌↝◌, verdict, passes}
 use Rattle.refusal.proofs.Checks.{none-fails, passed-append, verdict-append}
 use Rattle.refusal.proofs.Answers.{only-passed}
-use Rattle.design.specs.Legal.{design_verdict}
+use Rattle.design.specs.Legal.{design_verdict, Legal}
 use Rattle.tables.specs.Inputs.{Usable}
 use Rattle.tables.specs.Set.{tables_check}
 use Rattle.tables.proofs.SetLaws.{usable, set-lengths, tables-long}
@@ -93,14 +93,17 @@ module _ (state : Reading) where
 passes-passed : (v : Verdict) → passes v ≡ true → v ≡ Ok tt
 passes-passed v e = only-passed (λ (answer : Bool). answer ≡ true) v true (λ cause. false) (λ cause f. true≢false (sym f)) e
 
--- Whether a verdict is a refusal, as `is_err` asks
-pub err-fails : (v : Verdict) → is_err v ≡ true → passes v ≡ false
-err-fails (Ok tt) e = sym e
-err-fails (Err cause) e = refl
-
-pub none-refused : (v : Verdict) → is_err v ≡ false → v ≡ Ok tt
-none-refused (Ok tt) e = refl
-none-refused (Err cause) e = absurd (true≢false e)
+-- A number that equals another is at most that.
+within-equal : (n m : ℕ) → eqb n m ≡ leb n m && eqb n m
+within-equal n m = either (eqb n m) refl
+  where
+    either : (b : Bool) → eqb n m ≡ b → eqb n m ≡ leb n m && eqb n m
+    either true e = rw (e, le-leb n m (omega (arith, eqb-true n m e)))
+    either false e = rw e (none (leb n m))
+      where
+        none : (b : Bool) → false ≡ b && false
+        none true = refl
+        none false = refl
 
 -- A possible state in which a line is taken
 module _ (state : Reading) where
@@ -129,6 +132,15 @@ module _ (state : Reading) where
   pub by_count : possible state ≡ true → finished state ≡ eqb state.taken (line_count state.design)
   unfolding finished
   by_count e = rw e
+
+  -- With lines taken it goes by the design and by their number.
+  pub legal-finish : 0 < state.taken → Legal state.design → eqb state.taken (line_count state.design) ≡ finished state
+  unfolding finished
+  legal-finish h legal = rw (later-possible state h, legal) (within-equal state.taken (line_count state.design))
+
+  pub illegal-finish : 0 < state.taken → (cause : Cause) → design_verdict state.design ≡ Err cause → false ≡ finished state
+  unfolding finished
+  illegal-finish h cause e = rw (later-possible state h, e)
 
   -- has taken all lines, and the other way round.
   pub all-taken : finished state ≡ true → state.taken ≡ line_count state.design

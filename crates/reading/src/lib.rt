@@ -28,14 +28,13 @@ ghost use Rattle.reading.specs.ReadLine.{
 };
 ghost use Rattle.reading.specs.Inputs.{Sound, Begun};
 
-use design::Design;
-use design::legal::design_verdict;
+use design::{Design, LegalDesign};
 use encoding::Frame;
 use encoding::numbers::{from_complement, number_in};
 use frames::{Decoded, decode, first_verdict, frame_design};
 use lines::{Slot, entry_over, entry_width, head_of, line_count, slot_of};
 use refusal::Cause;
-use tables::tables_short;
+use tables::short_tables;
 
 // Document 01's reading state. With no line taken the design is not read.
 #[derive(Clone, Copy)]
@@ -58,10 +57,10 @@ fn is_possible(state: Reading) -> bool
     if state.taken == 0 {
         return true;
     }
-    if design_verdict(state.design).is_err() {
-        return false;
+    match state.design.checked() {
+        Ok(legal) => state.taken as u64 <= line_count(legal),
+        Err(_) => false,
     }
-    state.taken as u64 <= line_count(state.design)
 }
 
 // inner: whether a frame, of a line or of a record, is not the one due, which begins as `head` does and has `width` bytes more and a sum
@@ -117,7 +116,7 @@ fn first_line(
 {
     first_verdict(&frame)?;
     let design = frame_design(&frame);
-    if tables_short(design, initial, offsets) {
+    if short_tables(LegalDesign { design }, initial, offsets) {
         return Err(Cause::TablesShort);
     }
     Ok(Reading { design, taken: 1 })
@@ -137,19 +136,21 @@ fn later_line(
     ensures initial_after { initial.new ≡ (after_frame (session state initial.old offsets.old) (take frame.count frame.bytes)).initial }
     ensures offsets_after { offsets.new ≡ (after_frame (session state initial.old offsets.old) (take frame.count frame.bytes)).offsets }
 {
-    let d = state.design;
-    if line_count(d) <= state.taken as u64 {
+    let legal = LegalDesign {
+        design: state.design,
+    };
+    if line_count(legal) <= state.taken as u64 {
         return Err(Cause::Frame);
     }
-    let slot = slot_of(d, state.taken);
-    let head = head_of(d, slot);
+    let slot = slot_of(legal, state.taken);
+    let head = head_of(legal, slot);
     let width = entry_width(slot);
     if head_fails(head, width, frame) {
         return Err(Cause::Frame);
     }
-    let number = number_in(&frame.bytes, head.count, width);
-    let over = entry_over(d, slot, number);
-    let short = tables_short(d, initial.len(), offsets.len());
+    let number = number_in(&frame.bytes[head.count..head.count + width]);
+    let over = entry_over(legal, slot, number);
+    let short = short_tables(legal, initial.len(), offsets.len());
     if over {
         return Err(Cause::InitialRange);
     }
@@ -168,7 +169,13 @@ impl Reading {
     pub fn is_finished(self) -> bool
         ensures { result ≡ finished self }
     {
-        self.taken != 0 && is_possible(self) && self.taken as u64 == line_count(self.design)
+        if self.taken == 0 {
+            return false;
+        }
+        match self.design.checked() {
+            Ok(legal) => self.taken as u64 == line_count(legal),
+            Err(_) => false,
+        }
     }
 
     // inner: whether the reading is not inside a set: no line is taken, or all of a set's are.

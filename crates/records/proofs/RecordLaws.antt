@@ -1,4 +1,5 @@
 -- Which tests of a record refuse it, and what it decodes to then and otherwise.
+use Rattle.std.specs.Prelude.{Ok, Err, ok_or}
 use mathlib.Core.Path.{◌≡◌, refl, sym, ap, ◌∙◌}
 use mathlib.Core.Bool.{Bool, true, false, or-true}
 use mathlib.Core.List.{List, [], ◌∷◌}
@@ -6,17 +7,19 @@ use Prim.Native.Nat.{ℕ, ◌+◌, ◌-◌, ◌*◌, ◌/◌, ◌%◌, ◌≤◌
 use native.Mathlib.Omega.{arith}
 use lib.ListN.{length, take, drop, get_or, length-drop}
 use lib.Seq.{take_all}
-use borrow.Author.Tests.{eq-eqb, ne_eqb, not-false}
-use Rattle.general.proofs.Tests.{neither}
+use borrow.Author.Tests.{eq-eqb, ne_eqb}
 use Rattle.refusal.specs.declared.Cause.{Cause}
+use Rattle.refusal.specs.Checks.{◌↝◌, verdict, answer}
+use Rattle.refusal.proofs.Checks.{none-fails}
+use Rattle.refusal.proofs.Answers.{answer-given}
 use Rattle.frames.specs.declared.Decoded.{Decoded}
 use Rattle.frames.specs.Hex.{all_digits, bytes_of}
-use Rattle.frames.specs.Line.{text_fails, capacity, padded, decoded_if}
+use Rattle.frames.specs.Line.{text_fails, capacity, padded, kept, decoded_digits}
 use Rattle.frames.specs.Inputs.{EvenDigits}
 use Rattle.frames.proofs.HexLaws.{bytes-length}
-use Rattle.frames.proofs.DecodedLaws.{kept, if-refused, if-accepted, other-character}
+use Rattle.frames.proofs.DecodedLaws.{other-character, read-answer}
 use Rattle.encoding.proofs.HexBack.{Bytes, bytes_small}
-use Rattle.records.specs.Record.{digits_in, other_bytes, longest_record, size_fails, record_fails, decoded_record}
+use Rattle.records.specs.Record.{digits_in, other_bytes, longest_record, size_fails, record_fails, record_check, decoded_record}
 
 -- The first byte of digits is below 256, if they are digits;
 first_small : (bytes : List ℕ) → Bytes bytes → get_or bytes 0 0 < 256
@@ -34,10 +37,10 @@ pub lent-digits : (text : List ℕ) → take (length text - 1) (drop 1 text) ≡
 lent-digits text = take_all (length text - 1) (drop 1 text) (omega (arith, length-drop 1 text))
 
 module _ (text : List ℕ) where
-  -- A record that fails decodes to nothing, for whichever reason.
-  refused : record_fails text ≡ true → decoded_if true Cause.Record [] ≡ decoded_record text
-  unfolding decoded_record
-  refused e = if-refused (record_fails text) Cause.Record (digits_in text) e
+  -- A record that fails is refused, for whichever reason.
+  refused : record_fails text ≡ true → Err Cause.Record ≡ decoded_record text
+  unfolding decoded_record record_check
+  refused e = rw e
 
   size-fails : size_fails (digits_in text) ≡ true → record_fails text ≡ true
   unfolding record_fails
@@ -48,7 +51,7 @@ module _ (text : List ℕ) where
   text-fails e = rw (e, or-true)
 
   -- It lacks its colon,
-  pub colon-refused : (get_or text 0 0 ≡ 58 → ⊥) → decoded_if true Cause.Record [] ≡ decoded_record text
+  pub colon-refused : (get_or text 0 0 ≡ 58 → ⊥) → Err Cause.Record ≡ decoded_record text
   unfolding record_fails
   colon-refused other = refused (rw (ne_eqb _ _ other))
 
@@ -59,7 +62,7 @@ module _ (text : List ℕ) where
   other-size other = rw (ne_eqb _ _ other)
 
   -- since its digits are not even in number,
-  pub odd_refused : length text % 2 ≡ 0 → decoded_if true Cause.Record [] ≡ decoded_record text
+  pub odd_refused : length text % 2 ≡ 0 → Err Cause.Record ≡ decoded_record text
   odd_refused even = refused (size-fails (other-size (λ size. omega (arith, length-drop 1 text))))
 
   -- or more than the largest length byte says,
@@ -72,7 +75,7 @@ module _ (text : List ℕ) where
           size-fails (other-size (λ size. omega (arith, length-drop 1 text, small)))
       go false e = text-fails (other-character _ e)
 
-  pub long-refused : longest_record < length text → decoded_if true Cause.Record [] ≡ decoded_record text
+  pub long-refused : longest_record < length text → Err Cause.Record ≡ decoded_record text
   long-refused long = refused (long-fails long)
 
   -- What is left of a record that has its colon and an even number of digits, not too many
@@ -85,58 +88,44 @@ module _ (text : List ℕ) where
         let digits = digits_in text in
         omega (arith, bytes-length (length digits / 2) digits (omega (arith, length-drop 1 text)), length-drop 1 text)
 
-    -- What is read from its digits
-    module _ (held : Decoded) (held-is : held ≡ decoded_if (text_fails (digits_in text)) Cause.Record (digits_in text)) where
-      -- Of digits that do not fail, as many bytes as an array holds, and the first is the length byte.
-      kept-all : text_fails (digits_in text) ≡ false → held ≡ kept (digits_in text)
-      kept-all e = held-is ∙ if-accepted _ Cause.Record (digits_in text) e
+    -- Digits that are refused fail;
+    pub digits-refused : {cause : Cause} → ok_or (decoded_digits (digits_in text)) Cause.Record ≡ Err cause → Err cause ≡ decoded_record text
+    digits-refused {cause} e = go (text_fails (digits_in text)) refl
+      where
+        told : Err cause ≡ answer (verdict (text_fails (digits_in text) ↝ Cause.Record ∷ [])) (kept (digits_in text))
+        told = sym e ∙ read-answer (digits_in text) Cause.Record
 
-      same_size : text_fails (digits_in text) ≡ false → held.count ≡ length (bytes_of (digits_in text))
-      same_size e = ap (λ (h : Decoded). h.count) (kept-all e)
+        go : (fails : Bool) → text_fails (digits_in text) ≡ fails → Err cause ≡ decoded_record text
+        go true f = rw f at told ∙ refused (text-fails f)
+        go false f = let z : ◌≡◌ {A = ℕ} 0 1 = let other = rw f at told in cc in absurd (omega arith)
 
-      same_first : text_fails (digits_in text) ≡ false → get_or held.bytes 0 0 ≡ get_or (bytes_of (digits_in text)) 0 0
-      same_first e = ap (λ (h : Decoded). get_or h.bytes 0 0) (kept-all e) ∙ first-kept (bytes_of (digits_in text))
+    -- of others as many bytes are there as an array holds, and the first is the length byte.
+    module _ {held : Decoded} (given : ok_or (decoded_digits (digits_in text)) Cause.Record ≡ Ok held) where
+      sound-digits : (text_fails (digits_in text) ≡ false) × (kept (digits_in text) ≡ held)
+      sound-digits =
+          let g = answer-given (verdict (text_fails (digits_in text) ↝ Cause.Record ∷ [])) (kept (digits_in text))
+          (sym (read-answer (digits_in text) Cause.Record) ∙ given) in
+          ((none-fails (text_fails (digits_in text) ↝ Cause.Record ∷ []) g.0).0, g.1)
+
+      same_size : held.count ≡ length (bytes_of (digits_in text))
+      same_size = ap (λ (h : Decoded). h.count) (sym sound-digits.1)
+
+      same_first : get_or held.bytes 0 0 ≡ get_or (bytes_of (digits_in text)) 0 0
+      same_first = ap (λ (h : Decoded). get_or h.bytes 0 0) (sym sound-digits.1) ∙ first-kept (bytes_of (digits_in text))
 
       -- Either their number is not the one that the length byte says,
-      pub count-refused : (held.count ≡ get_or held.bytes 0 0 + other_bytes → ⊥)
-          → decoded_if true Cause.Record [] ≡ decoded_record text
-      count-refused other = go (text_fails (digits_in text)) refl
-        where
-          go : (fails : Bool) → text_fails (digits_in text) ≡ fails → decoded_if true Cause.Record [] ≡ decoded_record text
-          go true e = refused (text-fails e)
-          go false e =
-              refused (size-fails (other-size (λ size. other (omega (arith, count-is, same_size e, same_first e)))))
+      pub count-refused : (held.count ≡ get_or held.bytes 0 0 + other_bytes → ⊥) → Err Cause.Record ≡ decoded_record text
+      count-refused other =
+          refused (size-fails (other-size (λ size. other (omega (arith, count-is, same_size, same_first)))))
 
-      -- or it is, and the record is sound. (Of digits that fail nothing is read, and 0 is not 5.)
-      none_read : text_fails (digits_in text) ≡ true → (held.count ≡ 0) × (get_or held.bytes 0 0 ≡ 0)
-      unfolding decoded_if padded
-      none_read e =
-          let nothing : held ≡ decoded_if true Cause.Record [] = held-is ∙ sym (if-refused _ Cause.Record (digits_in text) e) in
-          (ap (λ (h : Decoded). h.count) nothing, ap (λ (h : Decoded). get_or h.bytes 0 0) nothing)
-
-      -- In either case the first byte is small.
-      pub first_fits : get_or held.bytes 0 0 < 256
-      unfolding text_fails
-      first_fits = go (text_fails (digits_in text)) refl
-        where
-          go : (fails : Bool) → text_fails (digits_in text) ≡ fails → get_or held.bytes 0 0 < 256
-          go true e = omega (arith, (none_read e).1)
-          go false e =
-              let digits = not-false (all_digits (digits_in text)) (neither _ _ e).0 in
-              omega (arith, same_first e, first_small (bytes_of (digits_in text)) (bytes_small (digits_in text) digits))
-
-      passes : get_or text 0 0 ≡ 58 → held.count ≡ get_or held.bytes 0 0 + other_bytes → text_fails (digits_in text) ≡ false
-          → record_fails text ≡ false
+      -- or it is, and the record is sound.
+      passes : get_or text 0 0 ≡ 58 → held.count ≡ get_or held.bytes 0 0 + other_bytes → record_fails text ≡ false
       unfolding record_fails size_fails
-      passes colon count e =
+      passes colon count =
           let size : length (digits_in text) ≡ 2 * (get_or (bytes_of (digits_in text)) 0 0 + other_bytes) =
-          omega (arith, count-is, same_size e, same_first e) in
-          rw (eq-eqb _ _ colon, eq-eqb _ _ size, e)
+          omega (arith, count-is, same_size, same_first) in
+          rw (eq-eqb _ _ colon, eq-eqb _ _ size, sound-digits.0)
 
-      pub sound : get_or text 0 0 ≡ 58 → held.count ≡ get_or held.bytes 0 0 + other_bytes → held ≡ decoded_record text
-      unfolding decoded_record
-      sound colon count = go (text_fails (digits_in text)) refl
-        where
-          go : (fails : Bool) → text_fails (digits_in text) ≡ fails → held ≡ decoded_record text
-          go true e = absurd (omega (arith, (none_read e).0, (none_read e).1))
-          go false e = held-is ∙ rw (e, passes colon count e)
+      pub sound : get_or text 0 0 ≡ 58 → held.count ≡ get_or held.bytes 0 0 + other_bytes → Ok held ≡ decoded_record text
+      unfolding decoded_record record_check
+      sound colon count = rw (passes colon count, sound-digits.1)

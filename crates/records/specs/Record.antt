@@ -1,10 +1,10 @@
 -- Document 02, A2, refusal 21: "a record lacks its colon, has wrong digits or sum, or does not have the length its own length byte says".
-use Rattle.std.specs.Prelude.{Bool, not, ◌||◌, List, ℕ, ◌+◌, ◌*◌, eqb, length, drop, get_or}
+use Rattle.std.specs.Prelude.{Bool, not, ◌||◌, List, [], ◌∷◌, ℕ, ◌+◌, ◌*◌, eqb, length, drop, get_or, Result}
 use Rattle.refusal.specs.declared.Cause.{Cause}
-use Rattle.refusal.specs.Checks.{Check, ◌↝◌}
+use Rattle.refusal.specs.Checks.{Check, ◌↝◌, verdict, answer}
 use Rattle.frames.specs.declared.Decoded.{Decoded}
 use Rattle.frames.specs.Hex.{bytes_of}
-use Rattle.frames.specs.Line.{text_fails, decoded_if}
+use Rattle.frames.specs.Line.{text_fails, kept}
 
 -- What stands behind the colon
 abbrev pub digits_in : List ℕ → List ℕ
@@ -33,6 +33,6 @@ record_fails text = not (eqb (get_or text 0 0) 58) || size_fails (digits_in text
 unfoldable pub record_check : List ℕ → Check
 record_check text = record_fails text ↝ Cause.Record
 
--- What the call `decode_record` answers: the bytes of a sound record, as many as an array holds, and nothing of any other
-unfoldable pub decoded_record : List ℕ → Decoded
-decoded_record text = decoded_if (record_fails text) Cause.Record (digits_in text)
+-- What the call `decode_record` answers: the bytes of a sound record, as many as an array holds
+unfoldable pub decoded_record : List ℕ → Result Decoded Cause
+decoded_record text = answer (verdict (record_check text ∷ [])) (kept (digits_in text))

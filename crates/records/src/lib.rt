@@ -13,7 +13,7 @@ ghost use Rattle.records.specs.Inputs.{CountInput, RecordInput};
 use design::Design;
 use design::measure::offset_total;
 use encoding::Frame;
-use frames::{Decoded, decode_digits, unsound};
+use frames::{Decoded, decode_digits};
 use general::pow2;
 use refusal::Cause;
 
@@ -27,7 +27,7 @@ pub const MOST_BYTES: usize = 65536;
 pub const HEAD_BYTES: usize = 4;
 
 // How many entries a set has, and how many of them are initial entries.
-#[derive(Clone, Copy)]
+#[derive(Clone, Copy, Debug, PartialEq, Eq)]
 pub struct Extent {
     pub initials: usize,
     pub entries: usize,
@@ -58,11 +58,7 @@ pub fn bytes_before(total: usize, n: usize) -> usize
     requires { CountInput total n }
     ensures { result ≡ bytes_before total n }
 {
-    let start = DATA_BYTES * n;
-    if start < total {
-        return start;
-    }
-    total
+    total.min(DATA_BYTES * n)
 }
 
 // inner: what record n begins with: length, where a frame has its kind, address and type. The one record that holds no bytes is the end
@@ -87,19 +83,15 @@ const OTHER_BYTES: usize = HEAD_BYTES + 1;
 pub const LONGEST_RECORD: usize = 1 + 2 * (255 + OTHER_BYTES);
 
 // inner: the bytes of a record, or the refusal 21.
-pub fn decode_record(text: &[u8]) -> Decoded
+pub fn decode_record(text: &[u8]) -> Result<Decoded, Cause>
     ensures { result ≡ decoded_record text.now }
 {
-    if text.len() % 2 == 0 || LONGEST_RECORD < text.len() {
-        return unsound(Cause::Record);
+    if text.len() % 2 == 0 || LONGEST_RECORD < text.len() || text[0] != b':' {
+        return Err(Cause::Record);
     }
-    if text[0] != b':' {
-        return unsound(Cause::Record);
+    let decoded = decode_digits(&text[1..]).ok_or(Cause::Record)?;
+    if decoded.count != decoded.bytes[0] as usize + OTHER_BYTES {
+        return Err(Cause::Record);
     }
-    let decoded = decode_digits(&text[1..], Cause::Record);
-    let bytes = decoded.bytes;
-    if decoded.count != bytes[0] as usize + OTHER_BYTES {
-        return unsound(Cause::Record);
-    }
-    decoded
+    Ok(decoded)
 }

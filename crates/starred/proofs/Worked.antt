@@ -1,8 +1,7 @@
 -- Worked examples beside the starred list, of the definitions that the calls promise to equal. The numbers, lines and texts are document
 -- 01's or document 02's, or were worked out from them apart from the definitions. The wrong definitions that docs/PROMISES.md lists fail
 -- here, even where their code is wrong alike.
-use Rattle.counting.specs.declared.Counts.{Counts}
-use Rattle.std.specs.Prelude.{Ok, Err, Result, Some, None}
+use Rattle.std.specs.Prelude.{Result, Ok, Err, Some, None}
 use mathlib.Core.Path.{◌≡◌, refl}
 use mathlib.Core.Bool.{true, false}
 use mathlib.Core.List.{List, [], ◌∷◌, map}
@@ -27,11 +26,10 @@ use Rattle.sizing.specs.Size.{size_answer}
 use Rattle.entries.specs.Entries.{odd_number, offset_at}
 use Rattle.entries.specs.Signs.{sign_of, magnitude_at}
 use Rattle.filling.specs.Fill.{initial_entries, offset_entries}
-use Rattle.evaluating.specs.declared.Batched.{Batched}
-use Rattle.evaluating.specs.Batch.{batch_answer}
-use Rattle.checking.specs.declared.Checked.{Checked}
-use Rattle.checking.specs.Check.{check_answer}
+use Rattle.evaluating.specs.Batch.{refused_at, batch_answer}
+use Rattle.checking.specs.Check.{Finding, check_answer}
 use Rattle.counting.specs.declared.Class.{Class}
+use Rattle.counting.specs.declared.Counts.{Counts}
 use Rattle.counting.specs.Count.{class_of, count_answer}
 use Rattle.frames.specs.Hex as Hex
 use Rattle.frames.specs.Line as Line
@@ -133,7 +131,7 @@ abbrev Line-of-G : ℕ → String → Type 0
 Line-of-G n line = line_at G (initial_entries G) (offset_entries G) n ≡ ascii line
 
 -- The check of G's set with initial entry 0 changed
-abbrev check-with : ℕ → Checked
+abbrev check-with : ℕ → Result Finding Cause
 check-with entry = check_answer G (set (initial_entries G) 0 entry) (offset_entries G)
 
 -- Its five counts
@@ -229,7 +227,7 @@ pub record Worked : Type 0 where
   -- ".. and the check's verdict on them is the same": the set as it was filled before, with 13 and -14 there
   pub still-faithful : check_answer long-segments (initial_entries long-segments)
       (set (set (offset_entries long-segments) 1 (pos 13)) 30 (negsuc 13))
-      ≡ Checked.Faithful
+      ≡ Ok None
   -- A design that it admits: kind 0, w 7, q 6, g 4, alpha 3, (3,1), (3,3)
   pub now-admitted : Reports "0100070604030203010303DF" "BUDGET 2091668 LIMIT 2097152 BITS 592 ADMITTED\n"
   -- 2 before 3: w 5 with q 5
@@ -293,13 +291,13 @@ pub record Worked : Type 0 where
   -- 18 before 14: an initial entry of 2^24 for a line buffer of length 0
   pub width-before-room : write_answer G (2 ^ 24 ∷ initial_entries G) (offset_entries G) 1 0 ≡ Err Cause.EntryWidth
   -- 14 before 12, and its place is 0: two words, the second too great, for an output of length 1
-  pub room-before-words : batch_answer G (initial_entries G) (offset_entries G) (0 ∷ 256 ∷ []) 1 ≡ Batched.Refused Cause.OutputShort 0
+  pub room-before-words : batch_answer G (initial_entries G) (offset_entries G) (0 ∷ 256 ∷ []) 1 ≡ refused_at 0 Cause.OutputShort
   -- the same with room for both: 12, at place 1
-  pub second_word : batch_answer G (initial_entries G) (offset_entries G) (0 ∷ 256 ∷ []) 2 ≡ Batched.Refused Cause.WordRange 1
+  pub second_word : batch_answer G (initial_entries G) (offset_entries G) (0 ∷ 256 ∷ []) 2 ≡ refused_at 1 Cause.WordRange
   -- "initial 0 changed to 4046: faithful": at x 0 Y is 4096, the word 256
-  pub just-faithful : check-with 4046 ≡ Checked.Faithful
+  pub just-faithful : check-with 4046 ≡ Ok None
   -- "to 4045: word 0 is named": Y is 4095, the word 255, exactly one unit from 256
-  pub one-unit-off : check-with 4045 ≡ Checked.Unfaithful 0
+  pub one-unit-off : check-with 4045 ≡ Ok (Some 0)
   -- Document 02, A1. The five counts of G's set as it is filled, and with initial entry 0 changed to 4045: word 0 is too low then.
   pub counts : counts_with 4050 ≡ five 0 239 17 0 0
   pub one-too-low : counts_with 4045 ≡ five 0 238 17 1 0

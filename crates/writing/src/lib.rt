@@ -4,17 +4,16 @@
 ghost use Rattle.std.specs.Prelude.{◌≡◌, length};
 ghost use Rattle.refusal.specs.Checks.{verdict, answer};
 ghost use Rattle.refusal.specs.Told.{told_by};
-ghost use Rattle.design.specs.Legal.{Legal};
 ghost use Rattle.lines.specs.Lines.{entry_number};
 ghost use Rattle.lines.specs.Inputs.{SlotIn};
 ghost use Rattle.writing.specs.Write.{entry_checks, asked_checks, write_answer, buffer_after, write_told};
 
-use design::Design;
+use design::{Design, LegalDesign};
 use encoding::numbers::{complement, fits, fits_signed};
 use encoding::put_line;
 use lines::{Slot, entry_width, head_of, initial_over, line_count, slot_of};
 use refusal::Cause;
-use tables::set_verdict;
+use tables::checked_set;
 
 // 18, then 23, by whether an entry fits its 3 bytes and whether it is an initial entry at the limit on sums or beyond it.
 #[tactic(auto, unfolding(crate::specs::Write::entry_checks))]
@@ -31,15 +30,20 @@ fn entry_verdict(fits: bool, over: bool) -> Result<(), Cause>
 }
 
 // The entry of a line as it is written, or what it is refused for. The limit on sums is for initial entries alone.
-fn asked_number(d: Design, slot: Slot, initial: &[u32], offsets: &[i32]) -> Result<u32, Cause>
-    requires legal { Legal d }
-    requires slot_in { SlotIn slot (length initial.now) (length offsets.now) }
-    ensures { result ≡ answer (verdict (asked_checks d slot initial.now offsets.now)) (entry_number slot initial.now offsets.now) }
+fn asked_number(
+    legal: LegalDesign,
+    slot: Slot,
+    initial: &[u32],
+    offsets: &[i32],
+) -> Result<u32, Cause>
+    requires { SlotIn slot (length initial.now) (length offsets.now) }
+    ensures { result ≡ answer (verdict (asked_checks legal.design slot initial.now offsets.now))
+        (entry_number slot initial.now offsets.now) }
 {
     match slot {
         Slot::Initial(index) => {
             let entry = initial[index as usize];
-            entry_verdict(fits(entry), initial_over(d, entry))?;
+            entry_verdict(fits(entry), initial_over(legal, entry))?;
             Ok(entry)
         }
         Slot::Offset { place, .. } => {
@@ -64,13 +68,13 @@ pub fn write_line(
     ensures told { told_by result ≡ write_told d initial.now offsets.now number (length line.old) }
     ensures line_buffer { line.new ≡ buffer_after d initial.now offsets.now number line.old }
 {
-    set_verdict(d, initial.len(), offsets.len())?;
-    if line_count(d) <= number as u64 {
+    let legal = checked_set(d, initial.len(), offsets.len())?;
+    if line_count(legal) <= number as u64 {
         return Err(Cause::LineNumber);
     }
-    let slot = slot_of(d, number);
-    let entry = asked_number(d, slot, initial, offsets)?;
-    let head = head_of(d, slot);
+    let slot = slot_of(legal, number);
+    let entry = asked_number(legal, slot, initial, offsets)?;
+    let head = head_of(legal, slot);
     let width = entry_width(slot);
     let digits = 2 * (head.count + width + 1);
     if line.len() < digits {

@@ -9,10 +9,10 @@ pub loop-i-init : goal.loop-i-init
 unfolding design_bytes
 loop-i-init c =
     let head = c.design_head-frame.ensures in
-    record { legal = c.requires; within = omega arith; counted = head.count_value; so_far = rw head.result_value }
+    record { legal = c.args.legal.legal; within = omega arith; counted = head.count_value; so_far = rw head.result_value }
 
-pub pair_at-pair-requires : goal.pair_at-pair-requires
-pair_at-pair-requires c = (omega arith, (limits _ c.loop-i.invariant.legal).m-high)
+pub pair-pair-requires : goal.pair-pair-requires
+pair-pair-requires c = omega arith
 
 pub with-requires : goal.with-requires
 with-requires c =
@@ -26,7 +26,7 @@ with-frame-requires c =
 
 pub loop-i-preserved : goal.loop-i-preserved
 loop-i-preserved c =
-    paired-more c.loop-i.invariant _ _ _ c.pair_at-pair.ensures (omega arith)
+    paired-more c.loop-i.invariant _ _ _ c.pair-pair.ensures (omega arith)
     (c.with.ensures.result_value, c.with.ensures.count_value)
     (c.with-frame.ensures.result_value, c.with-frame.ensures.count_value)
 

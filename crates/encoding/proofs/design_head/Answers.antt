@@ -6,8 +6,8 @@ use Rattle.encoding.proofs.design_head.Goals as goal
 
 pub returns : goal.returns
 returns c =
-    let d = c.args.d in
-    let l = limits d c.requires in
+    let d = c.args.legal.design in
+    let l = limits d c.args.legal.legal in
     let widths = l.widths in
     let has-kind = has-byte c.of_kind.result c.with.result d.kind (omega (arith, widths))
     (c.of_kind.ensures.result_value, c.of_kind.ensures.count_value)

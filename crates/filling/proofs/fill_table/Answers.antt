@@ -47,19 +47,23 @@ loop-segment-init c = segments-start _ _ _
 
 pub overflow_mul-at : goal.overflow_mul-at
 overflow_mul-at c =
-    omega (arith, inside _ _ c.pair-pair.ensures c.pow2-segment-end.ensures c.loop-segment-test.true c.pow2-size.ensures, c.requires.long, c.well_formed)
+    let fits = inside _ _ c.pair-pair.ensures c.pow2-segment-end.ensures c.loop-segment-test.true c.pow2-size.ensures in
+    omega (arith, fits, c.requires.long, c.well_formed)
 
 pub overflow_add-at : goal.overflow_add-at
 overflow_add-at c =
-    omega (arith, inside _ _ c.pair-pair.ensures c.pow2-segment-end.ensures c.loop-segment-test.true c.pow2-size.ensures, c.requires.long, c.well_formed)
+    let fits = inside _ _ c.pair-pair.ensures c.pow2-segment-end.ensures c.loop-segment-test.true c.pow2-size.ensures in
+    omega (arith, fits, c.requires.long, c.well_formed)
 
 pub offset_bounds-table-at : goal.offset_bounds-table-at
 offset_bounds-table-at c =
-    omega (arith, inside _ _ c.pair-pair.ensures c.pow2-segment-end.ensures c.loop-segment-test.true c.pow2-size.ensures, c.requires.long, c.well_formed)
+    let fits = inside _ _ c.pair-pair.ensures c.pow2-segment-end.ensures c.loop-segment-test.true c.pow2-size.ensures in
+    omega (arith, fits, c.requires.long, c.well_formed)
 
 pub slice_bounds-fill_segment-end : goal.slice_bounds-fill_segment-end
 slice_bounds-fill_segment-end c =
-    omega (arith, inside _ _ c.pair-pair.ensures c.pow2-segment-end.ensures c.loop-segment-test.true c.pow2-size.ensures, c.requires.long)
+    let fits = inside _ _ c.pair-pair.ensures c.pow2-segment-end.ensures c.loop-segment-test.true c.pow2-size.ensures in
+    omega (arith, fits, c.requires.long)
 
 -- its slopes are the design's
 slopes-is : (c : After-slope_sum-slopes) → let a = c.args in

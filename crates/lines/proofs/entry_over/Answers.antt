@@ -23,4 +23,4 @@ returns-then-matches c =
 pub returns-else-matches : goal.returns-else-matches
 unfolding entry_over
 returns-else-matches c =
-    elim c.match-matches.branch [ in-Initial w ↦ absurd (true≢false (sym w.matches-is ∙ c.if-matches.false)) | in_default w ↦ w.matches-is ∙ other c.args.d c.args.number c.args.slot w.in_default.not-Initial ]
+    elim c.match-matches.branch [ in-Initial w ↦ absurd (true≢false (sym w.matches-is ∙ c.if-matches.false)) | in_default w ↦ w.matches-is ∙ other c.args.legal.design c.args.number c.args.slot w.in_default.not-Initial ]

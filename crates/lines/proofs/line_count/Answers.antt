@@ -9,12 +9,12 @@ use Rattle.lines.proofs.line_count.Goals as goal
 use Rattle.lines.proofs.line_count.Goals.{After-offset_total}
 
 pub pow2-requires : goal.pow2-requires
-pow2-requires c = omega (arith, (limits _ c.requires).alpha-high)
+pow2-requires c = omega (arith, (limits _ c.args.legal.legal).alpha-high)
 
 -- the entries are few
 few : (c : After-offset_total) → c.pow2.result + c.offset_total.result + 2 ≤ most_lines
 unfolding line_count initial_count
-few c = omega (arith, lines-small _ c.requires, c.pow2.ensures, c.offset_total.ensures)
+few c = omega (arith, lines-small _ c.args.legal.legal, c.pow2.ensures, c.offset_total.ensures)
 
 pub overflow_add-result : goal.overflow_add-result
 overflow_add-result c = omega (arith, few c)

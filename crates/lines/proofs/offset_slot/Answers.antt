@@ -13,4 +13,4 @@ pub loop-table-preserved : goal.loop-table-preserved
 loop-table-preserved c = search-step _ c.loop-table.invariant c.offset_count-count.ensures c.if-index-count.false
 
 pub unreachable-requires : goal.unreachable-requires
-unreachable-requires c = search-within _ c.loop-table.invariant c.requires.within c.loop-table-test.false
+unreachable-requires c = search-within _ c.loop-table.invariant c.requires c.loop-table-test.false

@@ -3,4 +3,4 @@ use Rattle.lines.proofs.TableLaws.{Search}
 use Rattle.lines.proofs.offset_slot.Given as goal
 
 abbrev pub invariant-loop-table : goal.invariant-loop-table
-invariant-loop-table l = Search l.d l.place l.table l.index
+invariant-loop-table l = Search l.legal.design l.place l.table l.index

@@ -14,25 +14,25 @@ pub returns-then-n-eq0 : goal.returns-then-n-eq0
 returns-then-n-eq0 c = rw (c.if-n-eq0.true, slot-first _)
 
 pub overflow_cast-line : goal.overflow_cast-line
-overflow_cast-line c = omega (arith, c.requires.within, lines-small _ c.requires.legal)
+overflow_cast-line c = omega (arith, c.requires, lines-small _ c.args.legal.legal)
 
 pub pow2-entries-requires : goal.pow2-entries-requires
-pow2-entries-requires c = omega (arith, (limits _ c.requires.legal).alpha-high)
+pow2-entries-requires c = omega (arith, (limits _ c.args.legal.legal).alpha-high)
 
 -- the call counts the initial entries
-entries-are : (c : After-pow2-entries) → c.pow2-entries.result ≡ initial_count c.args.d
+entries-are : (c : After-pow2-entries) → c.pow2-entries.result ≡ initial_count c.args.legal.design
 unfolding initial_count
 entries-are c = c.pow2-entries.ensures
 
 pub overflow_cast-entries : goal.overflow_cast-entries
-overflow_cast-entries c = omega (arith, entries-are c, initial-count-small _ (limits _ c.requires.legal))
+overflow_cast-entries c = omega (arith, entries-are c, initial-count-small _ (limits _ c.args.legal.legal))
 
 pub returns-then-line-entries : goal.returns-then-line-entries
 returns-then-line-entries c = sym (slot-initial _ _ _ (omega arith) (omega (arith, entries-are c.before)))
 
 pub overflow_add-entries : goal.overflow_add-entries
 overflow_add-entries c =
-    let l = limits _ c.requires.legal in
+    let l = limits _ c.args.legal.legal in
     omega (arith, entries-are c.before.before, initial-count-small _ l, c.offset_total.ensures, offset-total-small _ l)
 
 pub returns-then-line-entries-2 : goal.returns-then-line-entries-2
@@ -43,4 +43,4 @@ returns-then-line-entries-2 c =
 pub returns : goal.returns
 unfolding line_count
 returns c =
-    sym (slot-last _ _ (omega (arith, entries-are c.before.before.before, c.offset_total.ensures, c.requires.within)))
+    sym (slot-last _ _ (omega (arith, entries-are c.before.before.before, c.offset_total.ensures, c.requires)))

@@ -27,16 +27,16 @@ any-below (suc n) test xs h =
     rw add-one at (list_any_more test xs n 0 (omega arith)) ∙ ap (λ (b : Bool). b || test (get_or xs n 0)) (any-below n test xs (omega arith))
 
 pub pow2-requires : goal.pow2-requires
-pow2-requires c = omega (arith, (limits _ c.requires.0).alpha-high)
+pow2-requires c = omega (arith, (limits _ c.args.legal.legal).alpha-high)
 
 pub slice_bounds-iter-end : goal.slice_bounds-iter-end
 unfolding initial_count
-slice_bounds-iter-end c = sym (length-take-le _ _ (rw c.pow2.ensures c.requires.1))
+slice_bounds-iter-end c = sym (length-take-le _ _ (rw c.pow2.ensures c.requires))
 
 pub returns : goal.returns
 unfolding some_over initial_count
 returns c =
     let entries = take c.pow2.result c.args.initial.now in
-    let some : c.any.result ≡ list_any (initial_over c.args.d) entries =
-    any_from_yields_List (initial_over c.args.d) _ _ _ c.any.ensures.ran (YieldsList-from_slice entries cc) (λ x b q k. search (rules, tests)) in
-    some ∙ rw c.pow2.ensures (any-below _ (initial_over c.args.d) c.args.initial.now c.requires.1)
+    let some : c.any.result ≡ list_any (initial_over c.args.legal.design) entries =
+    any_from_yields_List (initial_over c.args.legal.design) _ _ _ c.any.ensures.ran (YieldsList-from_slice entries cc) (λ x b q k. search (rules, tests)) in
+    some ∙ rw c.pow2.ensures (any-below _ (initial_over c.args.legal.design) c.args.initial.now c.requires)

@@ -14,14 +14,14 @@ returns-in_err-first_verdict c =
     (first-refused _ _ (search rules) c.requires.sound _ c.requires.taken_value _ _ _
     (sym c.first_verdict.ensures ∙ c.in_err-first_verdict.was))
 
-pub tables_short-requires : goal.tables_short-requires
-tables_short-requires c =
-    rw c.frame_design-design.ensures (first_frame _ _ (sym c.first_verdict.ensures ∙ c.in_ok-first_verdict.was)).legal
+pub invariant_of-short_tables : goal.invariant_of-short_tables
+invariant_of-short_tables c =
+    rw c.frame_design-design.ensures (record { legal = (first_frame _ _ (sym c.first_verdict.ensures ∙ c.in_ok-first_verdict.was)).legal })
 
-pub returns-then-tables_short : goal.returns-then-tables_short
-returns-then-tables_short c =
+pub returns-then-short_tables : goal.returns-then-short_tables
+returns-then-short_tables c =
     first_short _ _ (search rules) c.requires.sound _ c.requires.taken_value _ _ (sym c.first_verdict.ensures ∙ c.in_ok-first_verdict.was)
-    (rw c.frame_design-design.ensures at (tested c.tables_short.ensures c.if-tables_short.true))
+    (rw c.frame_design-design.ensures at (tested c.short_tables.ensures c.if-short_tables.true))
 
 pub returns : goal.returns
 returns c =
@@ -29,4 +29,4 @@ returns c =
     rw design-is
     (first-accepted _ _ (search rules) c.requires.sound _ c.requires.taken_value _ _
     (sym c.first_verdict.ensures ∙ c.in_ok-first_verdict.was)
-    (rw design-is at (tested c.tables_short.ensures c.if-tables_short.false)))
+    (rw design-is at (tested c.short_tables.ensures c.if-short_tables.false)))

@@ -3,14 +3,10 @@ use native.Mathlib.Omega.{arith}
 use Rattle.records.specs.IntelHex.{data_count, record_count, bytes_before}
 use Rattle.records.proofs.bytes_before.Goals as goal
 
-pub overflow_mul-start : goal.overflow_mul-start
+pub overflow_mul-n : goal.overflow_mul-n
 unfolding record_count data_count
-overflow_mul-start c = omega arith
-
-pub returns-then-start-total : goal.returns-then-start-total
-unfolding bytes_before
-returns-then-start-total c = omega arith
+overflow_mul-n c = omega arith
 
 pub returns : goal.returns
 unfolding bytes_before
-returns c = omega arith
+returns c = omega (arith, c.min.ensures)

@@ -26,89 +26,79 @@ use Rattle.writing.proofs.WriteLaws.{refused-before, past-set, entry-refused, As
 use Rattle.writing.proofs.write_line.Goals as goal
 
 -- The set's verdict passed.
-set : {d : Design} {initial offsets : ℕ} {v : Verdict} → v ≡ verdict (set_checks d initial offsets) → v ≡ Ok tt → Usable d initial offsets
-set told was = usable _ _ _ (sym told ∙ was)
+set : {d : Design} {initial offsets : ℕ} → Ok tt ≡ verdict (set_checks d initial offsets) → Usable d initial offsets
+set passed = usable _ _ _ (sym passed)
 
-pub returns-in_err-set_verdict : goal.returns-in_err-set_verdict
-returns-in_err-set_verdict c =
+pub returns-in_err-legal : goal.returns-in_err-legal
+returns-in_err-legal c =
     let r = err_from_is_err_and c.from_residual.result c.from_residual.ensures.1 in
-    rw (r.1, r.2) (refuses _ _ _ _ _ (refused-before _ _ _ _ _ (sym c.set_verdict.ensures ∙ c.in_err-set_verdict.was)))
-
-pub line_count-requires : goal.line_count-requires
-line_count-requires c = (set c.set_verdict.ensures c.in_ok-set_verdict.was).legal
+    rw (r.1, r.2) (refuses _ _ _ _ _ (refused-before _ _ _ _ _ (sym c.in_err-legal.ensures.verdict)))
 
 pub returns-then-line_count-number : goal.returns-then-line_count-number
 returns-then-line_count-number c =
-    let u = set c.set_verdict.ensures c.in_ok-set_verdict.was in
-    refuses _ _ _ _ _ (past-set _ _ _ _ _ u (omega (arith, c.line_count.ensures, c.if-line_count-number.true)))
+    let u = set c.in_ok-legal.ensures.verdict in
+    refuses _ _ _ _ _ (past-set _ _ _ _ _ u (omega (arith, rw c.in_ok-legal.ensures.same at c.line_count.ensures, c.if-line_count-number.true)))
 
 pub slot_of-slot-requires : goal.slot_of-slot-requires
-slot_of-slot-requires c =
-    record {
-      legal = (set c.set_verdict.ensures c.in_ok-set_verdict.was).legal;
-      within = omega (arith, c.line_count.ensures, c.if-line_count-number.false);
-    }
+slot_of-slot-requires c = omega (arith, c.line_count.ensures, c.if-line_count-number.false)
 
 pub asked_number-requires : goal.asked_number-requires
 asked_number-requires c =
-    let u = set c.set_verdict.ensures c.in_ok-set_verdict.was in
-    let within : c.args.number < line_count c.args.d = omega (arith, c.line_count.ensures, c.if-line_count-number.false) in
-    record { legal = u.legal; slot_in = rw c.slot_of-slot.ensures (slot-in _ _ _ _ u within) }
+    let u = set c.in_ok-legal.ensures.verdict in
+    let within : c.args.number < line_count c.args.d = omega (arith, rw c.in_ok-legal.ensures.same at c.line_count.ensures, c.if-line_count-number.false) in
+    rw (rw c.in_ok-legal.ensures.same at c.slot_of-slot.ensures) (slot-in _ _ _ _ u within)
 
 pub returns-in_err-entry : goal.returns-in_err-entry
 returns-in_err-entry c =
     let r = err_from_is_err_and c.from_residual-in_err-entry.result c.from_residual-in_err-entry.ensures.1 in
-    let u = set c.set_verdict.ensures c.in_ok-set_verdict.was in
-    let within : c.args.number < line_count c.args.d = omega (arith, c.line_count.ensures, c.if-line_count-number.false) in
-    let wrong = answer-refused _ _ (sym c.asked_number.ensures ∙ c.in_err-entry.was) in
-    rw (r.1, r.2) (refuses _ _ _ _ _ (entry-refused _ _ _ _ _ u within (rw c.slot_of-slot.ensures at wrong)))
-
-pub head_of-head-requires : goal.head_of-head-requires
-head_of-head-requires c = (set c.set_verdict.ensures c.in_ok-set_verdict.was).legal
+    let u = set c.in_ok-legal.ensures.verdict in
+    let within : c.args.number < line_count c.args.d = omega (arith, rw c.in_ok-legal.ensures.same at c.line_count.ensures, c.if-line_count-number.false) in
+    let wrong = answer-refused _ _ (sym (rw c.in_ok-legal.ensures.same at c.asked_number.ensures) ∙ c.in_err-entry.was) in
+    rw (r.1, r.2) (refuses _ _ _ _ _ (entry-refused _ _ _ _ _ u within (rw (rw c.in_ok-legal.ensures.same at c.slot_of-slot.ensures) at wrong)))
 
 -- The line is known up to its entry.
-asked : {d : Design} {initial : List ℕ} {offsets : List ℤ} {n count : ℕ} {v : Verdict} {slot : Slot} {head : Frame} {width : ℕ}
-    → v ≡ verdict (set_checks d (length initial) (length offsets)) → v ≡ Ok tt → count ≡ line_count d → n < count → slot ≡ slot_of d n
-    → record { result_value : held head ≡ frame_head d slot; count_value : head.count ≡ length (frame_head d slot) }
+asked : {d l : Design} {initial : List ℕ} {offsets : List ℤ} {n count : ℕ} {slot : Slot} {head : Frame} {width : ℕ}
+    → record { verdict : Ok tt ≡ verdict (set_checks d (length initial) (length offsets)); same : l ≡ d } → count ≡ line_count l → n < count
+    → slot ≡ slot_of l n → record { result_value : held head ≡ frame_head l slot; count_value : head.count ≡ length (frame_head l slot) }
     → width ≡ entry_width slot → Asked d initial offsets n slot head width
-asked told was count-is less slot_is head-is width_is = record {
-  set = set told was;
-  within = omega arith;
-  slot_is = slot_is;
-  head-is = head-is.result_value;
-  count-is = head-is.count_value;
+asked legal count-is less slot_is head-is width_is = record {
+  set = set legal.verdict;
+  within = omega (arith, rw legal.same at count-is);
+  slot_is = rw legal.same at slot_is;
+  head-is = rw legal.same at head-is.result_value;
+  count-is = rw legal.same at head-is.count_value;
   width_is = width_is;
 }
 
 pub overflow_add-digits : goal.overflow_add-digits
-overflow_add-digits c = omega (arith, asked-short (asked c.set_verdict.ensures c.in_ok-set_verdict.was c.line_count.ensures c.if-line_count-number.false c.slot_of-slot.ensures c.head_of-head.ensures c.entry_width-width.ensures))
+overflow_add-digits c = omega (arith, asked-short (asked c.in_ok-legal.ensures c.line_count.ensures c.if-line_count-number.false c.slot_of-slot.ensures c.head_of-head.ensures c.entry_width-width.ensures))
 
 pub overflow_add-digits-2 : goal.overflow_add-digits-2
-overflow_add-digits-2 c = omega (arith, asked-short (asked c.set_verdict.ensures c.in_ok-set_verdict.was c.line_count.ensures c.if-line_count-number.false c.slot_of-slot.ensures c.head_of-head.ensures c.entry_width-width.ensures))
+overflow_add-digits-2 c = omega (arith, asked-short (asked c.in_ok-legal.ensures c.line_count.ensures c.if-line_count-number.false c.slot_of-slot.ensures c.head_of-head.ensures c.entry_width-width.ensures))
 
 pub overflow_mul-digits : goal.overflow_mul-digits
-overflow_mul-digits c = omega (arith, asked-short (asked c.set_verdict.ensures c.in_ok-set_verdict.was c.line_count.ensures c.if-line_count-number.false c.slot_of-slot.ensures c.head_of-head.ensures c.entry_width-width.ensures))
+overflow_mul-digits c = omega (arith, asked-short (asked c.in_ok-legal.ensures c.line_count.ensures c.if-line_count-number.false c.slot_of-slot.ensures c.head_of-head.ensures c.entry_width-width.ensures))
 
 pub returns-then-line-digits : goal.returns-then-line-digits
 returns-then-line-digits c =
-    let passed = answer-given _ _ (sym c.asked_number.ensures ∙ c.in_ok-entry.was) in
-    refuses _ _ _ _ _ (asked-room (asked c.set_verdict.ensures c.in_ok-set_verdict.was c.line_count.ensures c.if-line_count-number.false c.slot_of-slot.ensures c.head_of-head.ensures c.entry_width-width.ensures) _ _ passed.0 (lt-ltb _ _ c.if-line-digits.true))
+    let passed = answer-given _ _ (sym (rw c.in_ok-legal.ensures.same at c.asked_number.ensures) ∙ c.in_ok-entry.was) in
+    refuses _ _ _ _ _ (asked-room (asked c.in_ok-legal.ensures c.line_count.ensures c.if-line_count-number.false c.slot_of-slot.ensures c.head_of-head.ensures c.entry_width-width.ensures) _ _ passed.0 (lt-ltb _ _ c.if-line-digits.true))
 
 pub with-frame-requires : goal.with-frame-requires
 with-frame-requires c =
-    let a = (asked c.set_verdict.ensures c.in_ok-set_verdict.was c.line_count.ensures c.if-line_count-number.false c.slot_of-slot.ensures c.head_of-head.ensures c.entry_width-width.ensures) in
+    let a = (asked c.in_ok-legal.ensures c.line_count.ensures c.if-line_count-number.false c.slot_of-slot.ensures c.head_of-head.ensures c.entry_width-width.ensures) in
     record { narrow = omega (arith, asked-narrow a); room = omega (arith, asked-short a) }
 
 pub put_line-requires : goal.put_line-requires
 put_line-requires c =
     record {
-      short = omega (arith, c.with-frame.ensures.count_value, asked-short (asked c.set_verdict.ensures c.in_ok-set_verdict.was c.line_count.ensures c.if-line_count-number.false c.slot_of-slot.ensures c.head_of-head.ensures c.entry_width-width.ensures));
+      short = omega (arith, c.with-frame.ensures.count_value, asked-short (asked c.in_ok-legal.ensures c.line_count.ensures c.if-line_count-number.false c.slot_of-slot.ensures c.head_of-head.ensures c.entry_width-width.ensures));
       long = omega (arith, c.with-frame.ensures.count_value, c.if-line-digits.false);
     }
 
 pub returns : goal.returns
 returns c =
-    let a = (asked c.set_verdict.ensures c.in_ok-set_verdict.was c.line_count.ensures c.if-line_count-number.false c.slot_of-slot.ensures c.head_of-head.ensures c.entry_width-width.ensures) in
-    let passed = answer-given _ _ (sym c.asked_number.ensures ∙ c.in_ok-entry.was) in
+    let a = (asked c.in_ok-legal.ensures c.line_count.ensures c.if-line_count-number.false c.slot_of-slot.ensures c.head_of-head.ensures c.entry_width-width.ensures) in
+    let passed = answer-given _ _ (sym (rw c.in_ok-legal.ensures.same at c.asked_number.ensures) ∙ c.in_ok-entry.was) in
     writes _ _ _ _ _ (asked-room a _ _ passed.0 (le-ltb _ _ c.if-line-digits.false)) (asked-length a)
     (c.put_line.ensures ∙ ap (over _ 0) (asked-line a c.with-frame.ensures.result_value (sym passed.1)))

@@ -1,4 +1,4 @@
--- `counting::Words::class_of` meets its contract: its tests are those of the definition, in the same order, each tried where those before it fail.
+-- `counting::Words::class_of` meets its contract: its tests are those of the definition, in its order, each tried where those before fail.
 use mathlib.Core.Path.{◌≡◌}
 use mathlib.Core.Bool.{Bool, true, false}
 use Prim.Native.Nat.{ℕ, ◌+◌, ◌^◌}
@@ -104,10 +104,12 @@ returns-then-is_faithful c =
 
 pub returns-then-is_too_low : goal.returns-then-is_too_low
 returns-then-is_too_low c =
-    low _ _ _ (tested c.sum_outside.ensures c.if-sum_outside.false) (not-nearest c.before.before.before.before) (not-faithful c.before.before)
+    low _ _ _ (tested c.sum_outside.ensures c.if-sum_outside.false) (not-nearest c.before.before.before.before)
+    (not-faithful c.before.before)
     (told _ _ _ is_too_low c.args.self.row_value c.pow2.ensures c.word_of-word.ensures c.is_too_low.ensures c.if-is_too_low.true)
 
 pub returns : goal.returns
 returns c =
-    high _ _ _ (tested c.sum_outside.ensures c.if-sum_outside.false) (not-nearest c.before.before.before.before) (not-faithful c.before.before)
+    high _ _ _ (tested c.sum_outside.ensures c.if-sum_outside.false) (not-nearest c.before.before.before.before)
+    (not-faithful c.before.before)
     (told _ _ _ is_too_low c.args.self.row_value c.pow2.ensures c.word_of-word.ensures c.is_too_low.ensures c.if-is_too_low.false)

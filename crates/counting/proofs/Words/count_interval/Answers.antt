@@ -39,13 +39,15 @@ module _ (classes : ℕ → Class) where
 
 -- the runs of an interval of the set
 module _ (tables : OffsetTables) where
-  counted : {runs size : ℕ} → runs ≡ 2 ^ (tables.design.w - tables.design.alpha - tables.lookups.first.b) → size ≡ 2 ^ tables.lookups.first.b
-      → Runs tables.design runs size
+  counted : {runs size : ℕ} → runs ≡ 2 ^ (tables.design.w - tables.design.alpha - tables.lookups.first.b)
+      → size ≡ 2 ^ tables.lookups.first.b → Runs tables.design runs size
   counted runs-told size-told = runs_of (limits _ tables.legal) (first-bits _ tables.lookups_value) runs-told size-told
 
   -- how few they are
   few : {runs : ℕ} → runs ≡ 2 ^ (tables.design.w - tables.design.alpha - tables.lookups.first.b) → runs ≤ word_bound
-  few runs-told = rw runs-told (power_small _ (limits _ tables.legal) (tables.design.w - tables.design.alpha - tables.lookups.first.b) (omega arith))
+  few runs-told =
+      let bits = tables.design.w - tables.design.alpha - tables.lookups.first.b in
+      rw runs-told (power_small _ (limits _ tables.legal) bits (omega arith))
 
   first-inside : tables.lookups.first.b ≤ tables.design.w - tables.design.alpha
   first-inside = rw (first-bits _ tables.lookups_value) (first-within _ (limits _ tables.legal))

@@ -1,34 +1,17 @@
--- `reading::Reading::is_finished` meets its contract: a possible state with lines taken is finished by their number.
-use mathlib.Core.Path.{◌≡◌, sym, ◌∙◌}
-use mathlib.Core.Bool.{false, not, true≢false}
-use Prim.Native.Nat.{ℕ}
-use lib.Dec.{eqb}
+-- `reading::Reading::is_finished` meets its contract: with lines taken it goes by the design and by their number.
+use mathlib.Core.Path.{sym}
 use native.Mathlib.Omega.{arith}
-use Rattle.reading.proofs.ReadLaws.{begun, not-begun, not-possible, by_count}
+use Rattle.reading.proofs.ReadLaws.{not-begun, legal-finish, illegal-finish}
 use Rattle.reading.proofs.Reading.is_finished.Goals as goal
-use Rattle.reading.proofs.Reading.is_finished.Goals.{then-self-ne0, else-self-ne0}
 
-untaken : (taken : ℕ) → taken ≡ 0 → not (eqb taken 0) ≡ false
-untaken taken none = rw none
+pub returns-then-self-eq0 : goal.returns-then-self-eq0
+returns-then-self-eq0 c = sym (not-begun _ c.if-self-eq0.true)
 
-pub line_count-requires : goal.line_count-requires
-line_count-requires c =
-    elim c.if-self-ne0.branch [
-      | then-self-ne0 w ↦ (begun _ (omega (arith, w.if-self-ne0.true)) (sym w.is_possible.ensures ∙ sym w.value-is ∙ c.if-is_possible.true)).legal
-      | else-self-ne0 w ↦ absurd (true≢false (sym c.if-is_possible.true ∙ w.value-is ∙ untaken _ w.if-self-ne0.false))
-    ]
+pub returns-in-Ok : goal.returns-in-Ok
+returns-in-Ok c =
+    let verdict = rw c.in-Ok.is at c.checked.ensures.verdict in
+    let same = rw c.in-Ok.is at c.checked.ensures.same in
+    rw (c.line_count.ensures, same) (legal-finish c.args.self (omega (arith, c.if-self-eq0.false)) (sym verdict))
 
-pub returns-then-is_possible : goal.returns-then-is_possible
-returns-then-is_possible c =
-    elim c.if-self-ne0.branch [
-      | then-self-ne0 w ↦ rw c.line_count.ensures (sym (by_count _ (sym w.is_possible.ensures ∙ sym w.value-is ∙ c.if-is_possible.true)))
-      | else-self-ne0 w ↦ absurd (true≢false (sym c.if-is_possible.true ∙ w.value-is ∙ untaken _ w.if-self-ne0.false))
-    ]
-
-pub returns-else-is_possible : goal.returns-else-is_possible
-returns-else-is_possible c =
-    elim c.if-self-ne0.branch [
-      | then-self-ne0 w ↦
-          c.if-is_possible.false ∙ sym (not-possible _ (sym w.is_possible.ensures ∙ sym w.value-is ∙ c.if-is_possible.false))
-      | else-self-ne0 w ↦ w.value-is ∙ untaken _ w.if-self-ne0.false ∙ sym (not-begun _ (omega (arith, w.if-self-ne0.false)))
-    ]
+pub returns-in-Err : goal.returns-in-Err
+returns-in-Err c = illegal-finish _ (omega (arith, c.if-self-eq0.false)) _ (sym (rw c.in-Err.is at c.checked.ensures.verdict))
