@@ -1,5 +1,5 @@
 -- Counts and check agree.
-use Rattle.std.specs.Prelude.{Ok, Err}
+use Rattle.std.specs.Prelude.{Ok, Err, None}
 use mathlib.Core.Path.{◌≡◌, refl}
 use mathlib.Core.List.{List}
 use mathlib.Core.Logic.{◌↔◌}
@@ -9,12 +9,11 @@ use borrow.Author.Tests.{eqb-false, ne_eqb}
 use lib.IntN.{ℤ}
 use Rattle.general.proofs.Sums.{none-counted, count_none}
 use Rattle.refusal.specs.Verdict.{Verdict}
-use Rattle.refusal.specs.Checks.{if_passed}
 use Rattle.refusal.specs.Told.{told, number_told}
+use Rattle.refusal.proofs.Answers.{answer-given}
 use Rattle.design.specs.declared.Design.{Design}
 use Rattle.design.proofs.LegalLaws.{limits, lawful}
 use Rattle.tables.proofs.SetLaws.{usable}
-use Rattle.checking.specs.declared.Checked.{Checked}
 use Rattle.checking.specs.Check.{check_verdict, check_answer, check_told, FaithfulWord}
 use Rattle.checking.proofs.CheckLaws.{check-means}
 use Rattle.counting.specs.declared.Class.{Class}
@@ -28,12 +27,6 @@ use Rattle.agreement.proofs.Landing.{up-to-high, lands, zero-low, faithful-class
 same_number : {A B : Type 0} (v : Verdict) (a : A) (b : B) → number_told (told v a) ≡ number_told (told v b)
 same_number (Ok tt) a b = refl
 same_number (Err cause) a b = refl
-
--- Counts are given only where the verdict passes.
-given : (v : Verdict) {found counts : Counts} → if_passed v (Ok found) Err ≡ Ok counts
-    → (v ≡ (Ok tt)) × (found ≡ counts)
-given (Ok tt) e = (refl, cc)
-given (Err cause) e = let z : ◌≡◌ {A = ℕ} 0 1 = cc in absurd (omega arith)
 
 -- No input is in a class exactly where its count is 0.
 module _ (class : Class) (n : ℕ) (classes : ℕ → Class) where
@@ -77,7 +70,7 @@ module _ (d : Design) (initial : List ℕ) (offsets : List ℤ) where
       (omega (arith, not-outside)) (omega (arith, up-to-high (classes x), not_low, not-high))
 
   exactly : check_verdict d initial offsets ≡ (Ok tt)
-      → (check_answer d initial offsets ≡ Checked.Faithful) ↔ ((counts.outside ≡ 0) × (counts.low ≡ 0) × (counts.high ≡ 0))
+      → (check_answer d initial offsets ≡ Ok None) ↔ ((counts.outside ≡ 0) × (counts.low ≡ 0) × (counts.high ≡ 0))
   exactly passed =
       let means = check-means d initial offsets passed in
       (λ e. zero-counts (means.says-faithful e), λ zero. means.is-faithful (all-faithful passed zero))
@@ -89,6 +82,6 @@ agreement d initial offsets =
       lands = lands d initial offsets;
       zero-low = zero-low d initial offsets;
       refuses = same_number (check_verdict d initial offsets) _ _;
-      adds-up = λ counts e. let g = given (count_verdict d initial offsets) e in rw (← g.1) (adds-up d initial offsets);
-      exactly = λ counts e. let g = given (count_verdict d initial offsets) e in rw (← g.1) (exactly d initial offsets g.0);
+      adds-up = λ counts e. let g = answer-given (count_verdict d initial offsets) _ e in rw (← g.1) (adds-up d initial offsets);
+      exactly = λ counts e. let g = answer-given (count_verdict d initial offsets) _ e in rw (← g.1) (exactly d initial offsets g.0);
     }

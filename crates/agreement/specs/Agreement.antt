@@ -1,12 +1,11 @@
 -- Document 02, A1, over the calls `count` and `check`.
-use Rattle.std.specs.Prelude.{◌≡◌, true, false, ◌↔◌, List, ℕ, ◌+◌, ◌^◌, ◌≤◌, ℤ, Ok}
+use Rattle.std.specs.Prelude.{◌≡◌, true, false, ◌↔◌, List, ℕ, ◌+◌, ◌^◌, ◌≤◌, ℤ, Ok, None}
 use Rattle.refusal.specs.Told.{number_told}
 use Rattle.values.specs.declared.rows.Row.{Row}
 use Rattle.values.specs.Faithful.{Faithful, Nearest, TooLow, TooHigh}
 use Rattle.design.specs.declared.Design.{Design}
 use Rattle.design.specs.Cut.{row}
 use Rattle.tables.specs.Sum.{sum_at, sum_outside, word_at}
-use Rattle.checking.specs.declared.Checked.{Checked}
 use Rattle.checking.specs.Check.{check_answer, check_told}
 use Rattle.counting.specs.declared.Class.{Class}
 use Rattle.counting.specs.declared.Counts.{Counts}
@@ -43,7 +42,7 @@ pub record Agrees (d : Design) (initial : List ℕ) (offsets : List ℤ) : Type 
       → counts.outside + counts.nearest + counts.faithful + counts.low + counts.high ≡ 2 ^ d.w
   -- and the check says faithful exactly when the first and the last two are zero."
   pub exactly : (counts : Counts) → count_answer d initial offsets ≡ Ok counts
-      → (check_answer d initial offsets ≡ Checked.Faithful) ↔ ((counts.outside ≡ 0) × (counts.low ≡ 0) × (counts.high ≡ 0))
+      → (check_answer d initial offsets ≡ Ok None) ↔ ((counts.outside ≡ 0) × (counts.low ≡ 0) × (counts.high ≡ 0))
 
 -- "For any set": any design and any tables
 abbrev pub Agreement : Type 0

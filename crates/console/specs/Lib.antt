@@ -1,4 +1,5 @@
 -- What a reader has to believe of what programs read and write.
+pub mod Blocks
 pub mod Counts
 pub mod Reading
 pub mod Writing

@@ -148,7 +148,7 @@ fn later_line(
     if head_fails(head, width, frame) {
         return Err(Cause::Frame);
     }
-    let number = number_in(&frame.bytes, head.count, width);
+    let number = number_in(&frame.bytes[head.count..head.count + width]);
     let over = entry_over(legal, slot, number);
     let short = short_tables(legal, initial.len(), offsets.len());
     if over {

@@ -1,5 +1,5 @@
 -- `tables::checked_set` meets its contract: the design's verdict, then the two lengths.
-use mathlib.Core.Path.{◌≡◌, refl, sym, ◌∙◌}
+use mathlib.Core.Path.{sym}
 use mathlib.Core.Bool.{true, false}
 use Rattle.std.proofs.lemmas.Result.{err_from_is_err_and}
 use Rattle.general.proofs.Tests.{tested}

@@ -32,9 +32,6 @@ held c = to_z_pos w64 c.args.entry (omega arith)
 pub overflow_shl-result : goal.overflow_shl-result
 overflow_shl-result c = let t = c.args.self in b-small _ (limits _ t.legal) _ (looked t.lookups_value).first-is
 
-pub add_above-requires : goal.add_above-requires
-add_above-requires c = (c.requires.0, rw (held c) (omega arith))
-
 pub returns : goal.returns
 returns c =
     let s = c.before in

@@ -32,11 +32,6 @@ add_table-first-requires c =
     let p = c.requires in
     record { lookup_value = ((looked c.args.self.lookups_value).first-is, p); i_lt_m = ((limits _ c.args.self.legal).m-low, rw (held c.before) (omega arith)) }
 
-pub add_above-requires : goal.add_above-requires
-add_above-requires c =
-    let p = c.requires in
-    (p, omega (arith, rw (held c.before.before) at c.add_table-first.ensures.1))
-
 pub returns : goal.returns
 returns c =
     let b = c.before in

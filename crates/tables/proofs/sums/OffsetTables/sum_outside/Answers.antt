@@ -5,6 +5,7 @@ use Prim.Native.Nat.{◌≤◌}
 use native.Mathlib.Omega.{arith}
 use lib.IntN.{ℤ, pos}
 use lib.Signed.{lt_z, le_z}
+use borrow.Author.Rules.{rules}
 use mir.Syntax.{w64}
 use mir.ValLaws.{to_z_pos, to_z-of_z}
 use Rattle.values.specs.Room.{entry_bound}
@@ -44,10 +45,10 @@ pub returns-else-sum-lt0 : goal.returns-else-sum-lt0
 returns-else-sum-lt0 c =
     let b = c.before.before.before.before.before in
     let a = b.args in
-    above a.self.design a.sum.0 _ (to_z-of_z w64 a.sum.0 (record { sfits = c.struct_told-else-sum-lt0-1.given.0.1 })) _
+    above a.self.design a.sum.0 _ (to_z-of_z w64 a.sum.0 (search rules)) _
     (to_z_pos w64 b.sum_limit-limit.result (omega (arith, limit-small c.before.before.before.before.before)) ∙ ap pos b.sum_limit-limit.ensures) c.if-sum-lt0.false
 
 pub returns-then-sum-lt0 : goal.returns-then-sum-lt0
 returns-then-sum-lt0 c =
     let a = c.args in
-    below a.self.design a.sum.0 _ (to_z-of_z w64 a.sum.0 (record { sfits = c.struct_told-1.given.0.1 })) c.if-sum-lt0.true
+    below a.self.design a.sum.0 _ (to_z-of_z w64 a.sum.0 (search rules)) c.if-sum-lt0.true

@@ -1,8 +1,6 @@
 -- `tables::sums::TableSet::sum_of` meets its contract: the initial word numbers an entry, from which the sum goes on.
-use mathlib.Core.Path.{refl}
-use native.Mathlib.Nat.{lt_of_le_of_lt, lt_of_lt_of_le}
+use native.Mathlib.Nat.{lt_of_lt_of_le}
 use native.Mathlib.Omega.{arith}
-use lib.Pow.{shr_le}
 use Rattle.design.specs.Cut.{initial_word}
 use Rattle.design.proofs.LegalLaws.{limits}
 use Rattle.design.proofs.CutLaws.{initial-word-lt}
@@ -15,18 +13,11 @@ overflow_sub-entry c = omega (arith, limits _ c.args.self.tables.legal)
 pub overflow_shr-entry : goal.overflow_shr-entry
 overflow_shr-entry c = omega (arith, (limits _ c.args.self.tables.legal).widths.room.w-small)
 
-pub overflow_cast-entry : goal.overflow_cast-entry
-overflow_cast-entry c = record { fits = lt_of_le_of_lt (shr_le _ _) (omega arith) }
-
 -- the initial word numbers an entry
 pub bounds-self-x : goal.bounds-self-x
 unfolding initial_word
 bounds-self-x c =
     lt_of_lt_of_le (initial-word-lt _ (limits _ c.args.self.tables.legal) _ c.requires) c.args.self.initial_long
-
-pub sum_from-requires : goal.sum_from-requires
-sum_from-requires c =
-    record { near_word = c.requires; word = c.requires; same = refl }
 
 pub returns : goal.returns
 unfolding sum_at initial_word
