@@ -6,7 +6,8 @@ usage: tools/spelling.py [FOLDER]
 Run once, after /opt/rattle/port/port.py, at the top of the repository or on a copy of it at FOLDER. It goes by the names that the
 files of specs/ and proofs/ define: one that begins with a small letter and has a capital inside gets an underscore and the small letter
 in its place, everywhere but in compare/. Names of src/, of C and in strings have no such form, so they stay. Nine laws inside one proof
-whose names would fall together with a definition get their hyphen back, as they had it before port.py.
+whose names would fall together with a definition get their hyphen back, as they had it before port.py. It was run on the tree of the
+port, and the files that it names are those of then.
 """
 import glob
 import os

@@ -8,7 +8,7 @@ use lib.Dec.{leb}
 use lib.ListN.{length, take, length-append}
 use lib.Seq.{length-take-le}
 use borrow.Author.Tests.{leb-true, leb-false}
-use Rattle.console.specs.declared.Console.{Console}
+use Rattle.console.specs.Blocks.{Blocks}
 use Rattle.console.specs.Writing.{pending_in, pending_with, Puts, printed}
 
 pub puts_none : (room : ℕ) (here : List ℕ) → Puts room here [] here
@@ -19,34 +19,34 @@ pub puts-in : {room other : ℕ} {a t b : List ℕ} → room ≡ other → Puts 
 puts-in e puts = record { gone = puts.gone; whole = puts.whole; kept = λ h. puts.kept (omega (arith, e, h)) }
 
 -- One text: it stands behind what is pending, pushes that out, or goes out by itself.
-module _ (c : Console) (block text : List ℕ) where
+module _ (c : Blocks) (text : List ℕ) where
   abbrev before : List ℕ
-  before = pending_in c block
+  before = pending_in c
 
   -- Where there is room for both, but not by the number, nothing was pending.
-  none-pending : leb (c.pending + length text) (length block) ≡ false → length before + length text ≤ length block → before ≡ []
-  none-pending e h = go (leb c.pending (length block)) refl h
+  none-pending : leb (c.pending + length text) (length c.output) ≡ false → length before + length text ≤ length c.output → before ≡ []
+  none-pending e h = go (leb c.pending (length c.output)) refl h
     where
-      go : (within : Bool) → leb c.pending (length block) ≡ within
-          → length (cond within (take c.pending block) []) + length text ≤ length block → before ≡ []
+      go : (within : Bool) → leb c.pending (length c.output) ≡ within
+          → length (cond within (take c.pending c.output) []) + length text ≤ length c.output → before ≡ []
       go true is room =
-          let long = length-take-le c.pending block (leb-true c.pending (length block) is) in
-          absurd (omega (arith, leb-false (c.pending + length text) (length block) e, long))
+          let long = length-take-le c.pending c.output (leb-true c.pending (length c.output) is) in
+          absurd (omega (arith, leb-false (c.pending + length text) (length c.output) e, long))
       go false is room = rw is
 
-  pub puts_one : Puts (length block) before text (pending_with c block text)
+  pub puts_one : Puts (length c.output) before text (pending_with c text)
   unfolding pending_with
-  puts_one = go (leb (c.pending + length text) (length block)) refl (leb (length text) (length block)) refl
+  puts_one = go (leb (c.pending + length text) (length c.output)) refl (leb (length text) (length c.output)) refl
     where
-      go : (both : Bool) → leb (c.pending + length text) (length block) ≡ both → (alone : Bool) → leb (length text) (length block) ≡ alone
-          → Puts (length block) before text (cond both (before ++ text) (cond alone text []))
+      go : (both : Bool) → leb (c.pending + length text) (length c.output) ≡ both → (alone : Bool) → leb (length text) (length c.output) ≡ alone
+          → Puts (length c.output) before text (cond both (before ++ text) (cond alone text []))
       go true e alone f = record { gone = []; whole = refl; kept = λ h. refl }
       go false e true f = record { gone = before; whole = refl; kept = none-pending e }
       go false e false f =
           record {
             gone = before ++ text;
             whole = sym (append-nil (before ++ text));
-            kept = λ h. absurd (omega (arith, leb-false (length text) (length block) f));
+            kept = λ h. absurd (omega (arith, leb-false (length text) (length c.output) f));
           }
 
 -- One text behind another

@@ -1,25 +1,25 @@
--- What can be said of output, wherever it goes: what is pending in the lent block.
+-- What can be said of output, wherever it goes: what is pending in the output's block.
 use Rattle.std.specs.Prelude.{Bool, cond, ◌≡◌, List, [], ◌∷◌, ◌++◌, ℕ, ◌+◌, ◌≤◌, leb, length, take}
-use Rattle.console.specs.declared.Console.{Console}
+use Rattle.console.specs.Blocks.{Blocks}
 
 -- Nothing is pending, and the input is where it was. Whether all that was pending could be written, `failed` tells, and no definition.
-abbrev pub flushed : Console → Bool → Console
-flushed c failed = record { at = c.at; count = c.count; ended = c.ended; pending = 0; failed = failed }
+abbrev pub flushed : Blocks → Bool → Blocks
+flushed c failed = record c { pending = 0; failed = failed }
 
 -- Room for so many bytes behind what is pending: the block has it, or what is pending goes out.
-abbrev pub with_room : Console → ℕ → ℕ → Bool → Console
-with_room c block count failed = cond (leb (c.pending + count) block) c (flushed c failed)
+abbrev pub with_room : Blocks → ℕ → Bool → Blocks
+with_room c count failed = cond (leb (c.pending + count) (length c.output)) c (flushed c failed)
 
 -- What is pending in the block: nothing, where the number is past its end
-abbrev pub pending_in : Console → List ℕ → List ℕ
-pending_in c block = cond (leb c.pending (length block)) (take c.pending block) []
+abbrev pub pending_in : Blocks → List ℕ
+pending_in c = cond (leb c.pending (length c.output)) (take c.pending c.output) []
 
 -- What is pending once a text is put: the text behind what was pending; the text alone, where the block has no room for both; nothing, where
 -- the block does not hold the text, which then goes out by itself.
-unfoldable pub pending_with : Console → List ℕ → List ℕ → List ℕ
-pending_with c block text =
-    cond (leb (c.pending + length text) (length block)) (pending_in c block ++ text)
-    (cond (leb (length text) (length block)) text [])
+unfoldable pub pending_with : Blocks → List ℕ → List ℕ
+pending_with c text =
+    cond (leb (c.pending + length text) (length c.output)) (pending_in c ++ text)
+    (cond (leb (length text) (length c.output)) text [])
 
 -- Texts that were put one after another, in so many calls, into a block of so many bytes: what was pending and then the texts are, byte for
 -- byte, what has left the block since and then what is pending. Nothing leaves a block that has room for all of it.

@@ -3,9 +3,11 @@
 // promise.
 #![tactic(auto)]
 
+mod fold;
+mod line;
 mod output;
 
-ghost use Rattle.std.specs.Prelude.{◌≡◌, false, ◌≤◌, length, take};
+ghost use Rattle.std.specs.Prelude.{◌≡◌, true, false, length, MatchOption};
 ghost use Rattle.console.specs.Counts.{came_count};
 ghost use Rattle.console.specs.Reading.{
   in_block,
@@ -13,235 +15,175 @@ ghost use Rattle.console.specs.Reading.{
   Fresh,
   NextRead,
   Takes,
-  last_end,
-  is_absent,
-  spelled,
+  start_bytes,
+  line_bytes,
   StartRead,
   LineRead,
 };
 
-use frames::LONGEST_LINE;
+pub use line::{KEPT, Line, LineEnd, LineStart};
 use std::io;
 use std::io::Read;
+use std::marker::Model;
 
-// Where a program is in its input and output. Of the input's block, the bytes from `at` up to `count` are still to be read, and `ended` says
-// whether no other comes; of the output's, the first `pending` are still to be written, and `failed` says whether something could not be.
-#[derive(Clone, Copy)]
-pub struct Console {
-    pub at: usize,
-    pub count: usize,
-    pub ended: bool,
-    pub pending: usize,
-    pub failed: bool,
+// Where a program is in its input and output.
+#[derive(Drop)]
+pub struct Console<'r, 'b, R> {
+    rt: &'r R,
+    // Of the input's block, the bytes from `at` up to `count` are still to be read; `ended` says whether no other block comes.
+    input: &'b mut [u8],
+    at: usize,
+    count: usize,
+    ended: bool,
+    // Of the output's block, the first `pending` bytes are still to be written; `failed` says whether something could not be.
+    output: &'b mut [u8],
+    pending: usize,
+    failed: bool,
 }
 
-// The next byte of the input, unless it has ended.
-#[derive(Clone, Copy)]
-pub struct Next {
-    pub console: Console,
-    pub byte: u8,
-    pub ended: bool,
-}
+// A contract sees the two blocks and the places in them.
+impl<'r, 'b, R> Model for Console<'r, 'b, R> {
+    ghost use Rattle.std.specs.Prelude.{◌≤◌, length};
+    ghost use Rattle.console.specs.Blocks.{Blocks};
 
-// A proved loop has to end, and nothing says that the input does. So a loop over the input counts its turns down, from a number that no run
-// uses up.
-pub const TURNS: u64 = u64::MAX;
+    ghost Value = { Blocks };
+
+    ghost view = { λ c. record {
+      input = c.input.now;
+      at = c.at;
+      count = c.count;
+      ended = c.ended;
+      output = c.output.now;
+      pending = c.pending;
+      failed = c.failed;
+    } };
+
+    ghost invariant = { λ c. (c.count ≤ length c.input.now) × (c.pending ≤ length c.output.now) };
+}
 
 // How many bytes a block has in a program that reads or writes whole sets.
 pub const BLOCK: usize = 4096;
 
-// Why no more of a line is read: its newline came, the input ended, or it is cut off, as there is no room for more of it. A line is absent
-// where the input ended before a byte of it came.
-#[derive(Clone, Copy)]
-pub enum LineEnd {
-    Newline,
-    Input,
-    Cut,
-    Absent,
-}
-
-// How many bytes of a line were read, and why no more.
-#[derive(Clone, Copy)]
-pub struct LineStart {
-    pub console: Console,
-    pub count: usize,
-    pub end: LineEnd,
-}
-
-// One byte more than the longest line has.
-pub const KEPT: usize = LONGEST_LINE + 1;
-
-// The start of a line, so many bytes at most: a line that has them is refused whatever follows, so no more of it is needed.
-#[derive(Clone, Copy)]
-pub struct Line {
-    pub console: Console,
-    pub bytes: [u8; KEPT],
-    pub count: usize,
-    pub end: LineEnd,
-}
-
-impl Console {
+impl<'r, 'b, R> Console<'r, 'b, R> {
     // Nothing has come in, and nothing is to go out.
-    pub fn new() -> Console
-        ensures { result ≡ record { at = 0; count = 0; ended = false; pending = 0; failed = false } }
+    pub fn new(rt: &'r R, input: &'b mut [u8], output: &'b mut [u8]) -> Console<'r, 'b, R>
+        ensures { result ≡ record {
+          input = input.old;
+          at = 0;
+          count = 0;
+          ended = false;
+          output = output.old;
+          pending = 0;
+          failed = false;
+        } }
     {
         Console {
+            rt,
+            input,
             at: 0,
             count: 0,
             ended: false,
+            output,
             pending: 0,
             failed: false,
         }
     }
 
-    // The next byte of the input's block, unless none is left.
-    fn in_block(self, input: &[u8]) -> Next
-        ensures { result ≡ in_block self input.now }
+    // Whether something could not be written.
+    pub fn has_failed(&self) -> bool
+        ensures { result ≡ self.now.failed }
     {
-        let at = self.at;
-        let mut console = self;
-        if at < self.count && at < input.len() {
-            console.at = at + 1;
-            return Next {
-                console,
-                byte: input[at],
-                ended: false,
-            };
+        self.failed
+    }
+
+    // The next byte of the input's block, unless none is left.
+    fn in_block(&mut self) -> Option<u8>
+        ensures value { (result, self.new) ≡ in_block self.old }
+        ensures output { self.new.output ≡ self.old.output }
+    {
+        if self.at < self.count {
+            let byte = self.input[self.at];
+            self.at += 1;
+            return Some(byte);
         }
-        Next {
-            console,
-            byte: 0,
-            ended: true,
-        }
+        None
     }
 
     // A block of which so many bytes came is to be read from its start; an error says that none could be read. Where none came, the input has
     // ended.
-    fn filled(self, got: io::Result<usize>, input: &[u8]) -> Console
-        ensures value { result ≡ with_block self (came_count got (length input.now)) }
-        ensures count_in_bounds { result.count ≤ length input.now }
+    fn fill(&mut self, got: io::Result<usize>)
+        ensures { self.new ≡ with_block self.old (came_count got (length self.old.input)) }
     {
-        let count = came_count(got, input);
-        let mut console = self;
-        console.at = 0;
-        console.count = count;
-        console.ended = count == 0;
-        console
+        self.at = 0;
+        self.count = got.unwrap_or(0).min(self.input.len());
+        self.ended = self.count == 0;
     }
+}
 
+impl<'r, 'b, R: Input + Print> Console<'r, 'b, R> {
     // Reads the next block, as much as one call gives, so that nothing that is there is held up. The block may have to be waited for, so what
     // is pending goes out before. An input that cannot be read counts as ended.
-    fn next_block(self, rt: &(impl Input + Print), input: &mut [u8], output: &[u8]) -> Console
-        ensures { Fresh result input.new }
+    fn next_block(&mut self)
+        ensures fresh { Fresh self.new }
+        ensures output { self.new.output ≡ self.old.output }
     {
-        let console = self.flush(rt, output);
-        let got = rt.reader().read(input);
-        console.filled(got, input)
+        self.flush();
+        let got = self.rt.reader().read(self.input);
+        self.fill(got);
     }
 
     // The next byte of the input, whose end is not asked for again.
-    pub fn next_byte(self, rt: &(impl Input + Print), input: &mut [u8], output: &[u8]) -> Next
-        ensures { NextRead self input.old input.new result }
+    pub fn next_byte(&mut self) -> Option<u8>
+        ensures value { NextRead self.old result self.new }
+        ensures output { self.new.output ≡ self.old.output }
     {
-        let next = self.in_block(input);
-        if !next.ended {
-            return next;
+        let left = self.in_block();
+        if left.is_some() || self.ended {
+            return left;
         }
-        if self.ended {
-            return next;
-        }
-        let console = self.next_block(rt, input, output);
-        console.in_block(input)
+        self.next_block();
+        self.in_block()
     }
 
     // inner: the start of a line, up to the newline, the end of the input, or so many bytes as the lent ones are; they stand at the start of
-    // these. No more of the line is looked at, so endless input does no harm.
-    pub fn read_start(
-        self,
-        rt: &(impl Input + Print),
-        input: &mut [u8],
-        output: &[u8],
-        bytes: &mut [u8],
-    ) -> LineStart
-        ensures start { StartRead bytes.new result }
-        ensures taken { Takes self input.old (spelled result.end (take result.count bytes.new)) result.console input.new }
+    // these. No more of the line is looked at, so endless input does no harm. There is no line where the input ended before a byte of it: a
+    // last line without a newline counts as a line, if it has a byte.
+    pub fn read_start(&mut self, bytes: &mut [u8]) -> Option<LineStart>
+        ensures start { MatchOption result (self.new.ended ≡ true) (λ start. StartRead bytes.new start self.new) }
+        ensures taken { Takes self.old (start_bytes result bytes.new) self.new }
+        ensures output { self.new.output ≡ self.old.output }
     {
-        let mut console = self;
-        let mut count: usize = 0;
-        while count < bytes.len() {
-            let next = console.next_byte(rt, input, output);
-            console = next.console;
-            if next.ended {
-                return LineStart {
-                    console,
-                    count,
-                    end: last_end(count),
-                };
+        for count in 0..bytes.len() {
+            match self.next_byte() {
+                None if count == 0 => return None,
+                None => {
+                    return Some(LineStart {
+                        count,
+                        end: LineEnd::Input,
+                    });
+                }
+                Some(b'\n') => {
+                    return Some(LineStart {
+                        count,
+                        end: LineEnd::Newline,
+                    });
+                }
+                Some(b) => bytes[count] = b,
             }
-            let b = next.byte;
-            if b == b'\n' {
-                return LineStart {
-                    console,
-                    count,
-                    end: LineEnd::Newline,
-                };
-            }
-            bytes[count] = b;
-            count += 1;
         }
-        LineStart {
-            console,
-            count,
+        Some(LineStart {
+            count: bytes.len(),
             end: LineEnd::Cut,
-        }
+        })
     }
 
-    pub fn read_line(self, rt: &(impl Input + Print), input: &mut [u8], output: &[u8]) -> Line
-        ensures line { LineRead result }
-        ensures taken { Takes self input.old (spelled result.end (take result.count result.bytes)) result.console input.new }
+    pub fn read_line(&mut self) -> Option<Line>
+        ensures line { MatchOption result (self.new.ended ≡ true) (λ line. LineRead line self.new) }
+        ensures taken { Takes self.old (line_bytes result) self.new }
+        ensures output { self.new.output ≡ self.old.output }
     {
         let mut bytes = [0u8; KEPT];
-        let start = self.read_start(rt, input, output, &mut bytes);
-        let console = start.console;
-        let end = start.end;
-        Line {
-            console,
-            bytes,
-            count: start.count,
-            end,
-        }
-    }
-}
-
-// How many bytes of a block came, by what the read of it returned, and never more than the block holds: none, where it could not be read.
-fn came_count(got: io::Result<usize>, input: &[u8]) -> usize
-    ensures value { result ≡ came_count got (length input.now) }
-    ensures upper_bound { result ≤ length input.now }
-{
-    match got {
-        Ok(count) => count.min(input.len()),
-        Err(_) => 0,
-    }
-}
-
-// What the end of the input makes of a line of which so many bytes came. A last line without a newline counts as a line, if it has a byte.
-fn last_end(count: usize) -> LineEnd
-    ensures { result ≡ last_end count }
-{
-    if count == 0 {
-        return LineEnd::Absent;
-    }
-    LineEnd::Input
-}
-
-// Whether there is no line.
-pub fn is_absent(end: LineEnd) -> bool
-    ensures { result ≡ is_absent end }
-{
-    match end {
-        LineEnd::Newline => false,
-        LineEnd::Input => false,
-        LineEnd::Cut => false,
-        LineEnd::Absent => true,
+        let LineStart { count, end } = self.read_start(&mut bytes)?;
+        Some(Line { bytes, count, end })
     }
 }

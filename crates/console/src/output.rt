@@ -1,92 +1,90 @@
 // Texts that go to standard output, gathered in a block.
 ghost use Rattle.std.specs.Prelude.{◌≡◌, true, ◌+◌, ◌≤◌, length};
-ghost use Rattle.general.specs.Lists.{over};
-ghost use Rattle.console.specs.Writing.{flushed, with_room, pending_in, pending_with};
 ghost use Rattle.console.specs.Counts.{IsPrefixLen};
+ghost use Rattle.console.specs.Reading.{KeepsInput};
+ghost use Rattle.console.specs.Writing.{flushed, with_room, pending_in, pending_with};
 
 use crate::Console;
 use itoa::Buffer;
 use refusal::Cause;
 use report_text::Text;
+use std::io;
 
-// Puts the text into the block from a place on.
-fn copy(output: &mut [u8], place: usize, text: &[u8])
-    requires { place + length text.now ≤ length output.old }
-    ensures { output.new ≡ over output.old place text.now }
-{
-    let mut i = 0;
-    while i < text.len() {
-        output[place + i] = text[i];
-        i += 1;
+impl<'r, 'b, R: Print> Console<'r, 'b, R> {
+    // Writes what is pending, and leaves it so.
+    fn write_pending(&self) -> io::Result<()> {
+        self.rt.write_all(&self.output[..self.pending])
     }
-}
 
-impl Console {
     // Writes what is pending.
-    pub fn flush(self, rt: &impl Print, output: &[u8]) -> Console
-        ensures value { result ≡ flushed self result.failed }
-        ensures failed_value { self.failed ≡ true → result.failed ≡ true }
+    pub fn flush(&mut self)
+        ensures value { self.new ≡ flushed self.old self.new.failed }
+        ensures failed_value { self.old.failed ≡ true → self.new.failed ≡ true }
     {
-        let pending = self.pending;
-        let mut console = self;
-        console.pending = 0;
-        if pending <= output.len() && rt.write_all(&output[..pending]).is_err() {
-            console.failed = true;
+        if self.write_pending().is_err() {
+            self.failed = true;
         }
-        console
+        self.pending = 0;
     }
 
     // Room in the block for so many bytes behind what is pending: where there is none, what is pending goes out.
-    fn with_room(self, rt: &impl Print, output: &[u8], count: usize) -> Console
-        ensures { result ≡ with_room self (length output.now) count result.failed }
+    fn make_room(&mut self, count: usize)
+        ensures { self.new ≡ with_room self.old count self.new.failed }
     {
-        if self.pending <= output.len() && count <= output.len() - self.pending {
-            return self;
+        if self.output.len() - self.pending < count {
+            self.flush();
         }
-        self.flush(rt, output)
     }
 
     // The text behind what is pending. That goes out first where the block has no room for both; a text that the block does not hold goes out
     // by itself.
-    pub fn put(self, rt: &impl Print, output: &mut [u8], text: &[u8]) -> Console
-        ensures pending { pending_in result output.new ≡ pending_with self output.old text.now }
-        ensures input { (result.at ≡ self.at) × (result.count ≡ self.count) }
+    pub fn put(&mut self, text: &[u8])
+        ensures pending { pending_in self.new ≡ pending_with self.old text.now }
+        ensures input { KeepsInput self.old self.new }
+        ensures room { length self.new.output ≡ length self.old.output }
     {
-        let mut console = self.with_room(rt, output, text.len());
-        let place = console.pending;
-        if output.len() - place < text.len() {
-            if rt.write_all(text).is_err() {
-                console.failed = true;
+        self.make_room(text.len());
+        if self.output.len() - self.pending < text.len() {
+            if self.rt.write_all(text).is_err() {
+                self.failed = true;
             }
-            return console;
+            return;
         }
-        copy(output, place, text);
-        console.pending = place + text.len();
-        console
+        let end = self.pending + text.len();
+        self.output[self.pending..end].copy_from_slice(text);
+        self.pending = end;
     }
 
     // A number in decimal.
-    pub fn put_decimal(self, rt: &impl Print, output: &mut [u8], n: u64) -> Console {
-        let mut digits = Buffer::new();
-        self.put(rt, output, digits.format(n).as_bytes())
+    pub fn put_decimal(&mut self, n: u64)
+        ensures input { KeepsInput self.old self.new }
+        ensures room { length self.new.output ≡ length self.old.output }
+    {
+        self.put(Buffer::new().format(n).as_bytes());
     }
 
     // A text of which the caller knows that it lies within its array.
-    fn put_text(self, rt: &impl Print, output: &mut [u8], text: Text) -> Console
+    fn put_text(&mut self, text: Text)
         requires { IsPrefixLen text.count text.bytes }
+        ensures input { KeepsInput self.old self.new }
+        ensures room { length self.new.output ≡ length self.old.output }
     {
-        let bytes = text.bytes;
-        let count = text.count;
-        self.put(rt, output, &bytes[..count])
+        self.put(&text.bytes[..text.count]);
     }
 
     // The report on a line.
-    pub fn put_report(self, rt: &impl Print, output: &mut [u8], line: &[u8]) -> Console {
-        self.put_text(rt, output, report_text::report(line))
+    pub fn put_report(&mut self, line: &[u8])
+        ensures input { KeepsInput self.old self.new }
+        ensures room { length self.new.output ≡ length self.old.output }
+    {
+        self.put_text(report_text::report(line));
     }
 
     // A refusal and its newline.
-    pub fn put_refused(self, rt: &impl Print, output: &mut [u8], cause: Cause) -> Console {
-        self.put_text(rt, output, report_text::refused(cause))
+    pub fn put_refused(&mut self, cause: Cause)
+        ensures input { KeepsInput self.old self.new }
+        ensures room { length self.new.output ≡ length self.old.output }
+    {
+        self.put_text(report_text::refused(cause));
     }
 }

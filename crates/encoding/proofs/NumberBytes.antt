@@ -1,40 +1,60 @@
 -- Numbers while their bytes are written or read, the highest byte first.
 use mathlib.Core.Path.{◌≡◌, refl, ap, ◌∙◌}
-use mathlib.Core.List.{List, [], ◌∷◌, ◌++◌}
-use Prim.Native.Nat.{ℕ, zero, suc, ◌+◌, ◌-◌, ◌*◌, ◌^◌, ◌≤◌, ◌<◌}
+use mathlib.Core.List.{List, [], ◌∷◌, ◌++◌, append-nil}
+use Prim.Native.Nat.{ℕ, suc, ◌+◌, ◌-◌, ◌*◌, ◌/◌, ◌%◌, ◌^◌, ◌≤◌, ◌<◌}
+use native.Mathlib.Nat.{add-zero, sub-zero}
 use native.Mathlib.Numerals.{add-one}
 use native.Mathlib.Omega.{arith}
-use lib.ListN.{length, take, drop, get_or, length-append}
-use borrow.Rule.Slice.PartMut.{put_mid}
-use Rattle.std.specs.Int.{w32, to_be_bytes}
+use lib.ListN.{length, take, get_or, set, length-append, length-set}
 use lib.Pow.{pow-add, pow_mono}
-use lib.Seq.{take-suc, length-take-le}
-use Rattle.std.proofs.lemmas.List.{take_at, append_assoc}
-use native.Mathlib.Nat.{div-one}
+use lib.Seq.{take-suc, take-suc-set, append_snoc}
+use Rattle.frames.specs.Line.{capacity}
 use Rattle.encoding.specs.declared.Frame.{Frame}
 use Rattle.encoding.specs.Bytes.{big_endian, number_in}
 use Rattle.encoding.specs.Inputs.{held}
 use Rattle.encoding.proofs.NumberBack.{big-endian-length}
 
--- The last bytes of the four that std gives
-last-bytes : (width v : ℕ) → width ≤ 4 → take (4 - (4 - width)) (drop (4 - width) (to_be_bytes w32 v)) ≡ big_endian width v
-unfolding big_endian
-last-bytes zero v h = refl
-last-bytes (suc zero) v h = rw div-one refl
-last-bytes (suc (suc zero)) v h = rw div-one refl
-last-bytes (suc (suc (suc zero))) v h = rw div-one refl
-last-bytes (suc (suc (suc (suc zero)))) v h = rw div-one refl
-last-bytes (suc (suc (suc (suc (suc n))))) v h = absurd (omega arith)
+-- A number of `width` bytes behind the first `count` bytes of a frame that held `before`: i of its bytes are written.
+pub record Appending (before bytes : List ℕ) (count width number i : ℕ) : Type 0 where
+  pub long : length bytes ≡ capacity
+  pub within : i ≤ width
+  pub room : count + width ≤ capacity
+  pub narrow : width ≤ 4
+  pub so_far : take (count + i) bytes ++ big_endian (width - i) number ≡ take count before ++ big_endian width number
 
--- A number of `width` bytes, written behind the first `count` bytes of a frame, stands behind what the frame held.
-pub appended : (bytes after : List ℕ) (count width number : ℕ) → count + width ≤ length bytes → width ≤ 4
-    → after ≡ take (4 - (4 - width)) (drop (4 - width) (to_be_bytes w32 number))
-    → take (count + width) (put_mid count (count + width - count) bytes after) ≡ take count bytes ++ big_endian width number
-appended bytes after count width number room narrow e =
-    let front = take count bytes in
-    let wide : length (front ++ big_endian width number) ≡ count + width =
-    omega (arith, length-append front (big_endian width number), length-take-le count bytes (omega arith), big-endian-length width number) in
-    rw (e, last-bytes width number narrow, ← append_assoc) (take_at (front ++ big_endian width number) _ (count + width) wide)
+-- Nothing is written yet.
+pub appended-none : {bytes : List ℕ} {count width : ℕ} (number : ℕ) → length bytes ≡ capacity → count + width ≤ capacity → width ≤ 4
+    → Appending bytes bytes count width number 0
+appended-none number full room narrow =
+    record { long = full; within = omega arith; room = room; narrow = narrow; so_far = rw (add-zero, sub-zero) refl }
+
+module _ {before bytes : List ℕ} {count width number i : ℕ} (part : Appending before bytes count width number i) where
+  -- One byte more is written, the highest of those that are left.
+  pub appended-more : i < width
+      → Appending before (set bytes (count + i) (number / 2 ^ (8 * (width - 1 - i)) % 256)) count width number (i + 1)
+  unfolding big_endian
+  appended-more more =
+      let some : width - i ≡ suc (width - 1 - i) = omega arith in
+      let left : width - (i + 1) ≡ width - 1 - i = omega arith in
+      let next : count + (i + 1) ≡ suc (count + i) = omega arith in
+      let at = count + i in
+      let byte = number / 2 ^ (8 * (width - 1 - i)) % 256 in
+      record {
+        long = length-set bytes at byte ∙ part.long;
+        within = omega arith;
+        room = part.room;
+        narrow = part.narrow;
+        so_far =
+            rw (left, next, take-suc-set bytes at byte (omega arith), append_snoc (take at bytes) byte (big_endian (width - 1 - i) number))
+            (rw some at part.so_far);
+      }
+
+  -- All are: the frame has the whole number.
+  pub appended-all : i ≡ width → take (count + width) bytes ≡ take count before ++ big_endian width number
+  unfolding big_endian
+  appended-all all =
+      let none : width - width ≡ 0 = omega arith in
+      rw (all, none, append-nil) at part.so_far
 
 -- The number of one byte more
 number-snoc : (bytes : List ℕ) (byte : ℕ) → number_in (bytes ++ (byte ∷ [])) ≡ number_in bytes * 256 + byte

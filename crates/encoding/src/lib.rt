@@ -32,16 +32,18 @@ impl Frame {
         }
     }
 
-    // inner: the frame with a number of `width` bytes behind what it has.
+    // inner: the frame with a number of `width` bytes behind what it has. Byte by byte: `copy_from_slice` of the last of `to_be_bytes` calls
+    // memcpy for them, and putting a line then took half as long again.
     pub fn with(mut self, width: usize, number: u32) -> Frame
         requires { WidthInput self.count width }
         ensures result_value { held result ≡ held self ++ big_endian width number }
         ensures count_value { result.count ≡ self.count + width }
     {
         let start = self.count;
-        let end = start + width;
-        self.bytes[start..end].copy_from_slice(&number.to_be_bytes()[4 - width..]);
-        self.count = end;
+        for i in 0..width {
+            self.bytes[start + i] = ((number >> (8 * (width - 1 - i))) % 256) as u8;
+        }
+        self.count = start + width;
         self
     }
 }

@@ -1,22 +1,19 @@
 // Numbers in bytes, and entries: which of them fit their 3 bytes, and two's complement. 2^24 and 2^23 stand here and nowhere else.
-ghost use Rattle.std.specs.Prelude.{◌≡◌, true, ◌*◌, ◌^◌, ◌<◌, take, drop};
+ghost use Rattle.std.specs.Prelude.{◌≡◌, true, ◌*◌, ◌^◌, ◌≤◌, ◌<◌, length};
 ghost use Rattle.encoding.specs.Bytes.{number_in, entry_bytes, fits_signed, from_complement};
 ghost use Rattle.encoding.specs.Bytes as Bytes;
-ghost use Rattle.encoding.specs.Inputs.{WidthInput};
-
-use frames::CAPACITY;
 
 // How many bytes an entry takes.
 pub const ENTRY_BYTES: usize = 3;
 
-// inner: the number in `width` bytes, from a place on.
-pub fn number_in(bytes: &[u8; CAPACITY], from: usize, width: usize) -> u32
-    requires { WidthInput from width }
-    ensures value { result ≡ number_in (take width (drop from bytes.now)) }
-    ensures upper_bound { result < 2 ^ (8 * width) }
+// inner: the number in bytes, of which there are at most four.
+pub fn number_in(bytes: &[u8]) -> u32
+    requires { length bytes.now ≤ 4 }
+    ensures value { result ≡ number_in bytes.now }
+    ensures upper_bound { result < 2 ^ (8 * length bytes.now) }
 {
     let mut number: u32 = 0;
-    for byte in &bytes[from..from + width] {
+    for byte in bytes {
         number = number * 256 + *byte as u32;
     }
     number

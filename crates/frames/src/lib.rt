@@ -1,16 +1,15 @@
 // Lines of hexadecimal as frames of bytes, and the frame that holds a design.
 #![tactic(auto)]
 
-ghost use Rattle.std.specs.Prelude.{◌≡◌, ◌<◌, length};
-ghost use Rattle.refusal.specs.Checks.{verdict};
+ghost use Rattle.std.specs.Prelude.{◌≡◌, ◌<◌, IfOk, length};
+ghost use Rattle.refusal.specs.Checks.{verdict, verdict_of};
 ghost use Rattle.frames.specs.Hex.{digit_value};
 ghost use Rattle.frames.specs.Line.{length_fails, decoded_digits, decoded};
 ghost use Rattle.frames.specs.Inputs.{digit_numbers, EvenDigits};
 ghost use Rattle.frames.specs.DesignFrame.{frame_checks, frame_pair, frame_design, first_checks};
 ghost use Rattle.frames.specs.DesignText.{design_line};
 
-use design::legal::design_verdict;
-use design::{Design, NO_PAIR, Pair};
+use design::{Design, LegalDesign, NO_PAIR, Pair};
 use refusal::Cause;
 
 // The longest line, in digits.
@@ -117,8 +116,8 @@ fn frame_pair(bytes: &[u8; CAPACITY], i: usize) -> Pair
     }
 }
 
-// The design that a frame holds, unchecked: whether it is legal is for the caller to ask.
-pub fn frame_design(frame: &Decoded) -> Design
+// The design that a frame holds, unchecked.
+fn frame_design(frame: &Decoded) -> Design
     ensures { result ≡ frame_design frame.now.bytes }
 {
     let bytes = &frame.bytes;
@@ -138,12 +137,14 @@ pub fn frame_design(frame: &Decoded) -> Design
     }
 }
 
-// Everything that is tried on the first frame of a set before the tables' lengths are: the refusal 16, then 1 to 9 of the design in it.
-pub fn first_verdict(frame: &Decoded) -> Result<(), Cause>
-    ensures { result ≡ verdict (first_checks frame.now.bytes frame.now.count) }
+// The design that the first frame of a set holds, by everything that is tried on it before the tables' lengths are: the refusal 16, then 1
+// to 9 of the design.
+pub fn first_design(frame: &Decoded) -> Result<LegalDesign, Cause>
+    ensures verdict { verdict_of result ≡ verdict (first_checks frame.now.bytes frame.now.count) }
+    ensures held { IfOk result (λ legal. legal.design ≡ frame_design frame.now.bytes) }
 {
     frame_verdict(frame)?;
-    design_verdict(frame_design(frame))
+    frame_design(frame).checked()
 }
 
 // The legal design on a line that has to hold one and stands by itself, as the report's does: the refusals 15, 16, then 1 to 9.
@@ -151,6 +152,6 @@ pub fn design_line(line: &[u8]) -> Result<Design, Cause>
     ensures { result ≡ design_line line.now }
 {
     let frame = decode(line)?;
-    first_verdict(&frame)?;
-    Ok(frame_design(&frame))
+    let legal = first_design(&frame)?;
+    Ok(legal.design)
 }

@@ -31,7 +31,7 @@ ghost use Rattle.reading.specs.Inputs.{Sound, Begun};
 use design::{Design, LegalDesign};
 use encoding::Frame;
 use encoding::numbers::{from_complement, number_in};
-use frames::{Decoded, decode, first_verdict, frame_design};
+use frames::{Decoded, decode, first_design};
 use lines::{Slot, entry_over, entry_width, head_of, line_count, slot_of};
 use refusal::Cause;
 use tables::short_tables;
@@ -114,12 +114,14 @@ fn first_line(
     ensures { result ≡ answer (due_verdict state initial offsets (take frame.count frame.bytes))
         (next_state state (take frame.count frame.bytes)) }
 {
-    first_verdict(&frame)?;
-    let design = frame_design(&frame);
-    if short_tables(LegalDesign { design }, initial, offsets) {
+    let legal = first_design(&frame)?;
+    if short_tables(legal, initial, offsets) {
         return Err(Cause::TablesShort);
     }
-    Ok(Reading { design, taken: 1 })
+    Ok(Reading {
+        design: legal.design,
+        taken: 1,
+    })
 }
 
 // The state after a sound line with others taken before it.
@@ -148,7 +150,7 @@ fn later_line(
     if head_fails(head, width, frame) {
         return Err(Cause::Frame);
     }
-    let number = number_in(&frame.bytes, head.count, width);
+    let number = number_in(&frame.bytes[head.count..head.count + width]);
     let over = entry_over(legal, slot, number);
     let short = short_tables(legal, initial.len(), offsets.len());
     if over {

@@ -4,3 +4,4 @@ pub mod WindowLaws
 pub mod ColonLaws
 pub mod AskedLaws
 pub mod GivenLaws
+pub mod LengthLaws

@@ -1,6 +1,6 @@
 -- The report by the verdict on its line: a refusal gives the text, and of a line that passes the design does.
 use Rattle.std.specs.Prelude.{Ok, Err}
-use mathlib.Core.Path.{◌≡◌, sym, ap, ◌∙◌}
+use mathlib.Core.Path.{◌≡◌, sym, ◌∙◌}
 use mathlib.Core.List.{List}
 use Prim.Native.Nat.{ℕ, ◌+◌, ◌≤◌, ◌<◌}
 use native.Mathlib.Decide.{dec_le}
@@ -8,33 +8,27 @@ use native.Mathlib.Omega.{arith}
 use lib.ListN.{length, take}
 use lib.Seq.{take_all, length-take-le}
 use Rattle.refusal.specs.declared.Cause.{Cause}
-use Rattle.refusal.specs.Verdict.{Verdict}
 use Rattle.design.specs.Legal.{Legal}
-use Rattle.frames.specs.declared.DesignLine.{DesignLine}
+use Rattle.design.specs.declared.Design.{Design}
 use Rattle.frames.specs.Line.{longest_line, line_checks}
-use Rattle.frames.specs.DesignText.{design_line_verdict, design_line}
+use Rattle.frames.specs.DesignText.{design_line}
 use Rattle.frames.proofs.LineLaws.{long-fails}
-use Rattle.frames.proofs.DesignLaws.{line_refused, design-in, design-legal}
+use Rattle.frames.proofs.DesignLaws.{line_refused, line-told, line-design}
 use Rattle.report_text.specs.Words.{text_of}
 use Rattle.report_text.specs.Report.{design_text, refused_text, report_of}
 
--- The line's verdict and the design on it, as `design_line` gives them
-module _ (line : List ℕ) (read : DesignLine) (read_is : read ≡ design_line line) where
-  verdict-told : {v : Verdict} → read.verdict ≡ v → design_line_verdict line ≡ v
-  unfolding design_line
-  verdict-told e = sym (ap (λ (r : DesignLine). r.verdict) read_is) ∙ e
-
-  pub refused-line : (cause : Cause) → read.verdict ≡ Err cause → text_of (refused_text cause) ≡ report_of line
+-- The report by what `design_line` gives
+module _ (line : List ℕ) where
+  pub refused-line : (cause : Cause) → Err cause ≡ design_line line → text_of (refused_text cause) ≡ report_of line
   unfolding report_of
-  refused-line cause e = rw (verdict-told e)
+  refused-line cause e = rw (line-told line cause (sym e))
 
-  module _ (passed : read.verdict ≡ (Ok tt)) where
-    pub legal-line : Legal read.design
-    legal-line = rw read_is (design-legal line (verdict-told passed))
+  pub legal-line : (d : Design) → Ok d ≡ design_line line → Legal d
+  legal-line d e = (line-design line d (sym e)).2
 
-    pub passed-line : text_of (design_text read.design) ≡ report_of line
-    unfolding report_of
-    passed-line = rw (verdict-told passed, read_is, design-in line (verdict-told passed))
+  pub passed-line : (d : Design) → Ok d ≡ design_line line → text_of (design_text d) ≡ report_of line
+  unfolding report_of
+  passed-line d e = let given = line-design line d (sym e) in rw (given.0, given.1)
 
 -- A line that is longer than the longest is refused, whatever stands in it.
 long-refused : (line : List ℕ) → longest_line < length line → text_of (refused_text Cause.Line) ≡ report_of line

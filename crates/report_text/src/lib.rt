@@ -1,15 +1,13 @@
 // The report's one line of text.
 #![tactic(auto)]
 
-ghost use Rattle.std.specs.Prelude.{◌≡◌, cond, List, [], ◌++◌, ℕ, ◌+◌, ◌≤◌, length};
-ghost use Rattle.design.specs.Legal.{Legal};
-ghost use Rattle.sizing.specs.Size.{size};
+ghost use Rattle.std.specs.Prelude.{◌≡◌, List, [], ◌++◌, ℕ, ◌+◌, ◌≤◌, length};
 ghost use Rattle.report_text.specs.Words.{decimal, text_of};
 ghost use Rattle.report_text.specs.Report.{line_text, refused_text, report_of};
 
-use design::Design;
-use design::measure::{budget_of, limit_of};
+use design::LegalDesign;
 use frames::design_line;
+use itoa::Buffer;
 use refusal::Cause;
 use sizing::size_of;
 
@@ -23,7 +21,8 @@ pub struct Text {
 impl Text {
     // No text yet.
     fn new() -> Text
-        ensures { result ≡ text_of [] }
+        ensures text { result ≡ text_of [] }
+        ensures count { result.count ≡ 0 }
     {
         Text {
             bytes: [0u8; 96],
@@ -34,35 +33,22 @@ impl Text {
     // The text with the word behind it. The caller sees to it that the word fits.
     fn word(self, word: &[u8]) -> Text
         requires { self.count + length word.now ≤ 96 }
-        ensures { (t : List ℕ) → self ≡ text_of t → result ≡ text_of (t ++ word.now) }
+        ensures count { result.count ≡ self.count + length word.now }
+        ensures text { (t : List ℕ) → self ≡ text_of t → result ≡ text_of (t ++ word.now) }
     {
-        let mut bytes = self.bytes;
-        let start = self.count;
-        let mut i = 0;
-        while i < word.len() {
-            bytes[start + i] = word[i];
-            i += 1;
-        }
-        let count = start + i;
-        Text { bytes, count }
+        let Text { mut bytes, count } = self;
+        let end = count + word.len();
+        bytes[count..end].copy_from_slice(word);
+        Text { bytes, count: end }
     }
 
-    // The text with n's decimal digits behind it. Division gives the last digit first, so they are written from the end of
-    // an array of 20, which hold every n. The caller sees to it that 20 digits fit.
+    // The text with n's decimal digits behind it. The caller sees to it that 20 digits fit, which hold every n.
     fn decimal(self, n: u64) -> Text
         requires { self.count + 20 ≤ 96 }
-        ensures { (t : List ℕ) → self ≡ text_of t → result ≡ text_of (t ++ decimal n) }
+        ensures count { result.count ≤ self.count + 20 }
+        ensures text { (t : List ℕ) → self ≡ text_of t → result ≡ text_of (t ++ decimal n) }
     {
-        let mut digits = [0u8; 20];
-        let mut at: usize = 19;
-        let mut rest = n;
-        while 10 <= rest {
-            digits[at] = b'0' + (rest % 10) as u8;
-            rest /= 10;
-            at -= 1;
-        }
-        digits[at] = b'0' + rest as u8;
-        self.word(&digits[at..])
+        self.word(Buffer::new().format(n).as_bytes())
     }
 }
 
@@ -72,7 +58,7 @@ pub fn refused(cause: Cause) -> Text
 {
     Text::new()
         .word(b"REFUSED ")
-        .decimal(refusal::number(cause) as u64)
+        .decimal(u64::from(u8::from(cause)))
         .word(b"\n")
 }
 
@@ -94,30 +80,18 @@ fn measured(budget: u64, limit: u64, bits: u64, admitted: bool) -> Text
     }
 }
 
-// The size of a legal design if it is admitted, else 0.
-fn bits_if(admitted: bool, d: Design) -> u64
-    requires { Legal d }
-    ensures { result ≡ cond admitted (size d) 0 }
-{
-    if admitted {
-        return size_of(d);
-    }
-    0
-}
-
 // The report on a design's line: the checks in order, each passed before the next is tried, then the numbers.
 pub fn report(line: &[u8]) -> Text
     ensures { result ≡ report_of line.now }
 {
-    let read = design_line(line);
-    let verdict = read.verdict;
-    if let Err(cause) = verdict {
-        return refused(cause);
-    }
-    let d = read.design;
-    let budget = budget_of(d);
-    let limit = limit_of(d);
+    let design = match design_line(line) {
+        Ok(design) => design,
+        Err(cause) => return refused(cause),
+    };
+    let legal = LegalDesign { design };
+    let budget = legal.budget();
+    let limit = design.limit();
     let admitted = budget < limit;
-    let bits = bits_if(admitted, d);
+    let bits = if admitted { size_of(legal) } else { 0 };
     measured(budget, limit, bits, admitted)
 }

@@ -14,7 +14,6 @@ use crate::cuts::each_segment_bits;
 use crate::prefix::Prefix;
 use crate::slopes::{SPREADS, least_spread, slopes_by_a};
 use design::limits::{LEAST_INITIAL_BITS, MOST_INITIAL_BITS, MOST_OFFSET_BITS, MOST_TABLES};
-use design::measure::limit_of;
 use design::{Design, NO_PAIR};
 use sizing::initial_size;
 use values::slopes::LargestSlopes;
@@ -31,7 +30,7 @@ fn each_table_count(
 {
     let left = d.w - d.alpha;
     let bits = initial_size(d.alpha, d.q + d.g);
-    let limit = limit_of(d);
+    let limit = d.limit();
     let least = least_spread(slopes, d.alpha);
     let mut found = best;
     for m in 1..MOST_TABLES + 1 {

@@ -8,7 +8,7 @@ use design::limits::MOST_TABLE_BITS;
 use values::rows::row_of;
 use values::slopes::{LargestSlopes, Segments};
 
-// So many spreads, by a: a table has at least one bit of B, so a is below the highest a + b.
+// Slopes are kept by a: a table has at least one bit of B, so a is below the highest a + b.
 pub const SPREADS: usize = MOST_TABLE_BITS as usize;
 
 // Both by a, for kind and widths that pass. Those of a 0 and of a at w and beyond are left 0.

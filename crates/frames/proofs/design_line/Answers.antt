@@ -10,13 +10,13 @@ returns-in_err-frame c =
     let r = err_from_is_err_and c.from_residual.result c.from_residual.ensures.1 in
     rw (r.1, r.2) (unsound-line _ _ (line-refused _ _ (sym c.decode.ensures ∙ c.in_err-frame.was)))
 
-pub returns-in_err-first_verdict : goal.returns-in_err-first_verdict
-returns-in_err-first_verdict c =
-    let r = err_from_is_err_and c.from_residual-in_err-first_verdict.result c.from_residual-in_err-first_verdict.ensures.1 in
-    rw (r.1, r.2)
-    (unsound_frame _ _ (sym c.decode.ensures ∙ c.in_ok-frame.was) _ (sym c.in_err-first_verdict.was ∙ c.first_verdict.ensures))
+pub returns-in_err-legal : goal.returns-in_err-legal
+returns-in_err-legal c =
+    let from = c.from_residual-in_err-legal in
+    let r = err_from_is_err_and from.result from.ensures.1 in
+    rw (r.1, r.2) (unsound_frame _ _ (sym c.decode.ensures ∙ c.in_ok-frame.was) _ c.in_err-legal.ensures.verdict)
 
 pub returns : goal.returns
 returns c =
-    sound-line _ _ (sym c.decode.ensures ∙ c.in_ok-frame.was) (sym c.in_ok-first_verdict.was ∙ c.first_verdict.ensures) _
-    c.frame_design.ensures
+    let e = c.in_ok-legal.ensures in
+    sound-line _ _ (sym c.decode.ensures ∙ c.in_ok-frame.was) e.verdict _ e.held

@@ -2,12 +2,12 @@
 use mathlib.Core.Path.{◌≡◌, ◌∙◌}
 use mathlib.Core.Bool.{Bool}
 use mathlib.Core.List.{List}
-use Prim.Native.Nat.{ℕ, ◌+◌, ◌*◌, ◌^◌, ◌≤◌, ◌<◌}
+use Prim.Native.Nat.{ℕ, ◌+◌, ◌-◌, ◌*◌, ◌^◌, ◌≤◌, ◌<◌}
 use native.Mathlib.Nat.{lt_of_lt_of_le}
 use native.Mathlib.Omega.{arith}
 use borrow.Author.Rules.{rules}
 use lib.IntN.{ℤ}
-use lib.ListN.{length, take, drop}
+use lib.ListN.{length, take, drop, length-take}
 use lib.Pow.{pow_mono}
 use Rattle.general.proofs.Tests.{tested}
 use Rattle.design.specs.declared.Design.{Design}
@@ -35,6 +35,10 @@ use Rattle.reading.proofs.LineSteps.{
 }
 use Rattle.reading.proofs.later_line.Goals as goal
 
+-- `&bytes[at..at + width]`
+abbrev part : ℕ → ℕ → List ℕ → List ℕ
+part at width bytes = take (at + width - at) (drop at bytes)
+
 -- What line n holds, and its head, as the calls tell them.
 module _ (d : Design) (n : ℕ) (slot : Slot) (head : Frame) (slot_is : slot ≡ slot_of d n) (head-is : held head ≡ frame_head d slot)
     (count-is : head.count ≡ length (frame_head d slot)) where
@@ -50,14 +54,20 @@ module _ (d : Design) (n : ℕ) (slot : Slot) (head : Frame) (slot_is : slot ≡
 
   -- and the number behind the head is that of the entry.
   number_is : (width : ℕ) (bytes : List ℕ) (result : ℕ) → width ≡ entry_width slot
-      → result ≡ number_in (take width (drop head.count bytes)) → result ≡ entry_in d (slot_of d n) bytes
+      → result ≡ number_in (part head.count width bytes) → result ≡ entry_in d (slot_of d n) bytes
   unfolding entry_in
-  number_is width bytes result width_is promise = promise ∙ rw (width_is, count-is, slot_is)
+  number_is width bytes result width_is promise =
+      let size : head.count + width - head.count ≡ width = omega arith in
+      promise ∙ rw (size, width_is, count-is, slot_is)
 
 -- An entry's bytes are so few that the number in them is small.
-narrow : (slot : Slot) (width number : ℕ) → width ≡ entry_width slot → number < 2 ^ (8 * width) → number < 2 ^ (8 * entry_bytes)
-narrow slot width number width_is h =
-    lt_of_lt_of_le h (pow_mono {j = 8 * entry_bytes} (omega (arith, width_is, entry-short slot)))
+few : (slot : Slot) (at width : ℕ) (bytes : List ℕ) → width ≡ entry_width slot → length (part at width bytes) ≤ entry_bytes
+few slot at width bytes width_is = omega (arith, width_is, entry-short slot, length-take (at + width - at) (drop at bytes))
+
+narrow : (slot : Slot) (at width : ℕ) (bytes : List ℕ) (number : ℕ) → width ≡ entry_width slot
+    → number < 2 ^ (8 * length (part at width bytes)) → number < 2 ^ (8 * entry_bytes)
+narrow slot at width bytes number width_is h =
+    lt_of_lt_of_le h (pow_mono {j = 8 * entry_bytes} (omega (arith, few slot at width bytes width_is)))
 
 -- Whether an entry is over, and what is stored, by the line's own slot and number
 module _ (d : Design) (n : ℕ) (slot : Slot) (number : ℕ) (bytes : List ℕ) (slot_is : slot ≡ slot_of d n)
@@ -87,15 +97,22 @@ returns-then-head_fails c =
     refused-outcome _ c.args.initial.now c.args.offsets.now _ _
     (other-due _ _ (search rules) c.requires.sound _ c.requires.begun _ _ (due-told _ _ _ _ c.slot_of-slot.ensures c.head_of-head.ensures.result_value c.head_of-head.ensures.count_value _ _ _ _ _ c.entry_width-width.ensures c.head_fails.ensures c.if-head_fails.true))
 
+pub overflow_add-head : goal.overflow_add-head
+overflow_add-head c =
+    let fits = frame-fits _ _ _ _ c.slot_of-slot.ensures c.head_of-head.ensures.result_value c.head_of-head.ensures.count_value _
+    c.requires.begun.legal c.entry_width-width.ensures in
+    omega (arith, fits)
+
+pub slice_bounds-number_in-end : goal.slice_bounds-number_in-end
+slice_bounds-number_in-end c =
+    let full : length c.args.frame.bytes ≡ capacity = search rules in
+    let fits = frame-fits _ _ _ _ c.slot_of-slot.ensures c.head_of-head.ensures.result_value c.head_of-head.ensures.count_value _
+    c.requires.begun.legal c.entry_width-width.ensures in
+    omega (arith, full, fits)
+
 pub number_in-number-requires : goal.number_in-number-requires
 number_in-number-requires c =
-    let width_is = c.entry_width-width.ensures in
-    record {
-      narrow = omega (arith, width_is, entry-short c.slot_of-slot.result);
-      room =
-          frame-fits _ _ _ _ c.slot_of-slot.ensures c.head_of-head.ensures.result_value c.head_of-head.ensures.count_value _
-          c.requires.begun.legal width_is;
-    }
+    omega (arith, few _ c.head_of-head.result.count _ c.args.frame.bytes c.entry_width-width.ensures)
 
 pub returns-then-over : goal.returns-then-over
 returns-then-over c =
@@ -114,7 +131,7 @@ store-requires c =
     let b = c.requires.begun in record {
       slot_in = rw c.slot_of-slot.ensures
           (slot-in _ _ _ _ (usable _ _ _ (set-lengths _ _ _ _ b.legal (tested c.short_tables-short.ensures c.if-short.false))) (rw c.line_count.ensures at c.if-line_count-state.false));
-      number_bound = narrow c.slot_of-slot.result _ _ c.entry_width-width.ensures c.number_in-number.ensures.upper_bound;
+      number_bound = narrow c.slot_of-slot.result _ _ _ _ c.entry_width-width.ensures c.number_in-number.ensures.upper_bound;
     }
 
 -- where the entry is stored

@@ -3,7 +3,6 @@ use mathlib.Core.Path.{◌≡◌, sym, ◌∙◌}
 use Prim.Native.Nat.{ℕ, ◌+◌, ◌-◌, ◌*◌, ◌^◌, ◌≤◌, ◌<◌}
 use lib.IntN.{pos}
 use native.Mathlib.Omega.{arith}
-use lib.Pow.{pow_pos}
 use Rattle.general.specs.Digits.{Digits}
 use Rattle.entries.specs.Entries.{magnitude}
 use Rattle.entries.specs.Inputs.{OffsetInput, reach_bound}
@@ -35,9 +34,6 @@ pub returns : goal.returns
 returns c =
     let t = c.before in
     counted _ _ _ _ _ _ t.requires t.pow2.ensures t.magnitude_of-t.ensures c.digit_count.ensures
-
-pub overflow_sub-pow2 : goal.overflow_sub-pow2
-overflow_sub-pow2 c = rw c.pow2.ensures (pow_pos _)
 
 pub magnitude_of-t-requires : goal.magnitude_of-t-requires
 magnitude_of-t-requires c = let fit = c.requires in (asked _ _ _ _ fit c.pow2.ensures, omega (arith, fit.bits))

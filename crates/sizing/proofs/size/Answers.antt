@@ -1,10 +1,10 @@
 -- `sizing::size` meets its contract: the verdict's refusal, 11 of a legal design that is not admitted, or the size.
 use Rattle.std.specs.Prelude.{Ok, Err, Result}
-use mathlib.Core.Path.{◌≡◌, refl, sym, ◌∙◌}
+use mathlib.Core.Path.{◌≡◌, refl, sym}
 use Prim.Native.Nat.{ℕ}
 use Rattle.refusal.specs.declared.Cause.{Cause}
 use Rattle.design.specs.declared.Design.{Design}
-use Rattle.design.specs.Legal.{Legal, design_checks, design_verdict}
+use Rattle.design.specs.Legal.{design_checks, design_verdict}
 use Rattle.refusal.specs.Told.{told_by}
 use Rattle.design.proofs.LegalLaws.{limits, guard_small}
 use Rattle.design.proofs.AdmittedLaws.{refused-before, not-admitted, admitted}

@@ -8,5 +8,5 @@ use Rattle.console.proofs.Console.read_line.Goals as goal
 
 pub returns-clause-line : goal.returns-clause-line
 returns-clause-line g c =
-    let long : longest_line < length c.read_start-start.new.bytes = search rules in
-    whole-line _ _ long c.read_start-start.ensures.start
+    let long : longest_line < length c.read_start.new.bytes = search rules in
+    whole-line _ _ long c.in_ok-count.ensures.start

@@ -1,35 +1,37 @@
 -- `console::Console::read_start` meets its contract: no newline is stored, and the bytes that were taken are those of the line.
+use mathlib.Core.Path.{◌∙◌}
 use native.Mathlib.Omega.{arith}
-use borrow.Author.Rules.{rules}
 use Rattle.console.proofs.LineLaws.{one_more, by-input}
 use Rattle.console.proofs.TakeLaws.{takes-byte, takes-end, end_kept, line-more, line-newline, line-end}
 use Rattle.console.proofs.Console.read_start.Goals as goal
 
-pub returns-then-next-clause-start : goal.returns-then-next-clause-start
-returns-then-next-clause-start g c =
-    let l = c.loop-count in
-    rw c.last_end.ensures
-    (by-input _ l.bytes l.count (omega (arith, l.invariant.0, l.invariant.1)) l.invariant.4
-    (end_kept _ _ _ _ c.next_byte-next.ensures c.if-next.true))
+pub returns-in-None-clause-start : goal.returns-in-None-clause-start
+returns-in-None-clause-start g c = end_kept _ _ _ c.next_byte.ensures.value c.in-None.is
 
-pub returns-then-next-clause-taken : goal.returns-then-next-clause-taken
-returns-then-next-clause-taken g c =
+pub returns-in-None-clause-taken : goal.returns-in-None-clause-taken
+returns-in-None-clause-taken g c =
     let l = c.loop-count in
-    rw c.last_end.ensures
-    (line-end _ _ _ _ _ _ _ l.count l.invariant.3 (takes-end _ _ _ _ c.next_byte-next.ensures c.if-next.true))
+    rw c.if-count-eq0.true at (line-end _ _ _ _ l.invariant.taken (takes-end _ _ _ c.next_byte.ensures.value c.in-None.is))
 
-pub returns-then-b-eq10-clause-taken : goal.returns-then-b-eq10-clause-taken
-returns-then-b-eq10-clause-taken g c =
+pub returns-in-None-2-clause-start : goal.returns-in-None-2-clause-start
+returns-in-None-2-clause-start g c =
     let l = c.loop-count in
-    line-newline _ _ _ _ _ _ _ _ l.invariant.3 (takes-byte _ _ _ _ c.next_byte-next.ensures c.if-next.false) c.if-b-eq10.true
+    by-input _ l.bytes l.count (omega arith) l.invariant.no-newline (omega arith) (end_kept _ _ _ c.next_byte.ensures.value c.in-None-2.is)
+
+pub returns-in-None-2-clause-taken : goal.returns-in-None-2-clause-taken
+returns-in-None-2-clause-taken g c = line-end _ _ _ _ c.loop-count.invariant.taken (takes-end _ _ _ c.next_byte.ensures.value c.in-None-2.is)
+
+pub returns-in-Some-eq10-clause-taken : goal.returns-in-Some-eq10-clause-taken
+returns-in-Some-eq10-clause-taken g c =
+    line-newline _ _ _ _ _ c.loop-count.invariant.taken (takes-byte _ _ _ c.next_byte.ensures.value _ c.in-Some-eq10.is)
+    c.in-Some-eq10.field-0-test
 
 pub loop-count-preserved : goal.loop-count-preserved
 loop-count-preserved g c =
     let l = c.loop-count in
-    let n = c.next_byte-next in (
-      search rules,
-      search rules,
-      search rules,
-      line-more _ _ _ _ _ _ l.bytes l.count _ (omega arith) l.invariant.3 (takes-byte _ _ _ _ n.ensures c.if-next.false),
-      one_more l.bytes l.count _ (omega arith) l.invariant.4 c.if-b-eq10.false,
-    )
+    let b = c.in-Some.b in
+    record {
+      taken = line-more _ _ _ l.bytes l.count b (omega arith) l.invariant.taken (takes-byte _ _ _ c.next_byte.ensures.value b c.in-Some.is);
+      no-newline = one_more l.bytes l.count b (omega arith) l.invariant.no-newline c.in-Some.b-test.1;
+      output = c.next_byte.ensures.output ∙ l.invariant.output;
+    }

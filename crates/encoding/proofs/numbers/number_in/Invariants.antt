@@ -3,4 +3,4 @@ use Rattle.encoding.proofs.NumberBytes.{Counting}
 use Rattle.encoding.proofs.numbers.number_in.Given as goal
 
 abbrev pub invariant-loop-byte : goal.invariant-loop-byte
-invariant-loop-byte l = Counting l.byte-items l.number l.byte-index
+invariant-loop-byte l = Counting l.bytes l.number l.byte-index

@@ -1,52 +1,19 @@
--- `Text::decimal` meets its contract. The invariant is `Written`; once one digit is left, all of n's stand at the end of the array.
-use native.Mathlib.Omega.{arith}
+-- `Text::decimal` meets its contract: the digits that `itoa` gives are those of the definition.
+use mathlib.Core.Path.{◌≡◌, ◌∙◌}
 use borrow.Author.Rules.{rules}
-use lib.ListN.{length-set, length-take}
-use Rattle.report_text.proofs.DecimalLaws.{none_written, room-before, digit-written, all-written}
+use Rattle.std.proofs.lemmas.Fmt.{length-decimal-le}
+use Rattle.report_text.specs.Words.{decimal}
+use Rattle.report_text.proofs.DecimalLaws.{decimal-is}
 use Rattle.report_text.proofs.Text.decimal.Goals as goal
 
-pub loop-rest-init : goal.loop-rest-init
-loop-rest-init c = none_written c.args.n (search rules)
-
-pub overflow_cast-digits : goal.overflow_cast-digits
-overflow_cast-digits c = omega arith
-
-pub overflow_add-digits : goal.overflow_add-digits
-overflow_add-digits c = omega arith
-
-pub bounds-digits-at : goal.bounds-digits-at
-bounds-digits-at c = omega arith
-
-pub overflow_sub-at : goal.overflow_sub-at
-overflow_sub-at c = room-before c.loop-rest.invariant c.loop-rest-test.true
-
-pub loop-rest-smaller : goal.loop-rest-smaller
-loop-rest-smaller c = omega arith
-
-pub loop-rest-preserved : goal.loop-rest-preserved
-loop-rest-preserved c = digit-written c.loop-rest.invariant c.loop-rest-test.true
-
-pub overflow_cast-digits-2 : goal.overflow_cast-digits-2
-overflow_cast-digits-2 c = omega arith
-
-pub overflow_add-digits-2 : goal.overflow_add-digits-2
-overflow_add-digits-2 c = omega arith
-
-pub bounds-digits-at-2 : goal.bounds-digits-at-2
-bounds-digits-at-2 c = omega arith
-
-pub slice_bounds-word-count : goal.slice_bounds-word-count
-slice_bounds-word-count c = omega arith
-
-pub slice_bounds-word-start : goal.slice_bounds-word-start
-slice_bounds-word-start c = omega arith
-
-pub slice_bounds-word-end : goal.slice_bounds-word-end
-slice_bounds-word-end c = simp length-set (omega arith)
-
 pub word-requires : goal.word-requires
-word-requires c = simp length-take (omega arith)
+word-requires c = search (rules, length-decimal-le 20)
 
-pub returns : goal.returns
-returns c t e =
-    rw (← all-written c.loop-rest.invariant c.loop-rest-test.false) (c.word.ensures t e)
+pub returns-clause-count : goal.returns-clause-count
+returns-clause-count c = search (rules, length-decimal-le 20)
+
+pub returns-clause-text : goal.returns-clause-text
+returns-clause-text c t e =
+    let digits : c.as_bytes.result.now ≡ decimal c.args.n =
+    c.as_bytes.ensures.value ∙ c.format.ensures.text ∙ decimal-is c.args.n (search rules) in
+    rw (← digits) (c.word.ensures.text t e)

@@ -3,6 +3,6 @@ use mathlib.Core.Path.{refl}
 use Rattle.report_text.specs.Words.{text_of}
 use Rattle.report_text.proofs.Text.new.Goals as goal
 
-pub returns : goal.returns
+pub returns-clause-text : goal.returns-clause-text
 unfolding text_of
-returns c = refl
+returns-clause-text c = refl

@@ -59,8 +59,8 @@ overflow_add-d c = omega (arith, (widths-of _ _ _ _ c.requires.0.widths).room.s-
 pub initial_size-bits-requires : goal.initial_size-bits-requires
 initial_size-bits-requires c = let u = c.requires.0 in (u.alpha-high, (widths-of _ _ _ _ u.widths).room.s-small)
 
-pub limit_of-limit-requires : goal.limit_of-limit-requires
-limit_of-limit-requires c = omega (arith, (widths-of _ _ _ _ c.requires.0.widths).room.s-small)
+pub limit-limit-requires : goal.limit-limit-requires
+limit-limit-requires c = omega (arith, (widths-of _ _ _ _ c.requires.0.widths).room.s-small)
 
 pub loop-m-init : goal.loop-m-init
 loop-m-init c = record { low = omega arith; high = omega arith; so_far = best-first 1 _ _ }
@@ -71,9 +71,9 @@ invariant_of-first c =
     let u = c.requires.0 in
     let m = c.loop-m.m in
     record {
-      kept = first-kept _ u m _ _ _ c.initial_size-bits.ensures refl c.limit_of-limit.ensures;
+      kept = first-kept _ u m _ _ _ c.initial_size-bits.ensures refl c.limit-limit.ensures;
       so_far = first-open _ u m c.loop-m.invariant.low (le_of_suc-le-suc c.loop-m-test.true) c.if-m-left.true c.if-left-m.true
-          (within _ m _ c.if-budget-limit.true c.limit_of-limit.ensures);
+          (within _ m _ c.if-budget-limit.true c.limit-limit.ensures);
       none_below = least_kept _ _ c.requires.1 u _ c.least_spread-least.ensures;
       known = c.requires.1;
     }
@@ -91,7 +91,7 @@ loop-m-preserved c =
       | else-m-left w ↦ rw w.found-is (skip (turn-skipped _ u _ _ _ inv.low inv.so_far (elim w.else-m-left.branch [
         | else-m-left-via-then-m-left+else-left-m v ↦ not-shared _ u found _ (λ enough few. not-le_of_lt v.if-left-m.false few)
         | else-m-left-via-then-m-left+then-left-m+else-budget-limit v ↦
-            over-limit _ u found _ _ _ refl c.limit_of-limit.ensures v.if-budget-limit.false
+            over-limit _ u found _ _ _ refl c.limit-limit.ensures v.if-budget-limit.false
         | else-m-left-via-else-m-left v ↦ not-shared _ u found _ (λ enough few. not-le_of_lt v.if-m-left.false enough)
       ])))
     ]
