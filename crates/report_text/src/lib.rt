@@ -5,8 +5,7 @@ ghost use Rattle.std.specs.Prelude.{◌≡◌, List, [], ◌++◌, ℕ, ◌+◌,
 ghost use Rattle.report_text.specs.Words.{decimal, text_of};
 ghost use Rattle.report_text.specs.Report.{line_text, refused_text, report_of};
 
-use design::Design;
-use design::measure::{budget_of, limit_of};
+use design::LegalDesign;
 use frames::design_line;
 use itoa::Buffer;
 use refusal::Cause;
@@ -85,13 +84,14 @@ fn measured(budget: u64, limit: u64, bits: u64, admitted: bool) -> Text
 pub fn report(line: &[u8]) -> Text
     ensures { result ≡ report_of line.now }
 {
-    let d = match design_line(line) {
-        Ok(d) => d,
+    let design = match design_line(line) {
+        Ok(design) => design,
         Err(cause) => return refused(cause),
     };
-    let budget = budget_of(d);
-    let limit = limit_of(d);
+    let legal = LegalDesign { design };
+    let budget = legal.budget();
+    let limit = design.limit();
     let admitted = budget < limit;
-    let bits = if admitted { size_of(d) } else { 0 };
+    let bits = if admitted { size_of(legal) } else { 0 };
     measured(budget, limit, bits, admitted)
 }

@@ -23,21 +23,18 @@ text-is d b l n b-is l-is n-is = rw (n-is, b-is, l-is)
 pub returns-in-Err : goal.returns-in-Err
 returns-in-Err c = c.refused.ensures ∙ refused-line _ _ c.in-Err.ensures
 
-pub budget_of-budget-requires : goal.budget_of-budget-requires
-budget_of-budget-requires c = legal-line _ _ c.in-Ok.ensures
+pub invariant_of-legal : goal.invariant_of-legal
+invariant_of-legal c = record { legal = legal-line _ _ c.in-Ok.ensures }
 
-pub limit_of-limit-requires : goal.limit_of-limit-requires
-limit_of-limit-requires c = guard_small _ (limits _ (legal-line _ _ c.in-Ok.ensures))
-
-pub size_of-bits-requires : goal.size_of-bits-requires
-size_of-bits-requires c = legal-line _ _ c.in-Ok.ensures
+pub limit-limit-requires : goal.limit-limit-requires
+limit-limit-requires c = guard_small _ (limits _ (legal-line _ _ c.in-Ok.ensures))
 
 pub returns : goal.returns
 returns c =
-    let d = c.in-Ok.d in
-    let bits-is : c.if-admitted.bits ≡ cond (ltb c.budget_of-budget.result c.limit_of-limit.result) (size d) 0 =
+    let d = c.in-Ok.design in
+    let bits-is : c.if-admitted.bits ≡ cond (ltb c.budget-budget.result c.limit-limit.result) (size d) 0 =
     elim c.if-admitted.branch [
       | then-admitted w ↦ w.bits-is ∙ rw (lt-ltb _ _ w.if-admitted.true) w.size_of-bits.ensures
       | else-admitted w ↦ w.bits-is ∙ rw (le-ltb _ _ w.if-admitted.false)
     ] in
-    c.measured.ensures ∙ text-is d _ _ _ c.budget_of-budget.ensures c.limit_of-limit.ensures bits-is ∙ passed-line _ d c.in-Ok.ensures
+    c.measured.ensures ∙ text-is d _ _ _ c.budget-budget.ensures c.limit-limit.ensures bits-is ∙ passed-line _ d c.in-Ok.ensures
