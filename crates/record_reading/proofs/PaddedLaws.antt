@@ -65,7 +65,7 @@ module _ (total : ℕ) (state : HexReading) (full : List ℕ) (long : other_byte
   due-same = rw head-same
 
   -- One that is due has as many bytes as an array holds, or fewer.
-  due-length : due_verdict total state full (length full) ≡ (Ok tt) → length full ≡ 4 + length_at total state.taken + 1
+  due-length : due_verdict total state full (length full) ≡ Ok tt → length full ≡ 4 + length_at total state.taken + 1
   unfolding due_verdict record_due_check head_fails
   due-length e =
       let n = state.taken in
@@ -75,7 +75,7 @@ module _ (total : ℕ) (state : HexReading) (full : List ℕ) (long : other_byte
       let right = (neither (not (eqb (length full) due)) (not (begins full (record_head total n))) head).0 in
       omega (arith, eqb-true (length full) due (not-false _ right), head-length total n)
 
-  stream-same : due_verdict total state full (length full) ≡ (Ok tt) → stream total state (array_of full) ≡ stream total state full
+  stream-same : due_verdict total state full (length full) ≡ Ok tt → stream total state (array_of full) ≡ stream total state full
   unfolding stream data_of
   stream-same e =
       let n = length_at total state.taken in
@@ -83,14 +83,14 @@ module _ (total : ℕ) (state : HexReading) (full : List ℕ) (long : other_byte
       rw (data-same full n (omega (arith, length-small total state.taken)) (omega arith))
 
 -- What a verdict leads to depends on the answer only where it passes.
-if-passed-same : {A : Type 0} (v : Verdict) (first second : A) (refusal : Cause → A) → (v ≡ (Ok tt) → first ≡ second)
+if-passed-same : {A : Type 0} (v : Verdict) (first second : A) (refusal : Cause → A) → (v ≡ Ok tt → first ≡ second)
     → if_passed v first refusal ≡ if_passed v second refusal
 if-passed-same (Ok tt) first second refusal same = same refl
 if-passed-same (Err cause) first second refusal same = refl
 
 module _ (initials total : ℕ) (s : HexSession) (full : List ℕ) (long : other_bytes ≤ length full) where
   -- What it brings is the same,
-  pub moved_same : due_verdict total s.state full (length full) ≡ (Ok tt)
+  pub moved_same : due_verdict total s.state full (length full) ≡ Ok tt
       → hex_moved initials total s (array_of full) ≡ hex_moved initials total s full
   moved_same e = rw (stream-same total s.state full long e)
 

@@ -70,7 +70,7 @@ module _ (d : Design) (s : HexSession) (text : List ℕ) where
             rw (reader-order, possible, verdict-append (record_check text ∷ []) (due ∷ []), e)
 
         -- and of a sound one 22 is left.
-        pub sound-due : verdict (record_check text ∷ []) ≡ (Ok tt)
+        pub sound-due : verdict (record_check text ∷ []) ≡ Ok tt
             → hex_verdict_on d s text ≡ due_verdict (byte_count d) s.state (bytes_in text) (length (bytes_in text))
         unfolding hex_checks hex_state_check due_verdict
         sound-due e =
@@ -78,7 +78,7 @@ module _ (d : Design) (s : HexSession) (text : List ℕ) where
             rw (reader-order, possible, verdict-append (record_check text ∷ []) (due ∷ []), e)
 
 -- A record that passes 21 is sound,
-pub sound-passes : (text : List ℕ) → verdict (record_check text ∷ []) ≡ (Ok tt) → record_fails text ≡ false
+pub sound-passes : (text : List ℕ) → verdict (record_check text ∷ []) ≡ Ok tt → record_fails text ≡ false
 unfolding record_check
 sound-passes text e = (none-fails (record_check text ∷ []) e).0
 

@@ -1,12 +1,10 @@
 -- Storing entry by entry: storing what is left from here comes to what storing all from the start comes to.
 use mathlib.Core.Path.{◌≡◌, refl}
 use mathlib.Core.Bool.{Bool, true, false, cond}
-use mathlib.Core.List.{List, [], ◌∷◌}
-use Prim.Native.Nat.{ℕ, zero, suc, ◌+◌, ◌-◌, ◌*◌, ◌/◌, ◌≤◌, ◌<◌}
+use mathlib.Core.List.{List, [], ◌∷◌, ◌++◌}
+use Prim.Native.Nat.{ℕ, suc, ◌+◌, ◌*◌, ◌≤◌, ◌<◌}
 use native.Mathlib.Omega.{arith}
-use native.Mathlib.Numerals.{add-one, add-three}
-use lib.ListN.{length, take, drop, set, length-drop, length-set}
-use lib.Seq.{drop-drop}
+use lib.ListN.{length, set, length-set}
 use Rattle.encoding.specs.Bytes.{number_in, entry_bytes}
 use Rattle.records.specs.declared.Extent.{Extent}
 use Rattle.records.specs.Inputs.{EntryIn}
@@ -15,7 +13,7 @@ use Rattle.record_reading.specs.Inputs.{StoreInput}
 
 module _ {A : Type 0} (home : Home A) where
   -- An entry keeps its table's length.
-  pub stored-length : (e number : ℕ) (table : List A) → length (stored_at home e number table) ≡ length table
+  stored-length : (e number : ℕ) (table : List A) → length (stored_at home e number table) ≡ length table
   unfolding stored_at
   stored-length e number table = go (home.owns e)
     where
@@ -23,65 +21,53 @@ module _ {A : Type 0} (home : Home A) where
       go true = length-set table (home.place e) (home.value number)
       go false = refl
 
-  -- The first three bytes are an entry;
-  first-stored : (e n : ℕ) (bytes : List ℕ) (table : List A) → 3 ≤ length bytes
-      → stored_from home e (take (n + 3) bytes) table
-      ≡ stored_from home (e + 1) (take n (drop 3 bytes)) (stored_at home e (number_in (take 3 bytes)) table)
+  -- Three bytes are an entry,
+  first-stored : (e : ℕ) (bytes rest : List ℕ) (table : List A) → length bytes ≡ entry_bytes
+      → stored_from home e (bytes ++ rest) table ≡ stored_from home (suc e) rest (stored_at home e (number_in bytes) table)
   unfolding stored_from
-  first-stored e n [] table h = absurd (omega arith)
-  first-stored e n (a ∷ []) table h = absurd (omega arith)
-  first-stored e n (a ∷ b ∷ []) table h = absurd (omega arith)
-  first-stored e n (a ∷ b ∷ c ∷ rest) table h = rw (add-three, add-one)
+  first-stored e [] rest table h = absurd (omega arith)
+  first-stored e (a ∷ []) rest table h = absurd (omega arith)
+  first-stored e (a ∷ b ∷ []) rest table h = absurd (omega arith)
+  first-stored e (a ∷ b ∷ c ∷ []) rest table h = refl
+  first-stored e (a ∷ b ∷ c ∷ d ∷ more) rest table h = absurd (omega arith)
 
-  -- fewer than three are none.
-  none-stored : (e n : ℕ) (bytes : List ℕ) (table : List A) → n < 3 → stored_from home e (take n bytes) table ≡ table
+  -- and fewer are none.
+  none-stored : (e : ℕ) (bytes : List ℕ) (table : List A) → length bytes < entry_bytes → stored_from home e bytes table ≡ table
   unfolding stored_from
-  none-stored e zero bytes table h = refl
-  none-stored e (suc zero) [] table h = refl
-  none-stored e (suc zero) (a ∷ rest) table h = refl
-  none-stored e (suc (suc zero)) [] table h = refl
-  none-stored e (suc (suc zero)) (a ∷ []) table h = refl
-  none-stored e (suc (suc zero)) (a ∷ b ∷ rest) table h = refl
-  none-stored e (suc (suc (suc n))) bytes table h = absurd (omega arith)
+  none-stored e [] table h = refl
+  none-stored e (a ∷ []) table h = refl
+  none-stored e (a ∷ b ∷ []) table h = refl
+  none-stored e (a ∷ b ∷ c ∷ rest) table h = absurd (omega arith)
 
--- A loop over the entries in `size` bytes of a window has stored i of them, from e on, in a table that was `start`.
-pub record Storing {A : Type 0} (home : Home A) (window : List ℕ) (e from size : ℕ) (start table : List A) (i : ℕ) : Type 0 where
-  pub rest : stored_from home (e + i) (take (size - 3 * i) (drop (from + 3 * i) window)) table
-      ≡ stored_from home e (take size (drop from window)) start
+-- A loop over the entries in a stream has stored i of them, from e on, in a table that was `start`; these bytes are left.
+pub record Storing {A : Type 0} (home : Home A) (e : ℕ) (stream rest : List ℕ) (start table : List A) (i : ℕ) : Type 0 where
+  pub left : stored_from home (e + i) rest table ≡ stored_from home e stream start
   pub kept : length table ≡ length start
 
-module _ {A : Type 0} (home : Home A) (window : List ℕ) (e from size : ℕ) (start : List A) where
-  pub storing-start : Storing home window e from size start start 0
-  storing-start =
+module _ {A : Type 0} (home : Home A) (e : ℕ) (stream : List ℕ) (start : List A) where
+  pub storing-start : {rest : List ℕ} → rest ≡ stream → Storing home e stream rest start start 0
+  storing-start rest_is =
       let here : e + 0 ≡ e = omega arith in
-      let all : size - 0 ≡ size = omega arith in
-      let begin : from + 0 ≡ from = omega arith in
-      record { rest = rw (here, all, begin); kept = refl }
+      record { left = rw (here, rest_is); kept = refl }
 
-  module _ (table : List A) (i : ℕ) (before : Storing home window e from size start table i) where
+  module _ {rest table : _} {i : ℕ} (before : Storing home e stream rest start table i) where
     -- One entry more
-    pub storing-next : (number : ℕ) (after : List A) → from + size ≤ length window → i < size / 3
-        → number ≡ number_in (take entry_bytes (drop (from + 3 * i) window)) → after ≡ stored_at home (e + i) number table
-        → Storing home window e from size start after (i + 1)
-    storing-next number after room more number_is after_is =
-        let next : e + (i + 1) ≡ e + i + 1 = omega arith in
-        let less : size - 3 * i ≡ size - 3 * (i + 1) + 3 = omega arith in
-        let later : from + 3 * i + 3 ≡ from + 3 * (i + 1) = omega arith in
-        let here = drop (from + 3 * i) window in
-        let step = first-stored home (e + i) (size - 3 * (i + 1)) here table (omega (arith, length-drop (from + 3 * i) window)) in
+    pub storing-next : (number : ℕ) (bytes later : List ℕ) (after : List A) → rest ≡ bytes ++ later → length bytes ≡ entry_bytes
+        → number ≡ number_in bytes → after ≡ stored_at home (e + i) number table → Storing home e stream later start after (i + 1)
+    storing-next number bytes later after rest_is three number_is after_is =
+        let next : e + (i + 1) ≡ suc (e + i) = omega arith in
         record {
-          rest = rw (after_is, number_is, next, ← later, ← drop-drop 3 (from + 3 * i) window, ← step, ← less) before.rest;
+          left = rw (after_is, number_is, next, ← first-stored home (e + i) bytes later table three, ← rest_is) before.left;
           kept = rw (after_is, stored-length home) before.kept;
         }
 
     -- All are stored.
-    pub storing-end : size / 3 ≤ i → table ≡ stored_from home e (take size (drop from window)) start
-    storing-end done =
-        let none = none-stored home (e + i) (size - 3 * i) (drop (from + 3 * i) window) table (omega arith) in
-        rw none at before.rest
+    pub storing-end : length rest < entry_bytes → table ≡ stored_from home e stream start
+    storing-end few = rw (none-stored home (e + i) rest table few) at before.left
 
 -- The entries of which bytes are stored lie within the tables, which keep their lengths.
-pub entry-in : (extent : Extent) (initial₀ offsets₀ e from size initial offsets i : ℕ) → StoreInput extent initial₀ offsets₀ e from size
-    → initial ≡ initial₀ → offsets ≡ offsets₀ → i < size / entry_bytes → EntryIn extent.initials initial offsets (e + i)
-entry-in extent initial₀ offsets₀ e from size initial offsets i input initial-kept offsets-kept more =
+pub entry-in : {extent : Extent} {initial₀ offsets₀ e size initial offsets : ℕ} (i left : ℕ) → StoreInput extent initial₀ offsets₀ e size
+    → initial ≡ initial₀ → offsets ≡ offsets₀ → size ≡ entry_bytes * i + left → entry_bytes ≤ left
+    → EntryIn extent.initials initial offsets (e + i)
+entry-in i left input initial-kept offsets-kept size_is more =
     record { in-initial = λ h. omega arith; in-offsets = λ h. omega arith }

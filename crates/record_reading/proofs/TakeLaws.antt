@@ -1,5 +1,5 @@
 -- A sound record in a possible state: whether it is the one due, and what it brings.
-use Rattle.std.specs.Prelude.{Ok, Err}
+use Rattle.std.specs.Prelude.{Result, Ok, Err}
 use mathlib.Core.Path.{◌≡◌, refl, sym, ap, ◌∙◌}
 use mathlib.Core.Bool.{Bool, true, false, or-true}
 use mathlib.Core.List.{List}
@@ -7,11 +7,11 @@ use Prim.Native.Nat.{ℕ, ◌+◌, ◌-◌, ◌*◌, ◌/◌, ◌%◌, ◌≤◌
 use native.Mathlib.Omega.{arith}
 use lib.IntN.{ℤ}
 use lib.ListN.{length, take, drop, length-drop}
-use lib.Seq.{drop-drop}
+use lib.Seq.{take_all}
 use borrow.Author.Tests.{le-leb, lt-leb}
 use Rattle.general.proofs.Tests.{tested}
 use Rattle.refusal.specs.declared.Cause.{Cause}
-use Rattle.refusal.specs.Verdict.{Verdict}
+use Rattle.refusal.specs.Checks.{answer}
 use Rattle.encoding.specs.Bytes.{entry_bytes}
 use Rattle.frames.specs.Line.{capacity}
 use Rattle.reading.specs.ReadLine.{head_fails}
@@ -19,11 +19,10 @@ use Rattle.records.specs.declared.Extent.{Extent}
 use Rattle.records.specs.IntelHex.{data_bytes, record_count, bytes_before, length_at, record_head}
 use Rattle.records.proofs.CountLaws.{length-small, before_small}
 use Rattle.record_reading.specs.declared.HexReading.{HexReading}
-use Rattle.record_reading.specs.declared.HexRead.{HexRead}
 use Rattle.record_reading.specs.Storing.{Home, initial_home, offset_home, stored_from, cut_bytes}
 use Rattle.record_reading.specs.ReadRecord.{held_count, record_due_check, HexSession, hex_session, stream, holding}
 use Rattle.record_reading.specs.Inputs.{Lent, StoreInput, due_verdict, after_record}
-use Rattle.record_reading.proofs.WindowLaws.{cut-last}
+use Rattle.record_reading.proofs.StoringLaws.{cut-drop}
 
 -- The verdict of 22
 module _ (total : ℕ) (state : HexReading) (bytes : List ℕ) (count : ℕ) where
@@ -44,7 +43,7 @@ module _ (total : ℕ) (state : HexReading) (bytes : List ℕ) (count : ℕ) whe
   unfolding due_verdict record_due_check
   other-due e = rw (e, or-true)
 
-  pub record-due : state.taken < record_count total → not_due ≡ false → due_verdict total state bytes count ≡ (Ok tt)
+  pub record-due : state.taken < record_count total → not_due ≡ false → due_verdict total state bytes count ≡ Ok tt
   unfolding due_verdict record_due_check
   record-due h e = rw (lt-leb _ _ h, e)
 
@@ -65,70 +64,60 @@ module _ (total n before next : ℕ) (before-is : before ≡ bytes_before total 
   length-few : next - before ≤ data_bytes
   length-few = rw length-told (length-small total n)
 
-  -- A head of 4 bytes and the record's data have room in an array,
+  -- A head of 4 bytes and the record's data have room in an array.
   pub head-room : (head : ℕ) → head ≡ 4 → head + (next - before) ≤ capacity
   head-room head head-is = omega (arith, length-few)
 
-  -- and so have the bytes held and the data.
-  pub stream-room : 4 - before % 3 + (before % 3 + (next - before)) ≤ capacity
-  stream-room = omega (arith, length-few)
+  -- The bytes held and the data make no entries whole but those of the set, and would not with the sum byte behind them.
+  pub store-input : {extent : Extent} {initial offsets size : ℕ} → total ≡ entry_bytes * extent.entries → Lent extent initial offsets
+      → size ≤ before % 3 + (next - before) + 1 → StoreInput extent initial offsets (before / 3) size
+  store-input total-is lent few =
+      record { lent = lent; within = omega (arith, before_small total (n + 1), before-fewer) }
 
-  -- They make no entries whole but those of the set, and would not with the sum byte behind them, for which there is room, too.
-  pub store-input : (extent : Extent) (initial offsets size : ℕ) → total ≡ entry_bytes * extent.entries → Lent extent initial offsets
-      → size ≤ before % 3 + (next - before) + 1 → StoreInput extent initial offsets (before / 3) (4 - before % 3) size
-  store-input extent initial offsets size total-is lent few =
-      record {
-        lent = lent;
-        room = omega (arith, length-few);
-        within = omega (arith, before_small total (n + 1), before-fewer);
-      }
+-- The bytes that whole entries leave, as the end of the stream
+cut_end : (part : List ℕ) → let from = length part - length part % 3 in take (length part - from) (drop from part) ≡ cut_bytes part
+cut_end part =
+    let place : length part - length part % 3 ≡ entry_bytes * (length part / entry_bytes) = omega arith in
+    rw (place, take_all (length part - entry_bytes * (length part / entry_bytes)) (drop (entry_bytes * (length part / entry_bytes)) part) (omega (arith, length-drop (entry_bytes * (length part / entry_bytes)) part)))
+    (sym (cut-drop part))
 
--- The bytes that whole entries leave, as a part of the window
-cut_at : (window : List ℕ) (from size : ℕ) → from + size ≤ length window
-    → take (size % 3) (drop (from + size - size % 3) window) ≡ cut_bytes (take size (drop from window))
-cut_at window from size room =
-    let whole : 3 * (size / 3) + size % 3 ≡ size = omega arith in
-    let place : from + size - size % 3 ≡ from + 3 * (size / 3) = omega arith in
-    rw (place, ← drop-drop (3 * (size / 3)) from window)
-    (sym (rw whole at (cut-last (size / 3) (size % 3) (drop from window) (omega arith) (omega (arith, length-drop from window)))))
-
--- The state and a table after a part of the window that is the stream
-pub state-told : (taken : ℕ) (window : List ℕ) (from size : ℕ) (came : List ℕ) (next : HexReading) → from + size ≤ length window
-    → take size (drop from window) ≡ came → next ≡ holding taken (take (size % 3) (drop (from + size - size % 3) window))
+-- The state and a table after the stream
+pub state-told : (taken : ℕ) (part : List ℕ) {came : List ℕ} {next : HexReading} → part ≡ came
+    → (let from = length part - length part % 3 in next ≡ holding taken (take (length part - from) (drop from part)))
     → next ≡ holding taken (cut_bytes came)
-state-told taken window from size came next room came-is next-is =
-    next-is ∙ ap (holding taken) (cut_at window from size room ∙ ap cut_bytes came-is)
+state-told taken part came-is next-is = next-is ∙ ap (holding taken) (cut_end part ∙ ap cut_bytes came-is)
 
 pub table-told : {A : Type 0} (home : Home A) (before₀ before : ℕ) (part came : List ℕ) (table after : List A) → before ≡ before₀
     → part ≡ came → after ≡ stored_from home (before / entry_bytes) part table → after ≡ stored_from home (before₀ / entry_bytes) came table
 table-told home before₀ before part came table after before-is came-is after_is = rw (← before-is, ← came-is) after_is
 
--- What a sound record has to come to: this verdict, this state and these tables
-abbrev pub Outcome : Extent → HexSession → List ℕ → ℕ → Verdict → HexReading → List ℕ → List ℤ → Type 0
-Outcome extent s bytes count v state initial offsets =
+-- What a sound record has to come to: this next state or refusal, and these tables
+abbrev pub Outcome : Extent → HexSession → List ℕ → ℕ → Result HexReading Cause → List ℕ → List ℤ → Type 0
+Outcome extent s bytes count result initial offsets =
     let after = after_record extent s bytes count in
-    (v ≡ due_verdict (entry_bytes * extent.entries) s.state bytes count)
-    × ((state ≡ after.state) × ((initial ≡ after.initial) × (offsets ≡ after.offsets)))
+    record {
+      value : result ≡ answer (due_verdict (entry_bytes * extent.entries) s.state bytes count) after.state;
+      initial_after : initial ≡ after.initial;
+      offsets_after : offsets ≡ after.offsets;
+    }
 
 module _ (extent : Extent) (state : HexReading) (initial : List ℕ) (offsets : List ℤ) (bytes : List ℕ) (count : ℕ) where
   -- A record that is not due leaves everything as it was.
-  pub refused-outcome : (cause : Cause) (answer : HexRead)
-      → answer ≡ record { verdict = Err cause; state = state }
-      → due_verdict (entry_bytes * extent.entries) state bytes count ≡ Err cause
-      → Outcome extent (hex_session state initial offsets) bytes count answer.verdict answer.state initial offsets
+  pub refused-outcome : (cause : Cause) → due_verdict (entry_bytes * extent.entries) state bytes count ≡ Err cause
+      → Outcome extent (hex_session state initial offsets) bytes count (Err cause) initial offsets
   unfolding after_record
-  refused-outcome cause answer answer-is e = rw (answer-is, e) (refl, (refl, (refl, refl)))
+  refused-outcome cause e = rw e (record { value = refl; initial_after = refl; offsets_after = refl })
 
   -- One that is due brings its stream.
   pub taken-outcome : (next : HexReading) (initial-after : List ℕ) (offsets-after : List ℤ)
-      → due_verdict (entry_bytes * extent.entries) state bytes count ≡ (Ok tt)
+      → due_verdict (entry_bytes * extent.entries) state bytes count ≡ Ok tt
       → let total = entry_bytes * extent.entries in
       let came = stream total state bytes in
       let e = bytes_before total state.taken / entry_bytes in
       next ≡ holding (state.taken + 1) (cut_bytes came)
       → initial-after ≡ stored_from (initial_home extent.initials) e came initial
       → offsets-after ≡ stored_from (offset_home extent.initials) e came offsets
-      → Outcome extent (hex_session state initial offsets) bytes count (Ok tt) next initial-after offsets-after
+      → Outcome extent (hex_session state initial offsets) bytes count (Ok next) initial-after offsets-after
   unfolding after_record
   taken-outcome next initial-after offsets-after passed next-is initial-is offsets-is =
-      rw passed (refl, (next-is, (initial-is, offsets-is)))
+      rw passed (record { value = rw next-is; initial_after = initial-is; offsets_after = offsets-is })

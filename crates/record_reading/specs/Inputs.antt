@@ -3,7 +3,6 @@ use Rattle.std.specs.Prelude.{List, [], ◌∷◌, ℕ, ◌+◌, ◌*◌, ◌/�
 use Rattle.refusal.specs.Verdict.{Verdict}
 use Rattle.refusal.specs.Checks.{verdict, if_passed}
 use Rattle.encoding.specs.Bytes.{entry_bytes}
-use Rattle.frames.specs.Line.{capacity}
 use Rattle.records.specs.declared.Extent.{Extent}
 use Rattle.records.specs.IntelHex.{record_count}
 use Rattle.records.specs.SetBytes.{most_bytes}
@@ -16,10 +15,9 @@ pub record Lent (extent : Extent) (initial offsets : ℕ) : Type 0 where
   pub initial-long : extent.initials ≤ initial
   pub offsets-long : extent.entries ≤ extent.initials + offsets
 
--- Bytes of an array, from a place on, are those of entries from e on: the entries that they make whole lie among all entries.
-pub record StoreInput (extent : Extent) (initial offsets e from size : ℕ) : Type 0 where
+-- So many bytes are those of entries from e on: the entries that they make whole lie among all entries.
+pub record StoreInput (extent : Extent) (initial offsets e size : ℕ) : Type 0 where
   pub lent : Lent extent initial offsets
-  pub room : from + size ≤ capacity
   pub within : e + size / entry_bytes ≤ extent.entries
 
 -- A state that does not have more records taken than the set has

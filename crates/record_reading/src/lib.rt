@@ -1,7 +1,7 @@
 // The reader of Intel HEX: one record a call, into lent tables, for a design that the caller gives.
 #![tactic(auto)]
 
-ghost use Rattle.std.specs.Prelude.{◌≡◌, [], ◌∷◌, ◌++◌, ◌+◌, ◌-◌, ◌*◌, ◌^◌, ◌≤◌, ◌<◌, length, take, drop};
+ghost use Rattle.std.specs.Prelude.{◌≡◌, [], ◌∷◌, ◌++◌, ◌-◌, ◌*◌, ◌^◌, ◌≤◌, ◌<◌, length, take, drop};
 ghost use Rattle.encoding.specs.Bytes.{entry_bytes};
 ghost use Rattle.frames.specs.Line.{capacity};
 ghost use Rattle.records.specs.SetBytes.{most_bytes};
@@ -18,19 +18,19 @@ ghost use Rattle.record_reading.specs.ReadRecord.{
   hex_verdict_on,
 };
 ghost use Rattle.refusal.specs.Numbers.{verdict_number};
+ghost use Rattle.refusal.specs.Checks.{answer};
 ghost use Rattle.record_reading.specs.Storing.{initial_home, offset_home, stored_at, stored_from};
 ghost use Rattle.record_reading.specs.Inputs.{StoreInput, TakenInput, due_verdict, after_record};
 
 use design::Design;
-use design::legal::design_verdict;
 use encoding::numbers::{ENTRY_BYTES, from_complement, number_in};
-use frames::CAPACITY;
+use frames::{CAPACITY, Decoded};
 use reading::head_fails;
 use records::{
     Extent, HEAD_BYTES, MOST_BYTES, bytes_before, decode_record, extent_of, head_of, record_count,
 };
 use refusal::Cause;
-use tables::set_verdict;
+use tables::checked_set;
 
 // Document 02's reading state: how many records are taken, and the start of an entry that the last of them cut. Unused bytes are 0.
 #[derive(Clone, Copy)]
@@ -43,7 +43,7 @@ pub struct HexReading {
 // What `read_record` answers, and the state to go on with.
 #[derive(Clone, Copy)]
 pub struct HexRead {
-    pub verdict: Verdict,
+    pub verdict: Result<(), Cause>,
     pub state: HexReading,
 }
 
@@ -68,10 +68,7 @@ fn is_possible(total: usize, state: HexReading) -> bool
     requires { total ≤ most_bytes }
     ensures { result ≡ hex_possible total state }
 {
-    if record_count(total) < state.taken {
-        return false;
-    }
-    !unused_fail(held_count(total, state.taken), state)
+    state.taken <= record_count(total) && !unused_fail(held_count(total, state.taken), state)
 }
 
 // Puts the k bytes that are held right before a record's data, in the place of the end of its head.
@@ -80,12 +77,8 @@ fn with_held(state: HexReading, k: usize, window: &mut [u8; CAPACITY])
     requires k_lt_entry_bytes { k < entry_bytes }
     ensures { drop (4 - k) window.new ≡ take k (state.first ∷ state.second ∷ []) ++ drop 4 window.old }
 {
-    if k == 1 {
-        window[3] = state.first;
-    } else if k == 2 {
-        window[2] = state.first;
-        window[3] = state.second;
-    }
+    let held = [state.first, state.second];
+    window[HEAD_BYTES - k..HEAD_BYTES].copy_from_slice(&held[..k]);
 }
 
 // Stores entry e, which is an initial entry if it is one of the first `initials`.
@@ -102,108 +95,62 @@ fn store_entry(initials: usize, e: usize, number: u32, initial: &mut [u32], offs
     }
 }
 
-// Stores the entries from e on that `size` bytes of a window, from a place on, make whole.
-fn store_entries(
-    extent: Extent,
-    e: usize,
-    window: &[u8; CAPACITY],
-    from: usize,
-    size: usize,
-    initial: &mut [u32],
-    offsets: &mut [i32],
-)
-    requires window_len { length window.now ≡ capacity }
-    requires store_input { StoreInput extent (length initial.old) (length offsets.old) e from size }
-    ensures initial_after { initial.new
-        ≡ stored_from (initial_home extent.initials) e (take size (drop from window.now)) initial.old }
-    ensures offsets_after { offsets.new
-        ≡ stored_from (offset_home extent.initials) e (take size (drop from window.now)) offsets.old }
+// Stores the entries from e on that bytes make whole.
+fn store_entries(extent: Extent, e: usize, stream: &[u8], initial: &mut [u32], offsets: &mut [i32])
+    requires { StoreInput extent (length initial.old) (length offsets.old) e (length stream.now) }
+    ensures initial_after { initial.new ≡ stored_from (initial_home extent.initials) e stream.now initial.old }
+    ensures offsets_after { offsets.new ≡ stored_from (offset_home extent.initials) e stream.now offsets.old }
 {
-    let initials = extent.initials;
-    let count = size / ENTRY_BYTES;
-    let mut i = 0;
-    while i < count {
-        let number = number_in(window, from + ENTRY_BYTES * i, ENTRY_BYTES);
-        store_entry(initials, e + i, number, initial, offsets);
-        i += 1;
+    for (i, bytes) in stream.chunks_exact(ENTRY_BYTES).enumerate() {
+        store_entry(extent.initials, e + i, number_in(bytes), initial, offsets);
     }
 }
 
-// The state after a record that leaves so many bytes of an entry, which begin at a place of the window.
-fn holding_from(taken: usize, window: &[u8; CAPACITY], at: usize, left: usize) -> HexReading
-    requires left_bound { at + left ≤ capacity }
-    requires left_lt_entry_bytes { left < entry_bytes }
-    ensures { result ≡ holding taken (take left (drop at window.now)) }
+// The state after a record that leaves these bytes of an entry.
+#[tactic(auto, unfolding(crate::specs::ReadRecord::holding))]
+fn holding(taken: usize, bytes: &[u8]) -> HexReading
+    ensures { result ≡ holding taken bytes.now }
 {
-    let mut first = 0;
-    let mut second = 0;
-    if 0 < left {
-        first = window[at];
-    }
-    if 1 < left {
-        second = window[at + 1];
-    }
     HexReading {
         taken,
-        first,
-        second,
+        first: bytes.get(0).copied().unwrap_or(0),
+        second: bytes.get(1).copied().unwrap_or(0),
     }
 }
 
-// The answer to a refused record: the state stands.
-fn refused(state: HexReading, cause: Cause) -> HexRead
-    ensures { result ≡ record { verdict = Err cause; state = state } }
-{
-    HexRead {
-        verdict: Err(cause),
-        state,
-    }
-}
-
-// A sound record in a possible state: it is refused with 22, or what it brings is stored.
+// The state after a sound record in a possible state, which is stored, or the refusal 22.
 fn take_record(
     state: HexReading,
     extent: Extent,
-    bytes: [u8; CAPACITY],
-    count: usize,
+    frame: Decoded,
     initial: &mut [u32],
     offsets: &mut [i32],
-) -> HexRead
+) -> Result<HexReading, Cause>
     requires { TakenInput extent state (length initial.old) (length offsets.old) }
-    ensures verdict_value { result.verdict ≡ due_verdict (entry_bytes * extent.entries) state bytes count }
-    ensures state_value { result.state ≡ (after_record extent (hex_session state initial.old offsets.old) bytes count).state }
-    ensures initial_after { initial.new ≡ (after_record extent (hex_session state initial.old offsets.old) bytes count).initial }
-    ensures offsets_after { offsets.new ≡ (after_record extent (hex_session state initial.old offsets.old) bytes count).offsets }
+    ensures value { result ≡ answer (due_verdict (entry_bytes * extent.entries) state frame.bytes frame.count)
+        (after_record extent (hex_session state initial.old offsets.old) frame.bytes frame.count).state }
+    ensures initial_after { initial.new
+        ≡ (after_record extent (hex_session state initial.old offsets.old) frame.bytes frame.count).initial }
+    ensures offsets_after { offsets.new
+        ≡ (after_record extent (hex_session state initial.old offsets.old) frame.bytes frame.count).offsets }
 {
     let total = ENTRY_BYTES * extent.entries;
     let n = state.taken;
     if record_count(total) <= n {
-        return refused(state, Cause::RecordDue);
+        return Err(Cause::RecordDue);
     }
     let before = bytes_before(total, n);
     let length = bytes_before(total, n + 1) - before;
-    if head_fails(head_of(total, n), length, bytes, count) {
-        return refused(state, Cause::RecordDue);
+    if head_fails(head_of(total, n), length, frame) {
+        return Err(Cause::RecordDue);
     }
     let held = before % ENTRY_BYTES;
-    let mut window = bytes;
+    let mut window = frame.bytes;
     with_held(state, held, &mut window);
-    let from = HEAD_BYTES - held;
-    let size = held + length;
-    store_entries(
-        extent,
-        before / ENTRY_BYTES,
-        &window,
-        from,
-        size,
-        initial,
-        offsets,
-    );
-    let left = size % ENTRY_BYTES;
-    HexRead {
-        verdict: Ok(()),
-        state: holding_from(n + 1, &window, from + size - left, left),
-    }
+    let stream = &window[HEAD_BYTES - held..HEAD_BYTES + length];
+    store_entries(extent, before / ENTRY_BYTES, stream, initial, offsets);
+    let left = stream.len() % ENTRY_BYTES;
+    Ok(holding(n + 1, &stream[stream.len() - left..]))
 }
 
 impl HexReading {
@@ -211,17 +158,45 @@ impl HexReading {
     pub fn is_finished(self, d: Design) -> bool
         ensures { result ≡ hex_finished d self }
     {
-        if let Err(_) = design_verdict(d) {
+        let Ok(legal) = d.checked() else {
             return false;
-        }
-        let total = ENTRY_BYTES * extent_of(d).entries;
+        };
+        let total = ENTRY_BYTES * extent_of(legal).entries;
         if MOST_BYTES < total {
             return false;
         }
         is_possible(total, self) && self.taken == record_count(total)
     }
 
-    // Takes a record (document 02, A2). Nothing is stored before every check has passed.
+    // The state after a record, or what the record is refused for. Nothing is stored before every check has passed.
+    fn next(
+        self,
+        d: Design,
+        initial: &mut [u32],
+        offsets: &mut [i32],
+        record: &[u8],
+    ) -> Result<HexReading, Cause>
+        ensures value { result ≡ answer (hex_verdict_on d (hex_session self initial.old offsets.old) «record».now)
+            (hex_after d (hex_session self initial.old offsets.old) «record».now).state }
+        ensures initial_table { initial.new
+            ≡ (hex_after d (hex_session self initial.old offsets.old) «record».now).initial }
+        ensures offset_tables { offsets.new
+            ≡ (hex_after d (hex_session self initial.old offsets.old) «record».now).offsets }
+    {
+        let legal = checked_set(d, initial.len(), offsets.len())?;
+        let extent = extent_of(legal);
+        let total = ENTRY_BYTES * extent.entries;
+        if MOST_BYTES < total {
+            return Err(Cause::AddressRange);
+        }
+        if !is_possible(total, self) {
+            return Err(Cause::State);
+        }
+        let frame = decode_record(record)?;
+        take_record(self, extent, frame, initial, offsets)
+    }
+
+    // Takes a record (document 02, A2). A refusal gives back the state that came.
     pub fn read_record(
         self,
         d: Design,
@@ -237,24 +212,15 @@ impl HexReading {
         ensures offset_tables { offsets.new
             ≡ (hex_after d (hex_session self initial.old offsets.old) «record».now).offsets }
     {
-        if let Err(cause) = set_verdict(d, initial.len(), offsets.len()) {
-            return refused(self, cause);
+        match self.next(d, initial, offsets, record) {
+            Ok(state) => HexRead {
+                verdict: Ok(()),
+                state,
+            },
+            Err(cause) => HexRead {
+                verdict: Err(cause),
+                state: self,
+            },
         }
-        let extent = extent_of(d);
-        let total = ENTRY_BYTES * extent.entries;
-        if MOST_BYTES < total {
-            return refused(self, Cause::AddressRange);
-        }
-        if !is_possible(total, self) {
-            return refused(self, Cause::State);
-        }
-        let decoded = decode_record(record);
-        let sound = decoded.verdict;
-        let bytes = decoded.bytes;
-        let count = decoded.count;
-        if let Err(cause) = sound {
-            return refused(self, cause);
-        }
-        take_record(self, extent, bytes, count, initial, offsets)
     }
 }
