@@ -4,3 +4,4 @@ pub mod LineLaws
 pub mod TakeLaws
 pub mod BlockLaws
 pub mod PutLaws
+pub mod FoldLaws

@@ -3,3 +3,4 @@ pub mod Blocks
 pub mod Counts
 pub mod Reading
 pub mod Writing
+pub mod Folding

@@ -3,6 +3,7 @@
 // promise.
 #![tactic(auto)]
 
+mod fold;
 mod line;
 mod output;
 
