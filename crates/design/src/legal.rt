@@ -6,7 +6,6 @@ ghost use Rattle.design.specs.Limits.{most_tables};
 ghost use Rattle.design.specs.Legal.{cut_checks, design_verdict};
 ghost use Rattle.design.specs.Legal as Legal;
 
-pub use crate::before::{design_verdict, pair_at};
 use crate::limits::{
     LEAST_INITIAL_BITS, MOST_INITIAL_BITS, MOST_OFFSET_BITS, MOST_TABLE_BITS, MOST_TABLES,
 };

@@ -6,7 +6,6 @@ ghost use Rattle.design.specs.Legal.{Legal};
 ghost use Rattle.refusal.specs.Told.{told_by};
 ghost use Rattle.design.specs.Answers.{budget_answer, budget_told};
 
-pub mod before;
 pub mod legal;
 pub mod limits;
 pub mod measure;

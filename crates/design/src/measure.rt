@@ -7,7 +7,6 @@ ghost use Rattle.design.specs.Cut.{pair_at};
 ghost use Rattle.design.specs.Cut as Cut;
 ghost use Rattle.design.specs.Budget.{table_budget, budget, limit};
 
-pub use crate::before::{budget_of, limit_of, offset_count, offset_total, sum_limit, table_slopes};
 use crate::{Design, LegalDesign, Pair};
 use general::pow2;
 use values::rows::row_of;

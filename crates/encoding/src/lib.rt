@@ -32,18 +32,18 @@ impl Frame {
         }
     }
 
-    // inner: the frame with a number of `width` bytes behind what it has. Byte by byte: `copy_from_slice` of the last of `to_be_bytes` calls
-    // memcpy for them, and putting a line then took half as long again.
+    // inner: the frame with a number of `width` bytes behind what it has. Byte by byte: with `copy_from_slice` of the last of `to_be_bytes`
+    // putting a line took half as long again.
     pub fn with(mut self, width: usize, number: u32) -> Frame
         requires { WidthInput self.count width }
         ensures result_value { held result ≡ held self ++ big_endian width number }
         ensures count_value { result.count ≡ self.count + width }
     {
-        let start = self.count;
-        for i in 0..width {
-            self.bytes[start + i] = ((number >> (8 * (width - 1 - i))) % 256) as u8;
+        for left in (0..width).rev() {
+            let at = self.count;
+            self.bytes[at] = ((number >> (8 * left)) % 256) as u8;
+            self.count = at + 1;
         }
-        self.count = start + width;
         self
     }
 }

@@ -1,11 +1,11 @@
 // The sum Y of an input word over any tables, whoever filled them, and the word that it comes to.
 ghost use Rattle.std.specs.Prelude.{◌≡◌, false, ◌+◌, ◌^◌, ◌≤◌, ◌<◌, length, get_or, pos, ◌+ℤ◌, IfOk};
 ghost use Rattle.std.specs.Int.Signed.{mag};
+ghost use Rattle.refusal.specs.Checks.{verdict, verdict_of};
 ghost use Rattle.design.specs.Stored.{initial_count, offset_total};
 ghost use Rattle.design.specs.Legal.{Legal};
 ghost use Rattle.tables.specs.Inputs.{SameInterval, sum_above};
 ghost use Rattle.tables.specs.Lookup.{lookups_of, lookup_of};
-ghost use Rattle.refusal.specs.Checks.{verdict, verdict_of};
 ghost use Rattle.tables.specs.Set.{set_checks};
 ghost use Rattle.tables.specs.Sum.{offset_for, sum_from, sum_at, sum_outside, word_of};
 
@@ -95,15 +95,22 @@ impl OffsetTables<'_> {
         self.add_above(first, near, x)
     }
 
+    // inner: the design, with the fact that it is legal.
+    #[inline(always)]
+    pub fn legal(self) -> LegalDesign
+        ensures { result.design ≡ self.entry.design }
+    {
+        LegalDesign {
+            design: self.design,
+        }
+    }
+
     // inner: whether Y is out of range, not 0 ≤ Y < 2^(P+2).
     #[inline(always)]
     pub fn sum_outside(self, sum: TableUnits) -> bool
         ensures { result ≡ sum_outside self.entry.design sum.0 }
     {
-        let legal = LegalDesign {
-            design: self.design,
-        };
-        let limit = legal.sum_limit() as i64;
+        let limit = self.legal().sum_limit() as i64;
         sum.0 < 0 || limit <= sum.0
     }
 

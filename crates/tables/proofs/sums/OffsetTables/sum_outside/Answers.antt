@@ -36,7 +36,7 @@ module _ (d : Design) (Y held : ℤ) (same : held ≡ Y) where
       subst (λ (z : ℤ). le_z limit held ≡ sum_outside d z) same (ap (λ (z : ℤ). le_z z held) limit_is ∙ second _ _ e)
 
 limit-small : (c : After-sum_limit-limit) → c.sum_limit-limit.result ≤ entry_bound
-limit-small c = rw c.sum_limit-limit.ensures (sum-limit-small _ (limits _ c.args.self.legal))
+limit-small c = rw (c.sum_limit-limit.ensures, c.legal.ensures) (sum-limit-small _ (limits _ c.args.self.legal))
 
 pub overflow_cast-limit : goal.overflow_cast-limit
 overflow_cast-limit c = record { sfits = omega (arith, limit-small c) }
@@ -46,7 +46,7 @@ returns-else-sum-lt0 c =
     let b = c.before.before.before.before.before in
     let a = b.args in
     above a.self.design a.sum.0 _ (to_z-of_z w64 a.sum.0 (search rules)) _
-    (to_z_pos w64 b.sum_limit-limit.result (omega (arith, limit-small c.before.before.before.before.before)) ∙ ap pos b.sum_limit-limit.ensures) c.if-sum-lt0.false
+    (to_z_pos w64 b.sum_limit-limit.result (omega (arith, limit-small c.before.before.before.before.before)) ∙ ap pos (rw b.legal.ensures at b.sum_limit-limit.ensures)) c.if-sum-lt0.false
 
 pub returns-then-sum-lt0 : goal.returns-then-sum-lt0
 returns-then-sum-lt0 c =
