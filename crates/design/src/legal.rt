@@ -6,7 +6,6 @@ ghost use Rattle.design.specs.Limits.{most_tables};
 ghost use Rattle.design.specs.Legal.{cut_checks, design_verdict};
 ghost use Rattle.design.specs.Legal as Legal;
 
-pub use crate::before::{design_verdict, pair_at};
 use crate::limits::{
     LEAST_INITIAL_BITS, MOST_INITIAL_BITS, MOST_OFFSET_BITS, MOST_TABLE_BITS, MOST_TABLES,
 };
@@ -14,7 +13,8 @@ use crate::{Design, LegalDesign, Pair};
 use refusal::{Cause, outside};
 use values::widths::{limits_of, width_verdict};
 
-// What is asked of each table: 7 is tried on all tables before 8 is tried on any.
+// What is asked of each table: 7 is tried on all tables before 8 is tried on any. An enum and no closures: it is a
+// parameter of one definition and of its laws.
 #[derive(Clone, Copy, Debug, PartialEq, Eq)]
 pub enum TableRule {
     SegmentBits,

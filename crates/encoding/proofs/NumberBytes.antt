@@ -2,7 +2,6 @@
 use mathlib.Core.Path.{◌≡◌, refl, ap, ◌∙◌}
 use mathlib.Core.List.{List, [], ◌∷◌, ◌++◌, append-nil}
 use Prim.Native.Nat.{ℕ, suc, ◌+◌, ◌-◌, ◌*◌, ◌/◌, ◌%◌, ◌^◌, ◌≤◌, ◌<◌}
-use native.Mathlib.Nat.{add-zero, sub-zero}
 use native.Mathlib.Numerals.{add-one}
 use native.Mathlib.Omega.{arith}
 use lib.ListN.{length, take, get_or, set, length-append, length-set}
@@ -14,47 +13,37 @@ use Rattle.encoding.specs.Bytes.{big_endian, number_in}
 use Rattle.encoding.specs.Inputs.{held}
 use Rattle.encoding.proofs.NumberBack.{big-endian-length}
 
--- A number of `width` bytes behind the first `count` bytes of a frame that held `before`: i of its bytes are written.
-pub record Appending (before bytes : List ℕ) (count width number i : ℕ) : Type 0 where
+-- A number of `width` bytes behind the first `count` bytes of a frame that held `before`: `left` bytes are still to be written, from
+-- place `at` on.
+pub record Appending (before bytes : List ℕ) (count width number at left : ℕ) : Type 0 where
   pub long : length bytes ≡ capacity
-  pub within : i ≤ width
+  pub place : at + left ≡ count + width
   pub room : count + width ≤ capacity
-  pub narrow : width ≤ 4
-  pub so_far : take (count + i) bytes ++ big_endian (width - i) number ≡ take count before ++ big_endian width number
+  pub narrow : left ≤ 4
+  pub so_far : take at bytes ++ big_endian left number ≡ take count before ++ big_endian width number
 
--- Nothing is written yet.
-pub appended-none : {bytes : List ℕ} {count width : ℕ} (number : ℕ) → length bytes ≡ capacity → count + width ≤ capacity → width ≤ 4
-    → Appending bytes bytes count width number 0
-appended-none number full room narrow =
-    record { long = full; within = omega arith; room = room; narrow = narrow; so_far = rw (add-zero, sub-zero) refl }
-
-module _ {before bytes : List ℕ} {count width number i : ℕ} (part : Appending before bytes count width number i) where
+module _ {before bytes : List ℕ} {count width number at left : ℕ} (part : Appending before bytes count width number at left) where
   -- One byte more is written, the highest of those that are left.
-  pub appended-more : i < width
-      → Appending before (set bytes (count + i) (number / 2 ^ (8 * (width - 1 - i)) % 256)) count width number (i + 1)
+  pub appended-more : 0 < left
+      → Appending before (set bytes at (number / 2 ^ (8 * (left - 1)) % 256)) count width number (at + 1) (left - 1)
   unfolding big_endian
   appended-more more =
-      let some : width - i ≡ suc (width - 1 - i) = omega arith in
-      let left : width - (i + 1) ≡ width - 1 - i = omega arith in
-      let next : count + (i + 1) ≡ suc (count + i) = omega arith in
-      let at = count + i in
-      let byte = number / 2 ^ (8 * (width - 1 - i)) % 256 in
+      let some : left ≡ suc (left - 1) = omega arith in
+      let byte = number / 2 ^ (8 * (left - 1)) % 256 in
       record {
         long = length-set bytes at byte ∙ part.long;
-        within = omega arith;
-        room = part.room;
-        narrow = part.narrow;
+        place = omega arith;
+        room = omega arith;
+        narrow = omega arith;
         so_far =
-            rw (left, next, take-suc-set bytes at byte (omega arith), append_snoc (take at bytes) byte (big_endian (width - 1 - i) number))
+            rw (add-one, take-suc-set bytes at byte (omega arith), append_snoc (take at bytes) byte (big_endian (left - 1) number))
             (rw some at part.so_far);
       }
 
-  -- All are: the frame has the whole number.
-  pub appended-all : i ≡ width → take (count + width) bytes ≡ take count before ++ big_endian width number
+  -- Nothing is left: the frame has the whole number.
+  pub appended-all : left ≡ 0 → take at bytes ≡ take count before ++ big_endian width number
   unfolding big_endian
-  appended-all all =
-      let none : width - width ≡ 0 = omega arith in
-      rw (all, none, append-nil) at part.so_far
+  appended-all none = rw (none, append-nil) at part.so_far
 
 -- The number of one byte more
 number-snoc : (bytes : List ℕ) (byte : ℕ) → number_in (bytes ++ (byte ∷ [])) ≡ number_in bytes * 256 + byte

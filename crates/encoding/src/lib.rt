@@ -13,7 +13,7 @@ pub mod numbers;
 use design::LegalDesign;
 use frames::CAPACITY;
 
-// A frame while it is put together: its first `count` bytes are there.
+// A frame while it is put together: its first `count` bytes are there. An array with a count and no `Vec`: nothing here allocates.
 #[derive(Clone, Copy)]
 pub struct Frame {
     pub bytes: [u8; CAPACITY],
@@ -32,18 +32,18 @@ impl Frame {
         }
     }
 
-    // inner: the frame with a number of `width` bytes behind what it has. Byte by byte: `copy_from_slice` of the last of `to_be_bytes` calls
-    // memcpy for them, and putting a line then took half as long again.
+    // inner: the frame with a number of `width` bytes behind what it has. Byte by byte: with `copy_from_slice` of the last of `to_be_bytes`
+    // putting a line took half as long again.
     pub fn with(mut self, width: usize, number: u32) -> Frame
         requires { WidthInput self.count width }
         ensures result_value { held result ≡ held self ++ big_endian width number }
         ensures count_value { result.count ≡ self.count + width }
     {
-        let start = self.count;
-        for i in 0..width {
-            self.bytes[start + i] = ((number >> (8 * (width - 1 - i))) % 256) as u8;
+        for left in (0..width).rev() {
+            let at = self.count;
+            self.bytes[at] = ((number >> (8 * left)) % 256) as u8;
+            self.count = at + 1;
         }
-        self.count = start + width;
         self
     }
 }
@@ -69,6 +69,7 @@ pub fn design_frame(legal: LegalDesign) -> Frame
     ensures count_value { result.count ≡ length (design_bytes legal.design) }
 {
     let mut frame = design_head(legal);
+    // by the number of the table, as the promise goes
     for i in 0..legal.design.m {
         let pair = legal.pair(i);
         frame = frame.with(1, pair.a).with(1, pair.b);

@@ -34,7 +34,7 @@ use encoding::numbers::{from_complement, number_in};
 use frames::{Decoded, decode, first_design};
 use lines::{Slot, entry_over, entry_width, head_of, line_count, slot_of};
 use refusal::Cause;
-use tables::short_tables;
+use tables::tables_short;
 
 // Document 01's reading state. With no line taken the design is not read.
 #[derive(Clone, Copy)]
@@ -43,7 +43,8 @@ pub struct Reading {
     pub taken: usize,
 }
 
-// What `read_line` answers, and the state to go on with.
+// What `read_line` answers, and the state to go on with: beside the verdict and not inside of it, since a refusal gives back the
+// state, too.
 #[derive(Clone, Copy)]
 pub struct Read {
     pub verdict: Result<(), Cause>,
@@ -115,7 +116,7 @@ fn first_line(
         (next_state state (take frame.count frame.bytes)) }
 {
     let legal = first_design(&frame)?;
-    if short_tables(legal, initial, offsets) {
+    if tables_short(legal, initial, offsets) {
         return Err(Cause::TablesShort);
     }
     Ok(Reading {
@@ -152,7 +153,7 @@ fn later_line(
     }
     let number = number_in(&frame.bytes[head.count..head.count + width]);
     let over = entry_over(legal, slot, number);
-    let short = short_tables(legal, initial.len(), offsets.len());
+    let short = tables_short(legal, initial.len(), offsets.len());
     if over {
         return Err(Cause::InitialRange);
     }

@@ -1,12 +1,12 @@
 -- Which states are possible, and which are finished, test by test.
-use Rattle.std.specs.Prelude.{Ok, Err, is_err}
-use mathlib.Core.Path.{◌≡◌, refl, sym}
-use mathlib.Core.Bool.{Bool, true, false, not, ◌&&◌, true≢false}
+use Rattle.std.specs.Prelude.{Err}
+use mathlib.Core.Path.{◌≡◌, sym}
+use mathlib.Core.Bool.{Bool, true, false, not, ◌&&◌}
 use Prim.Native.Nat.{ℕ, ◌≤◌, ◌<◌}
 use lib.Dec.{ltb, eqb}
 use borrow.Author.Tests.{lt-ltb, le-ltb, le-leb, lt-leb, leb-true}
 use Rattle.general.proofs.Tests.{both}
-use Rattle.refusal.specs.Verdict.{Verdict}
+use Rattle.refusal.specs.declared.Cause.{Cause}
 use Rattle.refusal.proofs.Checks.{verdict-append}
 use Rattle.design.specs.declared.Design.{Design}
 use Rattle.design.specs.Legal.{design_verdict, Legal}
@@ -45,20 +45,11 @@ module _ (total : ℕ) (state : HexReading) where
   unfolding hex_possible
   taken-within e = leb-true _ _ (both _ _ e).0
 
--- A verdict that is no refusal passes.
-pub none-refused : (v : Verdict) → is_err v ≡ false → v ≡ Ok tt
-none-refused (Ok tt) e = refl
-none-refused (Err cause) e = absurd (true≢false e)
-
 -- A finished reading: the design is tried, then its bytes, then the state, and then the number of records.
 module _ (d : Design) (state : HexReading) where
-  fails-unfinished : (v : Verdict) → design_verdict d ≡ v → is_err v ≡ true → hex_finished d state ≡ false
+  pub illegal-unfinished : (cause : Cause) → design_verdict d ≡ Err cause → hex_finished d state ≡ false
   unfolding hex_finished design_verdict
-  fails-unfinished (Ok tt) e f = absurd (true≢false (sym f))
-  fails-unfinished (Err cause) e f = rw (verdict-append, e)
-
-  pub illegal-unfinished : is_err (design_verdict d) ≡ true → hex_finished d state ≡ false
-  illegal-unfinished f = fails-unfinished (design_verdict d) refl f
+  illegal-unfinished cause e = rw (verdict-append, e)
 
   module _ (legal : Legal d) where
     pub large-unfinished : most_bytes < byte_count d → hex_finished d state ≡ false

@@ -23,7 +23,6 @@ ghost use Rattle.record_reading.specs.Storing.{initial_home, offset_home, stored
 ghost use Rattle.record_reading.specs.Inputs.{StoreInput, TakenInput, due_verdict, after_record};
 
 use design::Design;
-use design::legal::design_verdict;
 use encoding::numbers::{ENTRY_BYTES, from_complement, number_in};
 use frames::{CAPACITY, Decoded};
 use reading::head_fails;
@@ -31,7 +30,7 @@ use records::{
     Extent, HEAD_BYTES, MOST_BYTES, bytes_before, decode_record, extent_of, head_of, record_count,
 };
 use refusal::Cause;
-use tables::set_verdict;
+use tables::checked_set;
 
 // Document 02's reading state: how many records are taken, and the start of an entry that the last of them cut. Unused bytes are 0.
 #[derive(Clone, Copy)]
@@ -41,7 +40,8 @@ pub struct HexReading {
     pub second: u8,
 }
 
-// What `read_record` answers, and the state to go on with.
+// What `read_record` answers, and the state to go on with: beside the verdict and not inside of it, since a refusal gives back the
+// state, too.
 #[derive(Clone, Copy)]
 pub struct HexRead {
     pub verdict: Result<(), Cause>,
@@ -159,10 +159,10 @@ impl HexReading {
     pub fn is_finished(self, d: Design) -> bool
         ensures { result ≡ hex_finished d self }
     {
-        if design_verdict(d).is_err() {
+        let Ok(legal) = d.checked() else {
             return false;
-        }
-        let total = ENTRY_BYTES * extent_of(d).entries;
+        };
+        let total = ENTRY_BYTES * extent_of(legal).entries;
         if MOST_BYTES < total {
             return false;
         }
@@ -184,8 +184,8 @@ impl HexReading {
         ensures offset_tables { offsets.new
             ≡ (hex_after d (hex_session self initial.old offsets.old) «record».now).offsets }
     {
-        set_verdict(d, initial.len(), offsets.len())?;
-        let extent = extent_of(d);
+        let legal = checked_set(d, initial.len(), offsets.len())?;
+        let extent = extent_of(legal);
         let total = ENTRY_BYTES * extent.entries;
         if MOST_BYTES < total {
             return Err(Cause::AddressRange);

@@ -108,7 +108,7 @@ module _ (d : Design) (initial : List ℕ) (offsets : List ℤ) (n : ℕ) (bytes
   due = record_text (record_head (byte_count d) n) piece
 
   pub due-passes : Usable d (length initial) (length offsets) → byte_count d ≤ most_bytes → n < record_count (byte_count d)
-      → hex_verdict_on d now due ≡ (Ok tt)
+      → hex_verdict_on d now due ≡ Ok tt
   unfolding holding
   due-passes tables addressed within =
       let initial-kept = stored-length (initial_home (initial_count d)) 0 bytes initial in
@@ -120,7 +120,7 @@ module _ (d : Design) (initial : List ℕ) (offsets : List ℤ) (n : ℕ) (bytes
         within = within;
       }) piece fits
 
-  pub due-moves : (s : HexSession) (text : List ℕ) → s ≡ now → text ≡ due → hex_verdict_on d s text ≡ (Ok tt)
+  pub due-moves : (s : HexSession) (text : List ℕ) → s ≡ now → text ≡ due → hex_verdict_on d s text ≡ Ok tt
       → hex_after d s text ≡ read_so (initial_count d) initial offsets (n + 1) (bytes ++ piece)
   unfolding hex_after
   due-moves s text is-now is-due passes =

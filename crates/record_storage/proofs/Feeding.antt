@@ -39,7 +39,7 @@ module _ (d : Design) where
   reached-none text s = record { comes-to = refl; all-taken = refl }
 
   pub reached-more : (text : ℕ → List ℕ) (s : HexSession) (n : ℕ) (end next : HexSession) → Reached text s n end
-      → hex_verdict_on d end (text n) ≡ (Ok tt) → hex_after d end (text n) ≡ next → Reached text s (suc n) next
+      → hex_verdict_on d end (text n) ≡ Ok tt → hex_after d end (text n) ≡ next → Reached text s (suc n) next
   unfolding list_below
   reached-more text s n end next r passes moves =
       record {

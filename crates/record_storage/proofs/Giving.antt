@@ -61,7 +61,7 @@ module _ (entries initials : ℕ) (initial : List ℕ) (offsets : List ℤ) (n :
 module _ (t : TableSet) (n : ℕ) (buffer : List ℕ) where
   -- The writer gives each record of a set that records can hold.
   module _ (ok : Recordable t) (within : n < record_count (byte_count t.design)) (room : length (record_in t n) ≤ length buffer) where
-    passes : hex_write_verdict t.design t.initial t.offsets n (length buffer) ≡ (Ok tt)
+    passes : hex_write_verdict t.design t.initial t.offsets n (length buffer) ≡ Ok tt
     unfolding hex_write_verdict record_set_checks bytes_check hex_number_check
     passes =
         rw (

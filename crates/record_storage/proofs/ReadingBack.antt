@@ -109,7 +109,7 @@ module _ (t : TableSet) (ok : Recordable t) (s : HexSession) (begins : s.state �
   comes-to-end : hex_feed d s (records_in t) ≡ end
   comes-to-end = rw all-records reached-all.comes-to
 
-  legal-addressed : verdict (design_checks d ++ bytes_check d ∷ []) ≡ (Ok tt)
+  legal-addressed : verdict (design_checks d ++ bytes_check d ∷ []) ≡ Ok tt
   unfolding design_verdict bytes_check
   legal-addressed = rw (verdict-append, ok.usable.legal, le-ltb _ _ ok.addressed)
 

@@ -177,13 +177,13 @@ module _ (d : Design) (s : HexSession) where
   abbrev n : ℕ
   n = s.state.taken
 
-  set-passes : Ready d s → verdict (record_set_checks d initial offsets) ≡ (Ok tt)
+  set-passes : Ready d s → verdict (record_set_checks d initial offsets) ≡ Ok tt
   unfolding record_set_checks bytes_check
   set-passes ready = rw (verdict-append, set-passed d initial offsets ready.tables, le-ltb _ _ ready.addressed)
 
   -- The record that is due is accepted, whatever bytes it holds.
   pub piece-passes : Ready d s → (piece : List ℕ) → PieceOf total n piece
-      → hex_verdict_on d s (record_text (record_head total n) piece) ≡ (Ok tt)
+      → hex_verdict_on d s (record_text (record_head total n) piece) ≡ Ok tt
   unfolding hex_verdict_on hex_checks hex_state_check record_check record_due_check
   piece-passes ready piece fits =
       rw (
@@ -196,7 +196,7 @@ module _ (d : Design) (s : HexSession) where
         piece-due total n piece fits,
       )
 
-  module _ (text : List ℕ) (passes : hex_verdict_on d s text ≡ (Ok tt)) where
+  module _ (text : List ℕ) (passes : hex_verdict_on d s text ≡ Ok tt) where
     -- What 1 to 10 and 20 tell, and what 17, 21 and 22 do
     set-tried : Usable d initial offsets × (byte_count d ≤ most_bytes)
     unfolding hex_verdict_on record_set_checks bytes_check

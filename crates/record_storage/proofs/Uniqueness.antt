@@ -92,7 +92,7 @@ module _ (d : Design) (start : HexSession) where
 
   -- An accepted record is one more of the writer's.
   module _ (s : HexSession) (came : List (List ℕ)) (so_far : SoFar s came) (text : List ℕ)
-      (passes : hex_verdict_on d s text ≡ (Ok tt)) where
+      (passes : hex_verdict_on d s text ≡ Ok tt) where
     abbrev n : ℕ
     n = s.state.taken
 

@@ -76,7 +76,7 @@ pub record RecordStorage : Type 0 where
   -- what the fill writes can be stored: of an admitted design, all tables that begin with the entries the fill writes for it,
   pub filled : (t : TableSet) → Admitted t.design → Filled t.design t.initial t.offsets → Recordable t
   -- and what an accepted fill leaves
-  pub fills : (d : Design) (initial : List ℕ) (offsets : List ℤ) → fill_verdict d (length initial) (length offsets) ≡ (Ok tt)
+  pub fills : (d : Design) (initial : List ℕ) (offsets : List ℤ) → fill_verdict d (length initial) (length offsets) ≡ Ok tt
       → Recordable (record { design = d; initial = initial_after d initial offsets; offsets = offsets_after d initial offsets })
   -- 20 is "never so within 01's limits, where a set takes at most 61,440"
   pub addressed : (d : Design) → Legal d → byte_count d ≤ 61440

@@ -20,7 +20,7 @@ use records::{
     DATA_BYTES, Extent, HEAD_BYTES, MOST_BYTES, bytes_before, extent_of, head_of, record_count,
 };
 use refusal::Cause;
-use tables::set_verdict;
+use tables::checked_set;
 
 // The number that entry e is written as, or None where it does not fit its 3 bytes.
 fn entry_number(initials: usize, initial: &[u32], offsets: &[i32], e: usize) -> Option<u32>
@@ -111,8 +111,8 @@ pub fn write_record(
     ensures told { told_by result ≡ hex_write_told d initial.now offsets.now number (length «record».old) }
     ensures record_buffer { «record».new ≡ record_buffer_after d initial.now offsets.now number «record».old }
 {
-    set_verdict(d, initial.len(), offsets.len())?;
-    let extent = extent_of(d);
+    let legal = checked_set(d, initial.len(), offsets.len())?;
+    let extent = extent_of(legal);
     let total = ENTRY_BYTES * extent.entries;
     if MOST_BYTES < total {
         return Err(Cause::AddressRange);

@@ -2,7 +2,6 @@
 #![tactic(auto)]
 
 ghost use Rattle.std.specs.Prelude.{◌≡◌, ◌≤◌};
-ghost use Rattle.design.specs.Legal.{Legal};
 ghost use Rattle.design.specs.Stored.{initial_count};
 ghost use Rattle.encoding.specs.Inputs.{held};
 ghost use Rattle.records.specs.IntelHex.{record_count, bytes_before, record_head};
@@ -10,8 +9,7 @@ ghost use Rattle.records.specs.SetBytes.{entry_count, most_bytes};
 ghost use Rattle.records.specs.Record.{decoded_record};
 ghost use Rattle.records.specs.Inputs.{CountInput, RecordInput};
 
-use design::Design;
-use design::measure::offset_total;
+use design::LegalDesign;
 use encoding::Frame;
 use frames::{Decoded, decode_digits};
 use general::pow2;
@@ -34,14 +32,13 @@ pub struct Extent {
 }
 
 // inner: the extent of a legal design's sets.
-pub fn extent_of(d: Design) -> Extent
-    requires { Legal d }
-    ensures { result ≡ record { initials = initial_count d; entries = entry_count d } }
+pub fn extent_of(legal: LegalDesign) -> Extent
+    ensures { result ≡ record { initials = initial_count legal.design; entries = entry_count legal.design } }
 {
-    let initials = pow2(d.alpha) as usize;
+    let initials = pow2(legal.design.alpha) as usize;
     Extent {
         initials,
-        entries: initials + offset_total(d) as usize,
+        entries: initials + legal.offset_total() as usize,
     }
 }
 

@@ -1,62 +1,58 @@
 -- What can be said of sets that are read from the input, whatever lines come.
-use Rattle.std.specs.Prelude.{◌≡◌, Bool, true, false, cond, List, [], ◌∷◌, ◌++◌, map, ℕ, ◌+◌, length, Err}
+use Rattle.std.specs.Prelude.{◌≡◌, Bool, true, false, cond, List, [], ◌∷◌, ◌++◌, map, ℕ, ◌+◌, length, Result, Ok, Err}
 use Rattle.general.specs.Lists.{All}
 use Rattle.refusal.specs.declared.Cause.{Cause}
 use Rattle.refusal.specs.Verdict.{Verdict}
-use Rattle.refusal.specs.Checks.{if_passed}
+use Rattle.refusal.specs.Checks.{answer}
 use Rattle.design.specs.declared.Design.{Design}
 use Rattle.design.specs.Legal.{Legal}
 use Rattle.tables.specs.Inputs.{Usable}
 use Rattle.reading.specs.ReadLine.{finished, Session, verdict_on, after}
 use Rattle.storage.specs.Feeding.{Begins, Finished, feed, accepted, finishes}
-use Rattle.console.specs.declared.Console.{Console}
-use Rattle.console.specs.declared.LineEnd.{LineEnd}
-use Rattle.console.specs.Reading.{Takes, NoNewline, by_input, spelled}
+use Rattle.console.specs.declared.line.LineEnd.{LineEnd}
+use Rattle.console.specs.Blocks.{Blocks}
+use Rattle.console.specs.Reading.{Takes, NoNewline, spelled}
 use Rattle.set_console.specs.declared.Came.{Came}
 
 -- Tables of these lengths hold every legal set, so that 10 never turns one down.
 abbrev pub HoldsEverySet : ℕ → ℕ → Type 0
 HoldsEverySet initial offsets = (d : Design) → Legal d → Usable d initial offsets
 
--- What a line that was taken comes to, by whether the set is finished with it
+-- What came of the input, or the cause for which a line is refused
+abbrev pub Outcome : Type 0
+Outcome = Result Came Cause
+
+-- What a line that was accepted comes to, by whether the set is finished with it
 abbrev pub came_of : Bool → Came
 came_of finished = cond finished Came.Set Came.Line
 
 -- What any line comes to, by the verdict on it
-abbrev pub came_by : Verdict → Bool → Came
-came_by v finished = if_passed v (came_of finished) Came.Refused
+abbrev pub came_by : Verdict → Bool → Outcome
+came_by v finished = answer v (came_of finished)
 
 -- What a line comes to that is fed to a reading
-abbrev pub came_on : Session → List ℕ → Came
+abbrev pub came_on : Session → List ℕ → Outcome
 came_on s line = came_by (verdict_on s line) (finished (after s line).state)
 
--- Whether there may be more of the set
-abbrev pub is_line : Came → Bool
-is_line Came.Line = true
-is_line Came.Set = false
-is_line Came.Nothing = false
-is_line (Came.Refused cause) = false
+-- What a set that is read comes to, by whether one came
+abbrev pub set_came : Result Bool Cause → Outcome
+set_came (Ok true) = Ok Came.Set
+set_came (Ok false) = Ok Came.Nothing
+set_came (Err cause) = Err cause
 
--- Whether a set is finished
-abbrev pub is_set : Came → Bool
-is_set Came.Line = false
-is_set Came.Set = true
-is_set Came.Nothing = false
-is_set (Came.Refused cause) = false
-
--- The number of lines that were taken, with this one
-abbrev pub lines_with : Came → ℕ → ℕ
-lines_with Came.Line n = n + 1
-lines_with Came.Set n = n + 1
-lines_with Came.Nothing n = n
-lines_with (Came.Refused cause) n = n
+-- The number of lines that were accepted, with this one
+abbrev pub lines_with : Outcome → ℕ → ℕ
+lines_with (Ok Came.Line) n = n + 1
+lines_with (Ok Came.Set) n = n + 1
+lines_with (Ok Came.Nothing) n = n
+lines_with (Err cause) n = n
 
 -- The sets that are said to be finished
-abbrev pub finished_as : Came → Session → List Session
-finished_as Came.Line next = []
-finished_as Came.Set next = next ∷ []
-finished_as Came.Nothing next = []
-finished_as (Came.Refused cause) next = []
+abbrev pub finished_as : Outcome → Session → List Session
+finished_as (Ok Came.Line) next = []
+finished_as (Ok Came.Set) next = next ∷ []
+finished_as (Ok Came.Nothing) next = []
+finished_as (Err cause) next = []
 
 -- A line of the input, among whose bytes there is no newline, and what ended it
 pub record InputLine : Type 0 where
@@ -73,16 +69,13 @@ input_bytes [] = []
 input_bytes (l ∷ lines) = spelled l.end l.line ++ input_bytes lines
 
 -- The bytes of a line that is said to be refused
-abbrev pub refused_bytes : Came → InputLine → List ℕ
-refused_bytes Came.Line l = []
-refused_bytes Came.Set l = []
-refused_bytes Came.Nothing l = []
-refused_bytes (Came.Refused cause) l = spelled l.end l.line
+abbrev pub refused_bytes : Outcome → InputLine → List ℕ
+refused_bytes (Ok came) l = []
+refused_bytes (Err cause) l = spelled l.end l.line
 
 -- What some lines of the input did to a reading, all of which were taken: they were fed to it one by one, "each call given the state that the
 -- call before gave back and the same tables", so that what `Storage` and `Several` say holds of a reading that began with no line taken.
-pub record Led (before next : Session) (from : Console) (input : List ℕ) (to : Console) (block : List ℕ) (first last : ℕ) (came : Came)
-    : Type 0 where
+pub record Led (before next : Session) (from to : Blocks) (first last : ℕ) (came : Outcome) : Type 0 where
   pub lines : List InputLine
   pub fed : feed before (texts_of lines) ≡ next
   pub all-taken : accepted before (texts_of lines) ≡ texts_of lines
@@ -90,19 +83,19 @@ pub record Led (before next : Session) (from : Console) (input : List ℕ) (to :
   pub counted : last ≡ first + length lines
   -- A set is said to be finished exactly where one is, and only with the last of these lines.
   pub sets : finishes before (texts_of lines) ≡ finished_as came next
-  pub complete : came ≡ Came.Set → Finished next
+  pub complete : came ≡ Ok Came.Set → Finished next
   -- Where a line is said to be refused for a cause, the reader refuses the next line for it, or what was read of that.
   pub line : InputLine
-  pub refused : (cause : Cause) → came ≡ Came.Refused cause → verdict_on next line.line ≡ Err cause
+  pub refused : (cause : Cause) → came ≡ Err cause → verdict_on next line.line ≡ Err cause
   -- The bytes that were taken from the input's blocks are those of these lines, in order, and of the one that is refused.
-  pub taken : Takes from input (input_bytes lines ++ refused_bytes came line) to block
+  pub taken : Takes from (input_bytes lines ++ refused_bytes came line) to
   -- The end of the input ended a line only where the input has ended.
-  pub ends : All (λ (l : InputLine). by_input l.end ≡ true → to.ended ≡ true) lines
+  pub ends : All (λ (l : InputLine). l.end ≡ LineEnd.Input → to.ended ≡ true) lines
 
 -- The same, where more was done than reading: the place in the input was then some place.
-pub record LedFrom (before next : Session) (from : Console) (input block : List ℕ) (first last : ℕ) (came : Came) : Type 0 where
-  pub to : Console
-  pub led : Led before next from input to block first last came
+pub record LedFrom (before next : Session) (from : Blocks) (first last : ℕ) (came : Outcome) : Type 0 where
+  pub to : Blocks
+  pub led : Led before next from to first last came
 
 -- A reading that some lines led to from one "begun with no line taken"
 pub record Reached (s : Session) : Type 0 where

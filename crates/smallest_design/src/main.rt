@@ -1,82 +1,46 @@
 // Reads a line of three decimal numbers, kind, w and q, from standard input, and writes the line of the smallest design and its report.
 #![tactic(auto)]
 
-ghost use Rattle.design.specs.Legal.{Legal};
-
-use console::{Console, KEPT, TURNS};
-use design::Design;
+use console::{Console, KEPT};
+use design::LegalDesign;
 use encoding::{design_frame, put_line};
 use question_text::{Question, QuestionText};
-use refusal::Cause;
 use searching::smallest;
 
-// What the line is: everything before the first newline, or everything there is.
-#[derive(Clone, Copy)]
-struct QuestionLine {
-    console: Console,
-    question: Option<Question>,
-}
-
-// A character at a time, so that the line may be of any length.
-fn read_question(rt: &(impl Input + Print), input: &mut [u8], output: &[u8]) -> QuestionLine {
-    let mut console = Console::new();
+// What the line asks: everything before the first newline, or everything there is. A character at a time, so that the line may be of any
+// length. No input is so long that the loop ends by itself, but a proved loop has to end.
+fn read_question<R: Input + Print>(console: &mut Console<'_, '_, R>) -> Option<Question> {
     let mut text = QuestionText::new();
-    let mut turns = TURNS;
-    while 0 < turns {
-        let next = console.next_byte(rt, input, output);
-        console = next.console;
-        let b = next.byte;
-        if next.ended {
-            return QuestionLine {
-                console,
-                question: text.question(),
-            };
+    for _ in 0..u64::MAX {
+        match console.next_byte() {
+            None | Some(b'\n') => return text.question(),
+            Some(b) => text = text.with(b),
         }
-        if b == b'\n' {
-            return QuestionLine {
-                console,
-                question: text.question(),
-            };
-        }
-        text = text.with(b);
-        turns -= 1;
     }
-    QuestionLine {
-        console,
-        question: None,
-    }
+    None
 }
 
 // The design's line, and what the report says of it.
-fn put_design(rt: &impl Print, console: Console, output: &mut [u8], d: Design) -> Console
-    requires { Legal d }
-{
-    let frame = design_frame(d);
+fn put_design<R: Print>(console: &mut Console<'_, '_, R>, legal: LegalDesign) {
+    let frame = design_frame(legal);
     let digits = 2 * (frame.count + 1);
     let mut line = [0u8; KEPT];
     put_line(frame, &mut line);
-    let named = console.put(rt, output, &line[..digits]);
-    let ended = named.put(rt, output, b"\n");
-    ended.put_report(rt, output, &line[..digits])
+    let text = &line[..digits];
+    console.put(text);
+    console.put(b"\n");
+    console.put_report(text);
 }
 
-fn answer(rt: &impl Print, console: Console, output: &mut [u8], question: Question) -> Console {
-    let found = smallest(question.kind, question.w, question.q);
-    let verdict = found.verdict;
-    let best = found.best;
-    match verdict {
-        Ok(()) => put_design(rt, console, output, best.design),
-        Err(cause) => console.put_refused(rt, output, cause),
-    }
-}
-
-fn read_and_answer(rt: &(impl Input + Print), input: &mut [u8], output: &mut [u8]) -> Console {
-    let line = read_question(rt, input, output);
-    let console = line.console;
-    let question = line.question;
-    match question {
-        Some(numbers) => answer(rt, console, output, numbers),
-        None => console.put(rt, output, b"NOT THREE NUMBERS\n"),
+fn answer<R: Print>(console: &mut Console<'_, '_, R>, question: Question) {
+    match smallest(question.kind, question.w, question.q) {
+        Ok(found) => {
+            let legal = LegalDesign {
+                design: found.design,
+            };
+            put_design(console, legal);
+        }
+        Err(cause) => console.put_refused(cause),
     }
 }
 
@@ -84,6 +48,10 @@ fn main(rt: HostRuntime) {
     // A byte at a time, so that nothing behind the line is taken from the input.
     let mut input = [0u8; 1];
     let mut output = [0u8; 128];
-    let console = read_and_answer(&rt, &mut input, &mut output);
-    console.flush(&rt, &output);
+    let mut console = Console::new(&rt, &mut input, &mut output);
+    match read_question(&mut console) {
+        Some(question) => answer(&mut console, question),
+        None => console.put(b"NOT THREE NUMBERS\n"),
+    }
+    console.flush();
 }

@@ -123,7 +123,7 @@ pub record Accepted (s : Session) (line : List ℕ) (design : Design) (number : 
 
 -- A line that passes, the frame it is the line of, and the design that counts after it
 module _ (s : Session) (line f : List ℕ) (d : Design) (small : Bytes f) (is-line : line_of f ≡ line) (bytes : bytes_of line ≡ with_sum f)
-    (not-empty : is_empty line ≡ false) (passes : verdict_on s line ≡ (Ok tt)) (counts : design_after s.state (with_sum f) ≡ d)
+    (not-empty : is_empty line ≡ false) (passes : verdict_on s line ≡ Ok tt) (counts : design_after s.state (with_sum f) ≡ d)
     (tables : Usable d (length s.initial) (length s.offsets)) (within : s.state.taken < line_count d) where
   abbrev slot : Slot
   slot = slot_of d s.state.taken
@@ -170,7 +170,7 @@ pub record SomeAccepted (s : Session) (line : List ℕ) : Type 0 where
   pub number : ℕ
   pub accepted : Accepted s line design number
 
-module _ (s : Session) (line : List ℕ) (not-empty : is_empty line ≡ false) (passes : verdict_on s line ≡ (Ok tt)) where
+module _ (s : Session) (line : List ℕ) (not-empty : is_empty line ≡ false) (passes : verdict_on s line ≡ Ok tt) where
   tried : Passing s.state (length s.initial) (length s.offsets) line
   unfolding verdict_on
   tried = passing s.state (length s.initial) (length s.offsets) line not-empty passes

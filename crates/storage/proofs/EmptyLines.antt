@@ -34,7 +34,7 @@ module _ (s : Session) (is-possible : possible s.state ≡ true) where
   unfolding verdict_on state_check
   by_state = empty-verdict s.state (length s.initial) (length s.offsets) [] refl ∙ rw is-possible
 
-  pub empty-taken : between s.state ≡ true → verdict_on s [] ≡ (Ok tt)
+  pub empty-taken : between s.state ≡ true → verdict_on s [] ≡ Ok tt
   empty-taken e = by_state ∙ empty-passes s.state e
 
   pub empty-refused : 0 < s.state.taken → finished s.state ≡ false
@@ -43,7 +43,7 @@ module _ (s : Session) (is-possible : possible s.state ≡ true) where
       let refused = by_state ∙ empty-fails s.state (by-finish s.state some ∙ e) in
       (refused, refused-stands s [] Cause.Frame refused)
 
-pub empty-before : (s : Session) → Begins s → (verdict_on s [] ≡ (Ok tt)) × (after s [] ≡ s)
+pub empty-before : (s : Session) → Begins s → (verdict_on s [] ≡ Ok tt) × (after s [] ≡ s)
 empty-before s none =
     (empty-taken s (first-possible s.state none) (before-set s.state none), passed_over s [] none refl)
 
@@ -51,7 +51,7 @@ empty-before s none =
 abbrev pub restarted : Session → Session
 restarted s = session (none_taken s.state) s.initial s.offsets
 
-pub empty-behind : (s : Session) → Finished s → (verdict_on s [] ≡ (Ok tt)) × (after s [] ≡ restarted s)
+pub empty-behind : (s : Session) → Finished s → (verdict_on s [] ≡ Ok tt) × (after s [] ≡ restarted s)
 unfolding finished
 empty-behind s done =
     let passes = empty-taken s (both (possible s.state) _ done).0 (after-set s.state done) in

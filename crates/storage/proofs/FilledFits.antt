@@ -62,7 +62,7 @@ filled-storable t legal filled =
     }
 
 -- "an accepted fill leaves such tables"
-pub fill-storable : (d : Design) (initial : List ℕ) (offsets : List ℤ) → fill_verdict d (length initial) (length offsets) ≡ (Ok tt)
+pub fill-storable : (d : Design) (initial : List ℕ) (offsets : List ℤ) → fill_verdict d (length initial) (length offsets) ≡ Ok tt
     → Storable (record { design = d; initial = initial_after d initial offsets; offsets = offsets_after d initial offsets })
 fill-storable d initial offsets passed =
     filled-storable _ (EntryLaws.fill-usable d initial offsets passed).legal (EntryLaws.filled d initial offsets passed)

@@ -42,7 +42,7 @@ unfolding list_below
 none_came s came so_far none = so_far.lines ∙ rw none
 
 -- An empty line is accepted only between sets.
-between-sets : (s : Session) (line : List ℕ) → is_empty line ≡ true → verdict_on s line ≡ (Ok tt) → between s.state ≡ true
+between-sets : (s : Session) (line : List ℕ) → is_empty line ≡ true → verdict_on s line ≡ Ok tt → between s.state ≡ true
 unfolding verdict_on empty_check
 between-sets s line empty passes =
     let tried = sym (empty-verdict s.state (length s.initial) (length s.offsets) line empty) ∙ passes in
@@ -81,11 +81,11 @@ module _ (s : Session) (came : List (List ℕ)) (so_far : SoFar s came) where
         go true e = rw e (sym (none_came s came so_far (eqb-true _ _ e)))
         go false e = rw e (append-nil came)
 
-    after-empty : is_empty line ≡ true → verdict_on s line ≡ (Ok tt) → with_line came s line ≡ []
+    after-empty : is_empty line ≡ true → verdict_on s line ≡ Ok tt → with_line came s line ≡ []
     unfolding with_line
     after-empty empty e = rw (empty-restarts s line empty e)
 
-    after-other : is_empty line ≡ false → verdict_on s line ≡ (Ok tt) → with_line came s line ≡ came ++ (line ∷ [])
+    after-other : is_empty line ≡ false → verdict_on s line ≡ Ok tt → with_line came s line ≡ came ++ (line ∷ [])
     unfolding with_line
     after-other not-empty e =
         let some = accepted-line s line not-empty e in
@@ -102,7 +102,7 @@ module _ (s : Session) (came : List (List ℕ)) (so_far : SoFar s came) where
       unfolding finished_by lines_of
       step-refused cause e = rw (after-refused cause e, e, refused-stands s line cause e)
 
-      step-empty : is_empty line ≡ true → verdict_on s line ≡ (Ok tt) → Step
+      step-empty : is_empty line ≡ true → verdict_on s line ≡ Ok tt → Step
       unfolding finished_by lines_of without_empty
       step-empty empty e =
           rw (
@@ -114,7 +114,7 @@ module _ (s : Session) (came : List (List ℕ)) (so_far : SoFar s came) where
             not-begun (none_taken s.state) refl,
           )
 
-      step_other : is_empty line ≡ false → verdict_on s line ≡ (Ok tt) → Step
+      step_other : is_empty line ≡ false → verdict_on s line ≡ Ok tt → Step
       unfolding finished_by lines_of without_empty
       step_other not-empty e = go (finished (after s line).state) refl
         where

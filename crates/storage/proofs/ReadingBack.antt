@@ -48,7 +48,7 @@ record Reached (line : ℕ → List ℕ) (s : Session) (n : ℕ) (end : Session)
   finished-sets : finishes s (list_below n line) ≡ sets
 
 module _ (line : ℕ → List ℕ) (s : Session) (n : ℕ) (end next : Session) (sets : List Session) where
-  reached-more : Reached line s n end sets → verdict_on end (line n) ≡ (Ok tt) → after end (line n) ≡ next
+  reached-more : Reached line s n end sets → verdict_on end (line n) ≡ Ok tt → after end (line n) ≡ next
       → (set : List Session) → cond (is-finished next.state) (next ∷ []) [] ≡ set → Reached line s (suc n) next (sets ++ set)
   unfolding list_below feed accepted finishes finished_by
   reached-more r passes moves set set_is =

@@ -34,7 +34,7 @@ goes_on s middle end lines more sets later first rest =
     }
 
 -- An empty line that leads to a reading with no line taken
-one-empty : (s next : Session) → verdict_on s [] ≡ (Ok tt) → after s [] ≡ next → Begins next → Goes s ([] ∷ []) next []
+one-empty : (s next : Session) → verdict_on s [] ≡ Ok tt → after s [] ≡ next → Begins next → Goes s ([] ∷ []) next []
 unfolding feed accepted finishes finished_by
 one-empty s next passes moves none =
     record { comes-to = moves; all-taken = rw passes; finished-sets = rw (passes, moves, not-begun next.state none) }

@@ -20,7 +20,7 @@ use Rattle.storage.proofs.FilledFits.{filled-storable, fill-storable}
 -- The writer gives each line of a set that has a stored form.
 module _ (t : TableSet) (n : ℕ) (buffer : List ℕ) (ok : Storable t) (within : n < line_count t.design)
     (room : length (line_at t.design t.initial t.offsets n) ≤ length buffer) where
-  passes : write_verdict t.design t.initial t.offsets n (length buffer) ≡ (Ok tt)
+  passes : write_verdict t.design t.initial t.offsets n (length buffer) ≡ Ok tt
   passes = line-passes _ _ _ _ _ ok.usable within (storable-lines t ok n within) room
 
   gives : Gives t n buffer

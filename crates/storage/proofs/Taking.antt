@@ -92,7 +92,7 @@ module _ (d : Design) (n : ℕ) (initial set-initial : List ℕ) (offsets set-of
   abbrev line : List ℕ
   line = line_at d set-initial set-offsets n
 
-  pub later-passes : verdict_on (session state initial offsets) line ≡ (Ok tt)
+  pub later-passes : verdict_on (session state initial offsets) line ≡ Ok tt
   unfolding verdict_on
   later-passes =
       let bytes = line-bytes d tables.legal set-initial set-offsets n in
@@ -145,7 +145,7 @@ module _ (d : Design) (legal : Legal d) (set-initial : List ℕ) (set-offsets : 
   first-bytes : bytes_of (line_at d set-initial set-offsets 0) ≡ with_sum (design_bytes d)
   first-bytes = line-bytes d legal set-initial set-offsets 0 ∙ ap with_sum first_frame
 
-  pub first_passes : verdict_on s (line_at d set-initial set-offsets 0) ≡ (Ok tt)
+  pub first_passes : verdict_on s (line_at d set-initial set-offsets 0) ≡ Ok tt
   unfolding verdict_on
   first_passes =
       passed s.state (length s.initial) (length s.offsets) _ (record {

@@ -103,7 +103,7 @@ unfolding after
 refused-stands s line cause e = rw e
 
 -- An accepted empty line leaves no line taken, and both tables.
-pub empty-restarts : (s : Session) (line : List ℕ) → is_empty line ≡ true → verdict_on s line ≡ (Ok tt)
+pub empty-restarts : (s : Session) (line : List ℕ) → is_empty line ≡ true → verdict_on s line ≡ Ok tt
     → after s line ≡ session (none_taken s.state) s.initial s.offsets
 unfolding after
 empty-restarts s line empty e = rw (e, empty)
@@ -126,11 +126,11 @@ module _ (s : Session) (came : List (List ℕ)) (so_far : SoFar s came) (line : 
       go true e = rw e (none-taken s (eqb-true _ _ e))
       go false e = rw (e, append-nil came) so_far
 
-  still-restarted : is_empty line ≡ true → verdict_on s line ≡ (Ok tt) → StillSo
+  still-restarted : is_empty line ≡ true → verdict_on s line ≡ Ok tt → StillSo
   unfolding with_line
   still-restarted empty e = rw (empty-restarts s line empty e) (none-taken _ refl)
 
-  still-accepted : is_empty line ≡ false → verdict_on s line ≡ (Ok tt) → StillSo
+  still-accepted : is_empty line ≡ false → verdict_on s line ≡ Ok tt → StillSo
   unfolding with_line
   still-accepted not-empty e =
       let some = accepted-line s line not-empty e in

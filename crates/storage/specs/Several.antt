@@ -67,10 +67,10 @@ unfinished_lines s lines = cond (finished (feed s lines).state) [] (taken s line
 -- A8, but for the report, which `DesignText.antt` of `frames` says
 pub record Several : Type 0 where
   -- "An empty line before a set's first line is passed over, the state unchanged."
-  pub before : (s : Session) → Begins s → (verdict_on s [] ≡ (Ok tt)) × (after s [] ≡ s)
+  pub before : (s : Session) → Begins s → (verdict_on s [] ≡ Ok tt) × (after s [] ≡ s)
   -- "An empty line after a finished set gives a reading state with no line taken, the design in it standing as it came." The tables stand.
   pub behind : (s : Session) → Finished s
-      → (verdict_on s [] ≡ (Ok tt)) × (after s [] ≡ session (none_taken s.state) s.initial s.offsets)
+      → (verdict_on s [] ≡ Ok tt) × (after s [] ≡ session (none_taken s.state) s.initial s.offsets)
   -- "Inside a set it is refused with 16"
   pub inside : (s : Session) → possible s.state ≡ true → 0 < s.state.taken → finished s.state ≡ false
       → (verdict_on s [] ≡ Err Cause.Frame) × (after s [] ≡ s)

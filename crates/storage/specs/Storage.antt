@@ -68,5 +68,5 @@ pub record Storage : Type 0 where
   -- written, so that neither 18 nor 23 turns one of its lines down,
   pub filled : (t : TableSet) → Admitted t.design → Filled t.design t.initial t.offsets → Storable t
   -- and so can what an accepted fill leaves
-  pub fills : (d : Design) (initial : List ℕ) (offsets : List ℤ) → fill_verdict d (length initial) (length offsets) ≡ (Ok tt)
+  pub fills : (d : Design) (initial : List ℕ) (offsets : List ℤ) → fill_verdict d (length initial) (length offsets) ≡ Ok tt
       → Storable (record { design = d; initial = initial_after d initial offsets; offsets = offsets_after d initial offsets })

@@ -99,7 +99,7 @@ pub record Unread : Type 0 where
   -- and not by the reader of lines, whose state has the design in it
   pub reader : (s t : Session) → SameReading s t → (line : List ℕ) → SameRead s t line
   -- "a reader leaves zeros there on an 01 line": the first that is not empty
-  pub zeros : (s : Session) (line : List ℕ) → s.state.taken ≡ 0 → is_empty line ≡ false → verdict_on s line ≡ (Ok tt)
+  pub zeros : (s : Session) (line : List ℕ) → s.state.taken ≡ 0 → is_empty line ≡ false → verdict_on s line ≡ Ok tt
       → (i : ℕ) → (after s line).state.design.m ≤ i
       → get_or (after s line).state.design.pairs i no_pair ≡ no_pair
   -- "and keeps them as they came on later lines", also on an empty one after the last

@@ -5,18 +5,16 @@ ghost use Rattle.std.specs.Prelude.{◌≡◌, IfOk};
 ghost use Rattle.refusal.specs.Checks.{verdict, verdict_of};
 ghost use Rattle.tables.specs.Set.{tables_check, set_checks};
 
-mod before;
 pub mod lookups;
 pub mod runs;
 pub mod sums;
 
-pub use before::{set_verdict, tables_short};
 use design::{Design, LegalDesign};
 use general::pow2;
 use refusal::Cause;
 
 // inner: whether either table is shorter than the set, by their lengths.
-pub fn short_tables(legal: LegalDesign, initial: usize, offsets: usize) -> bool
+pub fn tables_short(legal: LegalDesign, initial: usize, offsets: usize) -> bool
     ensures { result ≡ (tables_check legal.design initial offsets).fails }
 {
     (initial as u64) < pow2(legal.design.alpha) || (offsets as u64) < legal.offset_total()
@@ -28,7 +26,7 @@ pub fn checked_set(d: Design, initial: usize, offsets: usize) -> Result<LegalDes
     ensures same { IfOk result (λ legal. legal.design ≡ d) }
 {
     let legal = d.checked()?;
-    if short_tables(legal, initial, offsets) {
+    if tables_short(legal, initial, offsets) {
         return Err(Cause::TablesShort);
     }
     Ok(legal)

@@ -12,15 +12,15 @@ returns-in_err-legal c =
     rw (r.1, r.2)
     (first-refused _ _ (search rules) c.requires.sound _ c.requires.taken_value _ _ _ (sym c.in_err-legal.ensures.verdict))
 
-pub returns-then-short_tables : goal.returns-then-short_tables
-returns-then-short_tables c =
+pub returns-then-tables_short : goal.returns-then-tables_short
+returns-then-tables_short c =
     let e = c.in_ok-legal.ensures in
     first_short _ _ (search rules) c.requires.sound _ c.requires.taken_value _ _ (sym e.verdict)
-    (rw e.held at (tested c.short_tables.ensures c.if-short_tables.true))
+    (rw e.held at (tested c.tables_short.ensures c.if-tables_short.true))
 
 pub returns : goal.returns
 returns c =
     let e = c.in_ok-legal.ensures in
     rw e.held
     (first-accepted _ _ (search rules) c.requires.sound _ c.requires.taken_value _ _ (sym e.verdict)
-    (rw e.held at (tested c.short_tables.ensures c.if-short_tables.false)))
+    (rw e.held at (tested c.tables_short.ensures c.if-tables_short.false)))

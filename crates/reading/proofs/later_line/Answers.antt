@@ -124,13 +124,13 @@ pub returns-then-short : goal.returns-then-short
 returns-then-short c =
     refused-outcome _ c.args.initial.now c.args.offsets.now _ _
     (later-short _ _ (search rules) c.requires.sound _ c.requires.begun _ _ (rw c.line_count.ensures at c.if-line_count-state.false) (due-told _ _ _ _ c.slot_of-slot.ensures c.head_of-head.ensures.result_value c.head_of-head.ensures.count_value _ _ _ _ _ c.entry_width-width.ensures c.head_fails.ensures c.if-head_fails.false)
-    (over-told _ _ _ _ _ c.slot_of-slot.ensures (number_is _ _ _ _ c.slot_of-slot.ensures c.head_of-head.ensures.result_value c.head_of-head.ensures.count_value _ _ _ c.entry_width-width.ensures c.number_in-number.ensures.value) _ _ c.entry_over-over.ensures (search rules)) (tested c.short_tables-short.ensures c.if-short.true))
+    (over-told _ _ _ _ _ c.slot_of-slot.ensures (number_is _ _ _ _ c.slot_of-slot.ensures c.head_of-head.ensures.result_value c.head_of-head.ensures.count_value _ _ _ c.entry_width-width.ensures c.number_in-number.ensures.value) _ _ c.entry_over-over.ensures (search rules)) (tested c.tables_short-short.ensures c.if-short.true))
 
 pub store-requires : goal.store-requires
 store-requires c =
     let b = c.requires.begun in record {
       slot_in = rw c.slot_of-slot.ensures
-          (slot-in _ _ _ _ (usable _ _ _ (set-lengths _ _ _ _ b.legal (tested c.short_tables-short.ensures c.if-short.false))) (rw c.line_count.ensures at c.if-line_count-state.false));
+          (slot-in _ _ _ _ (usable _ _ _ (set-lengths _ _ _ _ b.legal (tested c.tables_short-short.ensures c.if-short.false))) (rw c.line_count.ensures at c.if-line_count-state.false));
       number_bound = narrow c.slot_of-slot.result _ _ _ _ c.entry_width-width.ensures c.number_in-number.ensures.upper_bound;
     }
 
@@ -143,7 +143,7 @@ pub returns : goal.returns
 returns c =
     let due = (due-told _ _ _ _ c.slot_of-slot.ensures c.head_of-head.ensures.result_value c.head_of-head.ensures.count_value _ _ _ _ _ c.entry_width-width.ensures c.head_fails.ensures c.if-head_fails.false) in
     let below = (over-told _ _ _ _ _ c.slot_of-slot.ensures (number_is _ _ _ _ c.slot_of-slot.ensures c.head_of-head.ensures.result_value c.head_of-head.ensures.count_value _ _ _ c.entry_width-width.ensures c.number_in-number.ensures.value) _ _ c.entry_over-over.ensures c.if-over.false) in
-    let passed = later-accepted _ _ (search rules) c.requires.sound _ c.requires.begun _ _ (rw c.line_count.ensures at c.if-line_count-state.false) due below (tested c.short_tables-short.ensures c.if-short.false) in
+    let passed = later-accepted _ _ (search rules) c.requires.sound _ c.requires.begun _ _ (rw c.line_count.ensures at c.if-line_count-state.false) due below (tested c.tables_short-short.ensures c.if-short.false) in
     let told = accepted-outcome _ c.requires.begun c.args.initial.now c.args.offsets.now _ _ due passed in
     let tables = stored _ _ _ _ _ c.slot_of-slot.ensures (number_is _ _ _ _ c.slot_of-slot.ensures c.head_of-head.ensures.result_value c.head_of-head.ensures.count_value _ _ _ c.entry_width-width.ensures c.number_in-number.ensures.value) _ _ _ _ (c.store.ensures.initial_after, c.store.ensures.offsets_after) in
     record { value = told.value; initial_after = tables.0 ∙ told.initial_after; offsets_after = tables.1 ∙ told.offsets_after }

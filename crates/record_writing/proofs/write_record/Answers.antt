@@ -38,40 +38,34 @@ use Rattle.record_writing.proofs.AskedLaws.{
 }
 use Rattle.record_writing.proofs.write_record.Goals as goal
 
-pub returns-in_err-set_verdict : goal.returns-in_err-set_verdict
-returns-in_err-set_verdict c =
+pub returns-in_err-legal : goal.returns-in_err-legal
+returns-in_err-legal c =
     let r = err_from_is_err_and c.from_residual.result c.from_residual.ensures.1 in
-    rw (r.1, r.2) (refuses _ _ _ _ _ (refused-before _ _ _ _ _ (sym c.set_verdict.ensures ∙ c.in_err-set_verdict.was)))
-
-pub extent_of-extent-requires : goal.extent_of-extent-requires
-extent_of-extent-requires c =
-    let set : (let a = c.args in Usable a.d (length a.initial.now) (length a.offsets.now)) =
-    usable _ _ _ (sym c.set_verdict.ensures ∙ c.in_ok-set_verdict.was) in
-    (set).legal
+    rw (r.1, r.2) (refuses _ _ _ _ _ (refused-before _ _ _ _ _ (sym c.in_err-legal.ensures.verdict)))
 
 pub overflow_mul-total : goal.overflow_mul-total
 overflow_mul-total c =
     let set : (let a = c.args in Usable a.d (length a.initial.now) (length a.offsets.now)) =
-    usable _ _ _ (sym c.set_verdict.ensures ∙ c.in_ok-set_verdict.was) in
+    usable _ _ _ (sym c.in_ok-legal.ensures.verdict) in
     let total-is : (let a = c.args in entry_bytes * c.extent_of-extent.result.entries ≡ byte_count a.d) =
-    extent-bytes _ _ c.extent_of-extent.ensures in
+    extent-bytes _ _ (rw c.in_ok-legal.ensures.same at c.extent_of-extent.ensures) in
     let d = c.args.d in
     omega (arith, total-is, bytes-bounded d (set).legal)
 
 pub returns-then-total-gt-MOST_BYTES : goal.returns-then-total-gt-MOST_BYTES
 returns-then-total-gt-MOST_BYTES c =
     let set : (let a = c.args in Usable a.d (length a.initial.now) (length a.offsets.now)) =
-    usable _ _ _ (sym c.set_verdict.ensures ∙ c.in_ok-set_verdict.was) in
+    usable _ _ _ (sym c.in_ok-legal.ensures.verdict) in
     let total-is : (let a = c.args in entry_bytes * c.extent_of-extent.result.entries ≡ byte_count a.d) =
-    extent-bytes _ _ c.extent_of-extent.ensures in
+    extent-bytes _ _ (rw c.in_ok-legal.ensures.same at c.extent_of-extent.ensures) in
     refuses _ _ _ _ _ (past-addresses _ _ _ _ _ (set) (omega (arith, total-is, c.if-total-gt-MOST_BYTES.true)))
 
 pub returns-then-record_count-number : goal.returns-then-record_count-number
 returns-then-record_count-number c =
     let set : (let a = c.args in Usable a.d (length a.initial.now) (length a.offsets.now)) =
-    usable _ _ _ (sym c.set_verdict.ensures ∙ c.in_ok-set_verdict.was) in
+    usable _ _ _ (sym c.in_ok-legal.ensures.verdict) in
     let total-is : (let a = c.args in entry_bytes * c.extent_of-extent.result.entries ≡ byte_count a.d) =
-    extent-bytes _ _ c.extent_of-extent.ensures in
+    extent-bytes _ _ (rw c.in_ok-legal.ensures.same at c.extent_of-extent.ensures) in
     let few : (let a = c.args in byte_count a.d ≤ most_bytes) =
     omega (arith, total-is, c.if-total-gt-MOST_BYTES.false) in
     let count-is : (let a = c.args in c.record_count.result ≡ record_count (byte_count a.d)) =
@@ -81,9 +75,9 @@ returns-then-record_count-number c =
 pub put_entries-fits-requires : goal.put_entries-fits-requires
 put_entries-fits-requires c =
     let set : (let a = c.args in Usable a.d (length a.initial.now) (length a.offsets.now)) =
-    usable _ _ _ (sym c.set_verdict.ensures ∙ c.in_ok-set_verdict.was) in
+    usable _ _ _ (sym c.in_ok-legal.ensures.verdict) in
     let total-is : (let a = c.args in entry_bytes * c.extent_of-extent.result.entries ≡ byte_count a.d) =
-    extent-bytes _ _ c.extent_of-extent.ensures in
+    extent-bytes _ _ (rw c.in_ok-legal.ensures.same at c.extent_of-extent.ensures) in
     let few : (let a = c.args in byte_count a.d ≤ most_bytes) =
     omega (arith, total-is, c.if-total-gt-MOST_BYTES.false) in
     let count-is : (let a = c.args in c.record_count.result ≡ record_count (byte_count a.d)) =
@@ -92,14 +86,14 @@ put_entries-fits-requires c =
     omega (arith, count-is, c.if-record_count-number.false) in
     let asked : (let a = c.args in AskedInput c.extent_of-extent.result (length a.initial.now) (length a.offsets.now) a.number) =
     let a = c.args in
-    asked-input a.d a.initial.now a.offsets.now _ _ c.extent_of-extent.ensures (set) (few)
+    asked-input a.d a.initial.now a.offsets.now _ _ (rw c.in_ok-legal.ensures.same at c.extent_of-extent.ensures) (set) (few)
     (within) in
     record { asked_input = asked; window_len = search rules }
 
 pub overflow_sub-size : goal.overflow_sub-size
 overflow_sub-size c =
     let total-is : (let a = c.args in entry_bytes * c.extent_of-extent.result.entries ≡ byte_count a.d) =
-    extent-bytes _ _ c.extent_of-extent.ensures in
+    extent-bytes _ _ (rw c.in_ok-legal.ensures.same at c.extent_of-extent.ensures) in
     let size_is : (let a = c.args in c.bytes_before.result ≡ c.bytes_before-2.result + length_at (byte_count a.d) a.number) =
     let a = c.args in
     rw (c.bytes_before.ensures, c.bytes_before-2.ensures, total-is) (before-next (byte_count a.d) a.number) in
@@ -108,7 +102,7 @@ overflow_sub-size c =
 pub overflow_mul-characters : goal.overflow_mul-characters
 overflow_mul-characters c =
     let total-is : (let a = c.args in entry_bytes * c.extent_of-extent.result.entries ≡ byte_count a.d) =
-    extent-bytes _ _ c.extent_of-extent.ensures in
+    extent-bytes _ _ (rw c.in_ok-legal.ensures.same at c.extent_of-extent.ensures) in
     let size_is : (let a = c.args in c.bytes_before.result ≡ c.bytes_before-2.result + length_at (byte_count a.d) a.number) =
     let a = c.args in
     rw (c.bytes_before.ensures, c.bytes_before-2.ensures, total-is) (before-next (byte_count a.d) a.number) in
@@ -119,7 +113,7 @@ overflow_mul-characters c =
 pub overflow_add-characters : goal.overflow_add-characters
 overflow_add-characters c =
     let total-is : (let a = c.args in entry_bytes * c.extent_of-extent.result.entries ≡ byte_count a.d) =
-    extent-bytes _ _ c.extent_of-extent.ensures in
+    extent-bytes _ _ (rw c.in_ok-legal.ensures.same at c.extent_of-extent.ensures) in
     let size_is : (let a = c.args in c.bytes_before.result ≡ c.bytes_before-2.result + length_at (byte_count a.d) a.number) =
     let a = c.args in
     rw (c.bytes_before.ensures, c.bytes_before-2.ensures, total-is) (before-next (byte_count a.d) a.number) in
@@ -130,9 +124,9 @@ overflow_add-characters c =
 pub returns-then-not-fits : goal.returns-then-not-fits
 returns-then-not-fits c =
     let set : (let a = c.args in Usable a.d (length a.initial.now) (length a.offsets.now)) =
-    usable _ _ _ (sym c.set_verdict.ensures ∙ c.in_ok-set_verdict.was) in
+    usable _ _ _ (sym c.in_ok-legal.ensures.verdict) in
     let total-is : (let a = c.args in entry_bytes * c.extent_of-extent.result.entries ≡ byte_count a.d) =
-    extent-bytes _ _ c.extent_of-extent.ensures in
+    extent-bytes _ _ (rw c.in_ok-legal.ensures.same at c.extent_of-extent.ensures) in
     let few : (let a = c.args in byte_count a.d ≤ most_bytes) =
     omega (arith, total-is, c.if-total-gt-MOST_BYTES.false) in
     let count-is : (let a = c.args in c.record_count.result ≡ record_count (byte_count a.d)) =
@@ -146,7 +140,7 @@ returns-then-not-fits c =
     let a = c.args in omega (arith, size_is, asked-length a.d a.initial.now a.offsets.now a.number) in
     let settles : (let a = c.args in hex_write_verdict a.d a.initial.now a.offsets.now a.number (length a.«record».now)) ≡ verdict (width_check (c.put_entries-fits.result) ∷ room_check ((11 + 2 * (c.bytes_before.result - c.bytes_before-2.result))) ((let a = c.args in length a.«record».now)) ∷ []) =
     let a = c.args in
-    let fits = c.put_entries-fits.ensures.value ∙ asked-fits a.d a.initial.now a.offsets.now a.number _ c.extent_of-extent.ensures in
+    let fits = c.put_entries-fits.ensures.value ∙ asked-fits a.d a.initial.now a.offsets.now a.number _ (rw c.in_ok-legal.ensures.same at c.extent_of-extent.ensures) in
     rw (fits, ← length-is) (within-records _ _ _ _ (length a.«record».now) (set) (few) (within)) in
     let too_wide : c.put_entries-fits.result ≡ false → (let a = c.args in hex_write_verdict a.d a.initial.now a.offsets.now a.number (length a.«record».now)) ≡ Err Cause.EntryWidth =
     λ wide. settles ∙ rw wide in
@@ -155,9 +149,9 @@ returns-then-not-fits c =
 pub returns-then-record-characters : goal.returns-then-record-characters
 returns-then-record-characters c =
     let set : (let a = c.args in Usable a.d (length a.initial.now) (length a.offsets.now)) =
-    usable _ _ _ (sym c.set_verdict.ensures ∙ c.in_ok-set_verdict.was) in
+    usable _ _ _ (sym c.in_ok-legal.ensures.verdict) in
     let total-is : (let a = c.args in entry_bytes * c.extent_of-extent.result.entries ≡ byte_count a.d) =
-    extent-bytes _ _ c.extent_of-extent.ensures in
+    extent-bytes _ _ (rw c.in_ok-legal.ensures.same at c.extent_of-extent.ensures) in
     let few : (let a = c.args in byte_count a.d ≤ most_bytes) =
     omega (arith, total-is, c.if-total-gt-MOST_BYTES.false) in
     let count-is : (let a = c.args in c.record_count.result ≡ record_count (byte_count a.d)) =
@@ -171,7 +165,7 @@ returns-then-record-characters c =
     let a = c.args in omega (arith, size_is, asked-length a.d a.initial.now a.offsets.now a.number) in
     let settles : (let a = c.args in hex_write_verdict a.d a.initial.now a.offsets.now a.number (length a.«record».now)) ≡ verdict (width_check (c.put_entries-fits.result) ∷ room_check ((11 + 2 * (c.bytes_before.result - c.bytes_before-2.result))) ((let a = c.args in length a.«record».now)) ∷ []) =
     let a = c.args in
-    let fits = c.put_entries-fits.ensures.value ∙ asked-fits a.d a.initial.now a.offsets.now a.number _ c.extent_of-extent.ensures in
+    let fits = c.put_entries-fits.ensures.value ∙ asked-fits a.d a.initial.now a.offsets.now a.number _ (rw c.in_ok-legal.ensures.same at c.extent_of-extent.ensures) in
     rw (fits, ← length-is) (within-records _ _ _ _ (length a.«record».now) (set) (few) (within)) in
     let no_room : c.put_entries-fits.result ≡ true → (let a = c.args in length a.«record».now) < (11 + 2 * (c.bytes_before.result - c.bytes_before-2.result)) → (let a = c.args in hex_write_verdict a.d a.initial.now a.offsets.now a.number (length a.«record».now)) ≡ Err Cause.OutputShort =
     λ narrow short. settles ∙ rw (narrow, lt-ltb _ _ short) in
@@ -180,7 +174,7 @@ returns-then-record-characters c =
 pub overflow_add-window : goal.overflow_add-window
 overflow_add-window c =
     let total-is : (let a = c.args in entry_bytes * c.extent_of-extent.result.entries ≡ byte_count a.d) =
-    extent-bytes _ _ c.extent_of-extent.ensures in
+    extent-bytes _ _ (rw c.in_ok-legal.ensures.same at c.extent_of-extent.ensures) in
     let size_is : (let a = c.args in c.bytes_before.result ≡ c.bytes_before-2.result + length_at (byte_count a.d) a.number) =
     let a = c.args in
     rw (c.bytes_before.ensures, c.bytes_before-2.ensures, total-is) (before-next (byte_count a.d) a.number) in
@@ -191,7 +185,7 @@ overflow_add-window c =
 pub slice_bounds-window-end : goal.slice_bounds-window-end
 slice_bounds-window-end c =
     let total-is : (let a = c.args in entry_bytes * c.extent_of-extent.result.entries ≡ byte_count a.d) =
-    extent-bytes _ _ c.extent_of-extent.ensures in
+    extent-bytes _ _ (rw c.in_ok-legal.ensures.same at c.extent_of-extent.ensures) in
     let size_is : (let a = c.args in c.bytes_before.result ≡ c.bytes_before-2.result + length_at (byte_count a.d) a.number) =
     let a = c.args in
     rw (c.bytes_before.ensures, c.bytes_before-2.ensures, total-is) (before-next (byte_count a.d) a.number) in
@@ -203,7 +197,7 @@ slice_bounds-window-end c =
 pub slice_bounds-put_record-end : goal.slice_bounds-put_record-end
 slice_bounds-put_record-end c =
     let total-is : (let a = c.args in entry_bytes * c.extent_of-extent.result.entries ≡ byte_count a.d) =
-    extent-bytes _ _ c.extent_of-extent.ensures in
+    extent-bytes _ _ (rw c.in_ok-legal.ensures.same at c.extent_of-extent.ensures) in
     let size_is : (let a = c.args in c.bytes_before.result ≡ c.bytes_before-2.result + length_at (byte_count a.d) a.number) =
     let a = c.args in
     rw (c.bytes_before.ensures, c.bytes_before-2.ensures, total-is) (before-next (byte_count a.d) a.number) in
@@ -216,7 +210,7 @@ slice_bounds-put_record-end c =
 pub put_record-requires : goal.put_record-requires
 put_record-requires c =
     let total-is : (let a = c.args in entry_bytes * c.extent_of-extent.result.entries ≡ byte_count a.d) =
-    extent-bytes _ _ c.extent_of-extent.ensures in
+    extent-bytes _ _ (rw c.in_ok-legal.ensures.same at c.extent_of-extent.ensures) in
     let size_is : (let a = c.args in c.bytes_before.result ≡ c.bytes_before-2.result + length_at (byte_count a.d) a.number) =
     let a = c.args in
     rw (c.bytes_before.ensures, c.bytes_before-2.ensures, total-is) (before-next (byte_count a.d) a.number) in
@@ -229,9 +223,9 @@ put_record-requires c =
 pub returns : goal.returns
 returns c =
     let set : (let a = c.args in Usable a.d (length a.initial.now) (length a.offsets.now)) =
-    usable _ _ _ (sym c.set_verdict.ensures ∙ c.in_ok-set_verdict.was) in
+    usable _ _ _ (sym c.in_ok-legal.ensures.verdict) in
     let total-is : (let a = c.args in entry_bytes * c.extent_of-extent.result.entries ≡ byte_count a.d) =
-    extent-bytes _ _ c.extent_of-extent.ensures in
+    extent-bytes _ _ (rw c.in_ok-legal.ensures.same at c.extent_of-extent.ensures) in
     let few : (let a = c.args in byte_count a.d ≤ most_bytes) =
     omega (arith, total-is, c.if-total-gt-MOST_BYTES.false) in
     let count-is : (let a = c.args in c.record_count.result ≡ record_count (byte_count a.d)) =
@@ -245,7 +239,7 @@ returns c =
     let a = c.args in omega (arith, size_is, asked-length a.d a.initial.now a.offsets.now a.number) in
     let settles : (let a = c.args in hex_write_verdict a.d a.initial.now a.offsets.now a.number (length a.«record».now)) ≡ verdict (width_check (c.put_entries-fits.result) ∷ room_check ((11 + 2 * (c.bytes_before.result - c.bytes_before-2.result))) ((let a = c.args in length a.«record».now)) ∷ []) =
     let a = c.args in
-    let fits = c.put_entries-fits.ensures.value ∙ asked-fits a.d a.initial.now a.offsets.now a.number _ c.extent_of-extent.ensures in
+    let fits = c.put_entries-fits.ensures.value ∙ asked-fits a.d a.initial.now a.offsets.now a.number _ (rw c.in_ok-legal.ensures.same at c.extent_of-extent.ensures) in
     rw (fits, ← length-is) (within-records _ _ _ _ (length a.«record».now) (set) (few) (within)) in
     let writable : c.put_entries-fits.result ≡ true → (11 + 2 * (c.bytes_before.result - c.bytes_before-2.result)) ≤ (let a = c.args in length a.«record».now) → (let a = c.args in hex_write_verdict a.d a.initial.now a.offsets.now a.number (length a.«record».now)) ≡ Ok tt =
     λ narrow long. settles ∙ rw (narrow, le-ltb _ _ long) in
@@ -259,4 +253,4 @@ returns c =
     let all = bytes_below extent.entries number in
     let bytes : take count c.put_head.new.window ≡ record_head (entry_bytes * extent.entries) a.number ++ data_in all a.number =
     rw (c.put_head.ensures, size) (window-record number extent.entries a.number _ put) in
-    let text = asked-text a.d a.initial.now a.offsets.now a.number extent c.extent_of-extent.ensures bytes in writes _ _ _ _ _ (writable c.if-not-fits.false c.if-record-characters.false) (length-is) (c.put_record.ensures ∙ ap (over _ 0) text)
+    let text = asked-text a.d a.initial.now a.offsets.now a.number extent (rw c.in_ok-legal.ensures.same at c.extent_of-extent.ensures) bytes in writes _ _ _ _ _ (writable c.if-not-fits.false c.if-record-characters.false) (length-is) (c.put_record.ensures ∙ ap (over _ 0) text)

@@ -18,25 +18,15 @@ few d count legal is = omega (arith, is, design-length d legal, (limits d legal)
 
 pub put_line-requires : goal.put_line-requires
 put_line-requires g c =
-    let n = few _ _ c.requires c.design_frame-frame.ensures.count_value in
+    let n = few _ _ c.args.legal.legal c.design_frame-frame.ensures.count_value in
     record { short = omega (arith, n); long = omega (arith, n) }
 
 pub slice_bounds-line-end : goal.slice_bounds-line-end
 slice_bounds-line-end g c =
     let full : length c.put_line.new.line ≡ 33 = search rules in
-    omega (arith, full, few _ _ c.requires c.design_frame-frame.ensures.count_value)
+    omega (arith, full, few _ _ c.args.legal.legal c.design_frame-frame.ensures.count_value)
 
-pub slice_bounds-put-end : goal.slice_bounds-put-end
-slice_bounds-put-end g c =
+pub slice_bounds-text-end : goal.slice_bounds-text-end
+slice_bounds-text-end g c =
     let full : length c.put_line.new.line ≡ 33 = search rules in
-    sym (length-take-le _ _ (omega (arith, full, few _ _ c.requires c.design_frame-frame.ensures.count_value)))
-
-pub slice_bounds-line-end-2 : goal.slice_bounds-line-end-2
-slice_bounds-line-end-2 g c =
-    let full : length c.put_line.new.line ≡ 33 = search rules in
-    omega (arith, full, few _ _ c.requires c.design_frame-frame.ensures.count_value)
-
-pub slice_bounds-put_report-end : goal.slice_bounds-put_report-end
-slice_bounds-put_report-end g c =
-    let full : length c.put_line.new.line ≡ 33 = search rules in
-    sym (length-take-le _ _ (omega (arith, full, few _ _ c.requires c.design_frame-frame.ensures.count_value)))
+    sym (length-take-le _ _ (omega (arith, full, few _ _ c.args.legal.legal c.design_frame-frame.ensures.count_value)))

@@ -11,11 +11,11 @@ returns-in_err-legal c =
     let r = err_from_is_err_and c.from_residual.result c.from_residual.ensures.1 in
     rw (r.1, r.2) (record { verdict = sym (set-refused _ _ _ _ (sym c.in_err-legal.ensures.verdict)); same = tt })
 
-pub returns-then-short_tables : goal.returns-then-short_tables
-returns-then-short_tables c =
+pub returns-then-tables_short : goal.returns-then-tables_short
+returns-then-tables_short c =
     let e = c.in_ok-legal.ensures in
     record {
-      verdict = sym (set-lengths _ _ _ true (sym e.verdict) (rw e.same at (tested c.short_tables.ensures c.if-short_tables.true)));
+      verdict = sym (set-lengths _ _ _ true (sym e.verdict) (rw e.same at (tested c.tables_short.ensures c.if-tables_short.true)));
       same = tt;
     }
 
@@ -23,6 +23,6 @@ pub returns : goal.returns
 returns c =
     let e = c.in_ok-legal.ensures in
     record {
-      verdict = sym (set-lengths _ _ _ false (sym e.verdict) (rw e.same at (tested c.short_tables.ensures c.if-short_tables.false)));
+      verdict = sym (set-lengths _ _ _ false (sym e.verdict) (rw e.same at (tested c.tables_short.ensures c.if-tables_short.false)));
       same = e.same;
     }

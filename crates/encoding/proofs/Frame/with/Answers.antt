@@ -4,16 +4,16 @@ use native.Mathlib.Omega.{arith}
 use borrow.Author.Rules.{rules}
 use lib.ListN.{length}
 use Rattle.frames.specs.Line.{capacity}
-use Rattle.encoding.proofs.NumberBytes.{appended-none, appended-more, appended-all}
+use Rattle.encoding.proofs.NumberBytes.{appended-more, appended-all}
 use Rattle.encoding.proofs.Frame.with.Goals as goal
 
-pub loop-i-init : goal.loop-i-init
-loop-i-init c =
+pub loop-left-init : goal.loop-left-init
+loop-left-init c =
     let full : length c.args.self.bytes ≡ capacity = search rules in
-    appended-none _ full c.requires.room c.requires.narrow
+    record { long = full; place = refl; room = c.requires.room; narrow = c.requires.narrow; so_far = refl }
 
-pub loop-i-preserved : goal.loop-i-preserved
-loop-i-preserved c = appended-more c.loop-i.invariant c.loop-i-test.true
+pub loop-left-preserved : goal.loop-left-preserved
+loop-left-preserved c = appended-more c.loop-left.invariant c.loop-left-test.true
 
 pub returns : goal.returns
-returns c = record { result_value = appended-all c.loop-i.invariant (omega arith); count_value = refl }
+returns c = record { result_value = appended-all c.loop-left.invariant (omega arith); count_value = omega arith }

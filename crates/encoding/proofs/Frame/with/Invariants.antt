@@ -2,5 +2,5 @@
 use Rattle.encoding.proofs.NumberBytes.{Appending}
 use Rattle.encoding.proofs.Frame.with.Given as goal
 
-abbrev pub invariant-loop-i : goal.invariant-loop-i
-invariant-loop-i l = Appending l.initial.self.bytes l.self.bytes l.start l.width l.number l.i
+abbrev pub invariant-loop-left : goal.invariant-loop-left
+invariant-loop-left l = Appending l.initial.self.bytes l.self.bytes l.initial.self.count l.width l.number l.self.count l.left

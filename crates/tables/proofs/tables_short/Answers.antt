@@ -1,11 +1,11 @@
--- `tables::short_tables` meets its contract: either length decides it.
+-- `tables::tables_short` meets its contract: either length decides it.
 use mathlib.Core.Path.{sym, ◌∙◌}
 use native.Mathlib.Omega.{arith}
 use borrow.Author.Tests.{lt-ltb}
 use Rattle.design.specs.Stored.{initial_count}
 use Rattle.design.proofs.LegalLaws.{limits}
 use Rattle.tables.proofs.SetLaws.{initial-short, offsets-tried}
-use Rattle.tables.proofs.short_tables.Goals as goal
+use Rattle.tables.proofs.tables_short.Goals as goal
 
 pub pow2-requires : goal.pow2-requires
 pow2-requires c = omega (arith, limits _ c.args.legal.legal)
