@@ -87,7 +87,8 @@ impl LegalDesign {
         pow2(pair.a + pair.b)
     }
 
-    // inner: the number of offsets, all tables together. By the number of the table: a `sum` of counts would need their bound as a `requires`.
+    // inner: the number of offsets, all tables together. By the number of the table: a `sum` of counts would
+    // need their bound as a `requires`.
     pub fn offset_total(self) -> u64
         ensures { result ≡ offset_total self.design }
     {
