@@ -1,5 +1,5 @@
-// Goes through the examples of document 01 that are not starred, and those of document 02's smallest cut, one line each. What each should come to is in the file stdout
-// beside src/.
+// Goes through the examples of document 01 that are not starred, and those of document 02's smallest cut, one line each. What each
+// should come to is in the file stdout beside src/.
 #![tactic(auto)]
 
 use checking::{Checked, check};

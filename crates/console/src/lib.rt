@@ -153,7 +153,7 @@ impl<'r, 'b, R: Input + Print> Console<'r, 'b, R> {
         ensures taken { Takes self.old (start_bytes result bytes.new) self.new }
         ensures output { self.new.output ≡ self.old.output }
     {
-        for count in 0..bytes.len() {
+        for (count, place) in bytes.iter_mut().enumerate() {
             match self.next_byte() {
                 None if count == 0 => return None,
                 None => {
@@ -168,7 +168,7 @@ impl<'r, 'b, R: Input + Print> Console<'r, 'b, R> {
                         end: LineEnd::Newline,
                     });
                 }
-                Some(b) => bytes[count] = b,
+                Some(b) => *place = b,
             }
         }
         Some(LineStart {

@@ -13,7 +13,8 @@ use crate::{Design, LegalDesign, Pair};
 use refusal::{Cause, outside};
 use values::widths::{limits_of, width_verdict};
 
-// What is asked of each table: 7 is tried on all tables before 8 is tried on any.
+// What is asked of each table: 7 is tried on all tables before 8 is tried on any. An enum and no closures: it is a
+// parameter of one definition and of its laws.
 #[derive(Clone, Copy, Debug, PartialEq, Eq)]
 pub enum TableRule {
     SegmentBits,

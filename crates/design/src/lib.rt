@@ -22,7 +22,8 @@ pub struct Pair {
 // A pair of no bits, which stands where there is none.
 pub const NO_PAIR: Pair = Pair { a: 0, b: 0 };
 
-// Document 01's design. Pairs at m and beyond are not read, so that designs are not compared by `==`.
+// Document 01's design. The kind is a number and no enum, and the pairs are four, whatever m is: the refusals 1 and 6 are for numbers that
+// no enum and no slice would hold. Pairs at m and beyond are not read, so that designs are not compared by `==`.
 #[derive(Clone, Copy, Debug)]
 pub struct Design {
     pub kind: u32,

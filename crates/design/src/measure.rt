@@ -57,7 +57,7 @@ impl LegalDesign {
         (pow2(pair.b) - 1) * pow2(position) * slopes.spread
     }
 
-    // inner: the budget.
+    // inner: the budget. By the number of the table, as D_i and p_i go.
     pub fn budget(self) -> u64
         ensures { result ≡ budget self.design }
     {
@@ -87,7 +87,8 @@ impl LegalDesign {
         pow2(pair.a + pair.b)
     }
 
-    // inner: the number of offsets, all tables together.
+    // inner: the number of offsets, all tables together. By the number of the table: a `sum` of counts would
+    // need their bound as a `requires`.
     pub fn offset_total(self) -> u64
         ensures { result ≡ offset_total self.design }
     {

@@ -13,7 +13,7 @@ pub mod numbers;
 use design::LegalDesign;
 use frames::CAPACITY;
 
-// A frame while it is put together: its first `count` bytes are there.
+// A frame while it is put together: its first `count` bytes are there. An array with a count and no `Vec`: nothing here allocates.
 #[derive(Clone, Copy)]
 pub struct Frame {
     pub bytes: [u8; CAPACITY],
@@ -69,6 +69,7 @@ pub fn design_frame(legal: LegalDesign) -> Frame
     ensures count_value { result.count ≡ length (design_bytes legal.design) }
 {
     let mut frame = design_head(legal);
+    // by the number of the table, as the promise goes
     for i in 0..legal.design.m {
         let pair = legal.pair(i);
         frame = frame.with(1, pair.a).with(1, pair.b);

@@ -26,7 +26,7 @@ pub fn fits(v: u32) -> bool
     v < 16777216
 }
 
-// inner: whether a signed number does.
+// inner: whether a signed number does. A function of its own: one for both would take the two bounds, which are all there is.
 pub fn fits_signed(v: i32) -> bool
     ensures { result ≡ fits_signed entry_bytes v }
 {
@@ -41,7 +41,7 @@ pub fn complement(v: i32) -> u32
     v.cast_unsigned() % 16777216
 }
 
-// inner: what an entry's bytes in two's complement stand for.
+// inner: what an entry's bytes in two's complement stand for. Shifts up and down of 32 bits would be no plainer.
 pub fn from_complement(n: u32) -> i32
     requires { n < 2 ^ (8 * entry_bytes) }
     ensures { result ≡ from_complement entry_bytes n }

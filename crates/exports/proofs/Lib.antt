@@ -1,4 +1,3 @@
 -- Laws that the proofs of the linked calls cite, and that designs and their numbers are inverse.
 pub mod NumbersBack
 pub mod WordCount
-pub mod SumCall

@@ -1,6 +1,6 @@
 -- What stands behind the pointer of a call afterwards, by what the call tells: the answer, or where it was refused what stood there
 -- before; a batch's place is stored in either case.
-use Rattle.std.specs.Prelude.{Bool, List, [], ◌∷◌, ◌++◌, ℕ, ◌^◌, length, ℤ}
+use Rattle.std.specs.Prelude.{Bool, List, [], ◌∷◌, ◌++◌, ℕ, ◌^◌, length, ℤ, None, Some}
 use Rattle.refusal.specs.Verdict.{Verdict}
 use Rattle.refusal.specs.Checks.{verdict}
 use Rattle.refusal.specs.Told.{Told, accepted, refused, told}
@@ -9,7 +9,7 @@ use Rattle.values.specs.Value.{word_check}
 use Rattle.design.specs.declared.Design.{Design}
 use Rattle.tables.specs.Set.{set_checks}
 use Rattle.tables.specs.Sum.{sum_at}
-use Rattle.checking.specs.Check.{Finding, all-faithful, lowest-unfaithful}
+use Rattle.checking.specs.Check.{Finding}
 use Rattle.counting.specs.declared.Counts.{Counts}
 use Rattle.searching.specs.declared.SizedDesign.{SizedDesign}
 use Rattle.exports.specs.Numbers.{numbers_of}
@@ -35,14 +35,16 @@ place_after (refused number place) = place
 
 -- The lowest unfaithful word; 2^w, which is no word, where all are faithful
 abbrev pub first_after : ℕ → Told Finding → ℕ → ℕ
-first_after w (accepted all-faithful) before = 2 ^ w
-first_after w (accepted (lowest-unfaithful lowest)) before = lowest
+first_after w (accepted None) before = 2 ^ w
+first_after w (accepted (Some lowest)) before = lowest
 first_after w (refused number place) before = before
 
 -- The five counts, "sum out of range; nearest ..; faithful but not nearest; too low; too high", in that order
+abbrev pub five_of : Counts → List ℕ
+five_of counts = counts.outside ∷ counts.nearest ∷ counts.faithful ∷ counts.low ∷ counts.high ∷ []
+
 abbrev pub counts_after : Told Counts → List ℕ → List ℕ
-counts_after (accepted counts) before =
-    counts.outside ∷ counts.nearest ∷ counts.faithful ∷ counts.low ∷ counts.high ∷ []
+counts_after (accepted counts) before = five_of counts
 counts_after (refused number place) before = before
 
 -- The smallest design as its numbers, and its size in bits

@@ -5,9 +5,9 @@
 
 ghost use Rattle.std.specs.Prelude.{◌≡◌, length};
 ghost use Rattle.refusal.specs.Numbers.{verdict_number};
-ghost use Rattle.refusal.specs.Told.{number_told};
+ghost use Rattle.refusal.specs.Told.{told_by, number_told};
 ghost use Rattle.values.specs.Value.{value_told};
-ghost use Rattle.design.specs.Answers.{told_by, budget_told};
+ghost use Rattle.design.specs.Answers.{budget_told};
 ghost use Rattle.sizing.specs.Size.{size_told};
 ghost use Rattle.filling.specs.Fill.{fill_verdict, initial_after, offsets_after};
 ghost use Rattle.evaluating.specs.Evaluate.{evaluate_told};
@@ -16,23 +16,24 @@ ghost use Rattle.checking.specs.Check.{check_told};
 ghost use Rattle.counting.specs.Count.{count_told};
 ghost use Rattle.searching.specs.Best.{smallest_told};
 ghost use Rattle.exports.specs.Numbers.{design_of};
-ghost use Rattle.exports.specs.Behind.{behind, units_after, whole_after, place_after, first_after, counts_after, design_after, bits_after, sum_told};
+ghost use Rattle.exports.specs.Behind.{behind, units_after, whole_after, place_after, first_after, five_of, counts_after, design_after, bits_after, sum_told};
 
+mod answers;
 mod design_numbers;
 mod line_calls;
 mod record_calls;
 
-use checking::{Checked, check};
-use counting::count;
-use design_numbers::{design_of, put_design, verdict_number};
+use answers::{number_of, put};
+use checking::check;
+use counting::{Counts, count};
+use design::Design;
+use design_numbers::{design_of, numbers_of};
 use evaluating::{evaluate, evaluate_batch};
 use filling::fill;
 use general::pow2;
-use refusal::{Cause, number};
+use refusal::Cause;
 use searching::smallest;
-use tables::lookups::lookups_of;
-use tables::set_verdict;
-use tables::sums::sum_of;
+use tables::sums::TableSet;
 use values::value;
 
 // The value, in table units, and whether the exact value is that whole number.
@@ -52,26 +53,11 @@ pub extern "C" fn dorykleth_value(
 {
     match value(kind, w, q, g, x) {
         Ok(floor) => {
-            let count = floor.units.0;
-            *units = count;
+            *units = floor.units.0;
             *whole = floor.whole;
             0
         }
-        Err(cause) => number(cause),
-    }
-}
-
-// A budget or a size behind a pointer.
-fn put_measure(measured: Result<u64, Cause>, place: &mut u64) -> u8
-    ensures value { result ≡ number_told (told_by measured) }
-    ensures place_after { place.new ≡ behind (told_by measured) place.old }
-{
-    match measured {
-        Ok(measure) => {
-            *place = measure;
-            0
-        }
-        Err(cause) => number(cause),
+        Err(cause) => cause.into(),
     }
 }
 
@@ -80,7 +66,7 @@ pub extern "C" fn dorykleth_budget(design: &[u32; 14], budget: &mut u64) -> u8
     ensures number { result ≡ number_told (budget_told (design_of design.now)) }
     ensures budget { budget.new ≡ behind (budget_told (design_of design.now)) budget.old }
 {
-    put_measure(design::budget(design_of(design)), budget)
+    put(design::budget(design_of(design)), budget)
 }
 
 #[unsafe(no_mangle)]
@@ -88,7 +74,7 @@ pub extern "C" fn dorykleth_size(design: &[u32; 14], bits: &mut u64) -> u8
     ensures number { result ≡ number_told (size_told (design_of design.now)) }
     ensures bits { bits.new ≡ behind (size_told (design_of design.now)) bits.old }
 {
-    put_measure(sizing::size(design_of(design)), bits)
+    put(sizing::size(design_of(design)), bits)
 }
 
 // The smallest design of a kind, w and q as its numbers, and its size in bits.
@@ -104,15 +90,14 @@ pub extern "C" fn dorykleth_smallest(
     ensures design { design.new ≡ design_after (smallest_told kind w q) design.old }
     ensures bits { bits.new ≡ bits_after (smallest_told kind w q) bits.old }
 {
-    let found = smallest(kind, w, q);
-    let verdict = found.verdict;
-    if let Err(cause) = verdict {
-        return number(cause);
+    match smallest(kind, w, q) {
+        Ok(best) => {
+            *design = numbers_of(best.design);
+            *bits = best.bits;
+            0
+        }
+        Err(cause) => cause.into(),
     }
-    let best = found.best;
-    put_design(best.design, design);
-    *bits = best.bits;
-    0
 }
 
 #[unsafe(no_mangle)]
@@ -122,10 +107,20 @@ pub extern "C" fn dorykleth_fill(design: &[u32; 14], initial: &mut [u32], offset
     ensures initial_table { initial.new ≡ initial_after (design_of design.now) initial.old offsets.old }
     ensures offset_tables { offsets.new ≡ offsets_after (design_of design.now) initial.old offsets.old }
 {
-    verdict_number(fill(design_of(design), initial, offsets))
+    number_of(fill(design_of(design), initial, offsets))
 }
 
-// Y itself, before it is cut off to a word: refusals 1 to 10 and 12.
+// Y itself, before it is cut off to a word, or the first of the refusals 1 to 10 and 12.
+fn sum_answer(d: Design, initial: &[u32], offsets: &[i32], x: u32) -> Result<i64, Cause>
+    ensures { told_by result ≡ sum_told d initial.now offsets.now x }
+{
+    let set = TableSet::of(d, initial, offsets)?;
+    if pow2(d.w) <= x as u64 {
+        return Err(Cause::WordRange);
+    }
+    Ok(set.sum_of(x).0)
+}
+
 #[unsafe(no_mangle)]
 pub extern "C" fn dorykleth_sum(
     design: &[u32; 14],
@@ -138,17 +133,7 @@ pub extern "C" fn dorykleth_sum(
     ensures sum { sum.new ≡ behind (sum_told (design_of design.now) initial.now offsets.now x)
         sum.old }
 {
-    let d = design_of(design);
-    if let Err(cause) = set_verdict(d, initial.len(), offsets.len()) {
-        return number(cause);
-    }
-    if pow2(d.w) <= x as u64 {
-        return number(Cause::WordRange);
-    }
-    let units = sum_of(d, lookups_of(d), initial, offsets, x);
-    let total = units.0;
-    *sum = total;
-    0
+    put(sum_answer(design_of(design), initial, offsets, x), sum)
 }
 
 #[unsafe(no_mangle)]
@@ -164,13 +149,8 @@ pub extern "C" fn dorykleth_evaluate(
         ≡ behind (evaluate_told (design_of design.now) initial.now offsets.now x)
         word.old }
 {
-    match evaluate(design_of(design), initial, offsets, x) {
-        Ok(units) => {
-            *word = units.0;
-            0
-        }
-        Err(cause) => number(cause),
-    }
+    let answer = evaluate(design_of(design), initial, offsets, x);
+    put(answer.map(|units| units.0), word)
 }
 
 // The place is always stored: how many words there are, or where the batch is refused the place of the word.
@@ -194,13 +174,13 @@ pub extern "C" fn dorykleth_evaluate_batch(
         (length output.old)) }
 {
     match evaluate_batch(design_of(design), initial, offsets, words, output) {
-        Batched::Count(count) => {
+        Ok(count) => {
             *place = count;
             0
         }
-        Batched::Refused(cause, at) => {
-            *place = at;
-            number(cause)
+        Err(refusal) => {
+            *place = refusal.place;
+            refusal.cause.into()
         }
     }
 }
@@ -220,19 +200,31 @@ pub extern "C" fn dorykleth_check(
 {
     let d = design_of(design);
     match check(d, initial, offsets) {
-        Checked::Faithful => {
+        Ok(None) => {
             *first = pow2(d.w);
             0
         }
-        Checked::Unfaithful(x) => {
-            *first = x as u64;
+        Ok(Some(x)) => {
+            *first = u64::from(x);
             0
         }
-        Err(cause) => number(cause),
+        Err(cause) => cause.into(),
     }
 }
 
 // The five counts, in the order of their names in `Counts`.
+fn five(counts: Counts) -> [u32; 5]
+    ensures { result ≡ five_of counts }
+{
+    [
+        counts.outside,
+        counts.nearest,
+        counts.faithful,
+        counts.low,
+        counts.high,
+    ]
+}
+
 #[unsafe(no_mangle)]
 pub extern "C" fn dorykleth_count(
     design: &[u32; 14],
@@ -244,18 +236,5 @@ pub extern "C" fn dorykleth_count(
     ensures counts { counts.new ≡ counts_after (count_told (design_of design.now) initial.now offsets.now)
         counts.old }
 {
-    match count(design_of(design), initial, offsets) {
-        Ok(found) => {
-            let five = [
-                found.outside,
-                found.nearest,
-                found.faithful,
-                found.low,
-                found.high,
-            ];
-            *counts = five;
-            0
-        }
-        Err(cause) => number(cause),
-    }
+    put(count(design_of(design), initial, offsets).map(five), counts)
 }

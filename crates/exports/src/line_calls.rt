@@ -8,9 +8,9 @@ ghost use Rattle.report_text.specs.Report.{report_of};
 ghost use Rattle.exports.specs.Numbers.{design_of, numbers_of, state_of, session_of};
 ghost use Rattle.exports.specs.Behind.{behind};
 
-use crate::design_numbers::{design_of, put_design, verdict_number};
+use crate::answers::{number_of, put};
+use crate::design_numbers::{design_of, numbers_of};
 use reading::Reading;
-use refusal::number;
 use report_text::report;
 use writing::write_line;
 
@@ -33,13 +33,10 @@ pub extern "C" fn dorykleth_write_line(
         (length line.old))
         digits.old }
 {
-    match write_line(design_of(design), initial, offsets, line_number, line) {
-        Ok(count) => {
-            *digits = count;
-            0
-        }
-        Err(cause) => number(cause),
-    }
+    put(
+        write_line(design_of(design), initial, offsets, line_number, line),
+        digits,
+    )
 }
 
 // The reading state goes in and comes back as the numbers of its design and how many lines are taken.
@@ -72,11 +69,9 @@ pub extern "C" fn dorykleth_read_line(
         taken: *taken,
     };
     let read = came.read_line(initial, offsets, line);
-    let state = read.state;
-    let verdict = read.verdict;
-    put_design(state.design, design);
-    *taken = state.taken;
-    verdict_number(verdict)
+    *design = numbers_of(read.state.design);
+    *taken = read.state.taken;
+    number_of(read.verdict)
 }
 
 #[unsafe(no_mangle)]

@@ -7,10 +7,10 @@ ghost use Rattle.record_reading.specs.ReadRecord.{hex_finished, hex_verdict_on, 
 ghost use Rattle.exports.specs.Numbers.{design_of, hex_state_of, held_in, hex_session_of};
 ghost use Rattle.exports.specs.Behind.{behind};
 
-use crate::design_numbers::{design_of, verdict_number};
+use crate::answers::{number_of, put};
+use crate::design_numbers::design_of;
 use record_reading::HexReading;
 use record_writing::write_record;
-use refusal::number;
 
 #[unsafe(no_mangle)]
 pub extern "C" fn dorykleth_write_record(
@@ -31,13 +31,10 @@ pub extern "C" fn dorykleth_write_record(
         (length «record».old))
         characters.old }
 {
-    match write_record(design_of(design), initial, offsets, record_number, record) {
-        Ok(count) => {
-            *characters = count;
-            0
-        }
-        Err(cause) => number(cause),
-    }
+    put(
+        write_record(design_of(design), initial, offsets, record_number, record),
+        characters,
+    )
 }
 
 // The reading state goes in and comes back as how many records are taken and the two bytes that are held.
@@ -77,11 +74,9 @@ pub extern "C" fn dorykleth_read_record(
         second: held[1],
     };
     let read = came.read_record(design_of(design), initial, offsets, record);
-    let state = read.state;
-    let verdict = read.verdict;
-    *taken = state.taken;
-    *held = [state.first, state.second];
-    verdict_number(verdict)
+    *taken = read.state.taken;
+    *held = [read.state.first, read.state.second];
+    number_of(read.verdict)
 }
 
 #[unsafe(no_mangle)]

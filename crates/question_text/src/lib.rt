@@ -15,7 +15,7 @@ pub struct Question {
     pub q: u32,
 }
 
-// As many spaces as no question has. It stands for more spaces, too.
+// As many spaces as no question has. It stands for more spaces, too: an `Option` would be looked into for each character.
 const TOO_MANY: usize = 3;
 
 // What is known of a line so far: its numbers, and how many spaces came, which tell the number that the next digit belongs to.

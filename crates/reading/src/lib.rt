@@ -43,7 +43,8 @@ pub struct Reading {
     pub taken: usize,
 }
 
-// What `read_line` answers, and the state to go on with.
+// What `read_line` answers, and the state to go on with: beside the verdict and not inside of it, since a refusal gives back the
+// state, too.
 #[derive(Clone, Copy)]
 pub struct Read {
     pub verdict: Result<(), Cause>,

@@ -40,7 +40,8 @@ pub struct HexReading {
     pub second: u8,
 }
 
-// What `read_record` answers, and the state to go on with.
+// What `read_record` answers, and the state to go on with: beside the verdict and not inside of it, since a refusal gives back the
+// state, too.
 #[derive(Clone, Copy)]
 pub struct HexRead {
     pub verdict: Result<(), Cause>,

@@ -11,7 +11,7 @@ use itoa::Buffer;
 use refusal::Cause;
 use sizing::size_of;
 
-// Text of at most 96 bytes: the bytes with zeros behind them, and how many there are.
+// Text of at most 96 bytes: the bytes with zeros behind them, and how many there are. An array with a count: C takes all 96 bytes.
 #[derive(Clone, Copy)]
 pub struct Text {
     pub bytes: [u8; 96],

@@ -53,7 +53,7 @@ fn table_size(legal: LegalDesign, i: u32, position: u32) -> u64
     legal.offset_count(i) * offset_bits(legal, i, position) as u64
 }
 
-// inner: the size of a legal design, admitted or not.
+// inner: the size of a legal design, admitted or not. By the number of the table, as p_i goes.
 pub fn size_of(legal: LegalDesign) -> u64
     ensures { result ≡ Size.size legal.design }
 {

@@ -45,7 +45,8 @@ pub struct FloorValue {
     pub whole: bool,
 }
 
-// L(X) for an input word x, in table units, and whether it is E(X).
+// L(X) for an input word x, in table units, and whether it is E(X). The kind is a number and no enum: refusal 1 is for each number that is no
+// kind.
 pub fn value(kind: u32, w: u32, q: u32, g: u32, x: u32) -> Result<FloorValue, Cause>
     ensures answer { result ≡ value_of kind w q g x }
     ensures told { told_by result ≡ value_told kind w q g x }
