@@ -1,8 +1,12 @@
 // Reads sets from standard input, line by line, and says of each whether it is faithful.
 #![tactic(auto)]
 
-use set_files::{Task, answer_sets};
+use checking::check;
+use set_console::answers::put_checked;
+use set_files::answer_sets;
 
 fn main(rt: HostRuntime) {
-    answer_sets(&rt, Task::Check);
+    answer_sets(&rt, b"", |console, d, initial, offsets| {
+        put_checked(console, check(d, initial, offsets))
+    });
 }

@@ -26,7 +26,8 @@ use std::io;
 use std::io::Read;
 use std::marker::Model;
 
-// Where a program is in its input and output.
+// Where a program is in its input and output. The runtime has a lifetime of its own, as the check has no proof of a call on it while a
+// block of the same lifetime is lent.
 #[derive(Drop)]
 pub struct Console<'r, 'b, R> {
     rt: &'r R,
@@ -153,7 +154,7 @@ impl<'r, 'b, R: Input + Print> Console<'r, 'b, R> {
         ensures taken { Takes self.old (start_bytes result bytes.new) self.new }
         ensures output { self.new.output ≡ self.old.output }
     {
-        for count in 0..bytes.len() {
+        for (count, place) in bytes.iter_mut().enumerate() {
             match self.next_byte() {
                 None if count == 0 => return None,
                 None => {
@@ -168,7 +169,7 @@ impl<'r, 'b, R: Input + Print> Console<'r, 'b, R> {
                         end: LineEnd::Newline,
                     });
                 }
-                Some(b) => bytes[count] = b,
+                Some(b) => *place = b,
             }
         }
         Some(LineStart {

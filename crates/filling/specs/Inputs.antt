@@ -3,7 +3,6 @@ use Rattle.std.specs.Prelude.{◌≡◌, ℕ, ◌<◌}
 use Rattle.design.specs.declared.Design.{Design}
 use Rattle.design.specs.Cut.{position}
 use Rattle.design.specs.Stored.{offset_count}
-use Rattle.design.specs.Legal.{Legal}
 
 -- A table is to be written: table i, whose bits begin at p, into this many offsets, which are all of it.
 pub record TableInput (d : Design) (i p offsets : ℕ) : Type 0 where

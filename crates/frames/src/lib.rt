@@ -11,6 +11,7 @@ ghost use Rattle.frames.specs.DesignText.{design_line};
 
 use design::{Design, LegalDesign, NO_PAIR, Pair};
 use refusal::Cause;
+use std::array;
 
 // The longest line, in digits.
 pub const LONGEST_LINE: usize = 32;
@@ -30,9 +31,9 @@ const DIGITS: [u8; 23] = [
     0, 1, 2, 3, 4, 5, 6, 7, 8, 9, 16, 16, 16, 16, 16, 16, 16, 10, 11, 12, 13, 14, 15,
 ];
 
-// The number that a digit stands for. 16, which no digit does, for any other character, so that callers need one test. It is looked up:
-// a branch on whether a digit is a letter, which comes at random, would often be guessed wrong. The caller lends the numbers, so that they
-// are put into memory once for all digits.
+// The number that a digit stands for. 16, which no digit does, for any other character, so that callers need one test: with `Option<u8>`
+// and `?` reading a record took half as long again. It is looked up: a branch on whether a digit is a letter, which comes at random, would
+// often be guessed wrong. The caller lends the numbers, so that they are put into memory once for all digits.
 fn digit(numbers: &[u8; 23], c: u8) -> u8
     requires { numbers.now ≡ digit_numbers }
     ensures { result ≡ digit_value c }
@@ -128,12 +129,7 @@ fn frame_design(frame: &Decoded) -> Design
         g: bytes[4] as u32,
         alpha: bytes[5] as u32,
         m: bytes[6] as u32,
-        pairs: [
-            frame_pair(bytes, 0),
-            frame_pair(bytes, 1),
-            frame_pair(bytes, 2),
-            frame_pair(bytes, 3),
-        ],
+        pairs: array::from_fn(|i| frame_pair(bytes, i)),
     }
 }
 

@@ -2,4 +2,4 @@
 pub mod TextLaws
 pub mod LoadLaws
 pub mod StepLaws
-pub mod PuttingLaws
+pub mod RecordLaws

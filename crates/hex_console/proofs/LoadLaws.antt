@@ -1,14 +1,14 @@
 -- Records that are fed to a reading keep its state possible and its tables' lengths; so a set that is read is where its records led.
 use Rattle.std.specs.Prelude.{Ok, Err}
 use mathlib.Core.Path.{◌≡◌, refl, ap, ◌∙◌}
-use mathlib.Core.Bool.{Bool, true, false}
+use mathlib.Core.Bool.{Bool, true, false, ◌&&◌}
 use mathlib.Core.List.{List, [], ◌∷◌, ◌++◌}
 use Prim.Native.Nat.{ℕ, ◌+◌, ◌≤◌, ◌<◌}
 use native.Mathlib.Omega.{arith}
 use lib.ListN.{length, take, length-append}
 use lib.Seq.{length-take-le}
 use lib.IntN.{ℤ}
-use borrow.Author.Tests.{le-leb}
+use borrow.Author.Tests.{le-leb, ne_eqb}
 use Rattle.refusal.specs.Verdict.{Verdict}
 use Rattle.design.specs.declared.Design.{Design}
 use Rattle.design.specs.Legal.{Legal}
@@ -39,19 +39,18 @@ use Rattle.record_storage.specs.RecordStorage.{Recordable, loaded_in}
 use Rattle.record_storage.proofs.Uniqueness.{unique}
 use Rattle.record_storage.proofs.Taking.{Came, piece-data, accepted-record}
 use Rattle.record_storage.proofs.AfterRecords.{cut-possible}
-use Rattle.set_console.proofs.FeedLaws.{left}
+use Rattle.set_console.specs.Reading.{Outcome}
 use Rattle.hex_console.specs.Loaded.{HexStepped, HexCame}
+
+and-none : (b : Bool) → (b && false) ≡ false
+and-none true = refl
+and-none false = refl
 
 -- A legal design's set has few records, of which no more are taken than there are.
 pub few-records : (d : Design) (initial : List ℕ) (offsets : List ℤ) (s : HexSession) → Legal d → HexCame d initial offsets s
     → s.state.taken ≤ 3841
 unfolding record_count data_count
 few-records d initial offsets s legal came = omega (arith, taken-within (byte_count d) s.state came.is-possible, bytes-few d legal)
-
-pub left_less : (most taken next : ℕ) (before more : Bool) → taken ≤ most → before ≡ true → (more ≡ true → next ≡ taken + 1)
-    → left most more next < left most before taken
-left_less most taken next before true few e moves = rw e (omega (arith, moves refl))
-left_less most taken next before false few e moves = rw e (omega arith)
 
 module _ (d : Design) where
   abbrev total : ℕ
@@ -127,15 +126,20 @@ module _ (d : Design) where
   unfolding hex_possible held_count unused_fail
   begin-possible = rw (le-leb 0 (record_count total) (omega arith), before-none total)
 
+  -- It is not finished, since the end record is due at least.
+  pub unfinished_none : hex_finished d no_record ≡ false
+  unfolding hex_finished record_count
+  unfinished_none = rw (ne_eqb 0 (data_count total + 1) (λ e. omega (arith, e))) (and-none _)
+
   -- A set comes from the records so far and that of one step more.
   pub loaded-none : (initial : List ℕ) (offsets : List ℤ) → HexCame d initial offsets (hex_session no_record initial offsets)
   unfolding hex_feed
   loaded-none initial offsets =
       record { texts = []; fed = refl; is-possible = begin-possible; initial-length = refl; offsets-length = refl }
 
-  pub loaded-more : (initial : List ℕ) (offsets : List ℤ) (s next : HexSession) (more : Bool)
-      → HexCame d initial offsets s → HexStepped d s next more → HexCame d initial offsets next
-  loaded-more initial offsets s next more came step =
+  pub loaded-more : (initial : List ℕ) (offsets : List ℤ) (s next : HexSession) (outcome : Outcome)
+      → HexCame d initial offsets s → HexStepped d s next outcome → HexCame d initial offsets next
+  loaded-more initial offsets s next outcome came step =
       let kept : HexKept s next = rw (← step.fed) (kept-fed step.texts s) in
       record {
         texts = came.texts ++ step.texts;

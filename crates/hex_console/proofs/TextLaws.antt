@@ -11,9 +11,9 @@ use borrow.Author.Tests.{eq-eqb, ne_eqb}
 use Rattle.frames.proofs.LineLaws.{long-fails}
 use Rattle.records.specs.Record.{longest_record}
 use Rattle.records.proofs.RecordLaws as RecordLaws
-use Rattle.console.specs.declared.Console.{Console}
-use Rattle.console.specs.declared.LineEnd.{LineEnd}
-use Rattle.console.specs.declared.LineStart.{LineStart}
+use Rattle.console.specs.declared.line.LineEnd.{LineEnd}
+use Rattle.console.specs.declared.line.LineStart.{LineStart}
+use Rattle.console.specs.Blocks.{Blocks}
 use Rattle.console.specs.Reading.{Takes, spelled, StartRead}
 use Rattle.hex_console.specs.LineTexts.{without_return, line_text, TextFails, TextRead}
 use Rattle.console.proofs.CountLaws.{prefix_len_of_le}
@@ -51,16 +51,15 @@ unfolding line_text
 still-long LineEnd.Newline text long = omega (arith, one-dropped text)
 still-long LineEnd.Input text long = omega arith
 still-long LineEnd.Cut text long = omega arith
-still-long LineEnd.Absent text long = omega arith
 
 long-text-fails : (text : List ℕ) → longest_record < length text → TextFails text
 long-text-fails text long = record { as-record = RecordLaws.long-fails text long; as_line = long-fails text (omega arith) }
 
 -- A line is read into so many bytes or more, and `count` of them stand on it.
-pub text-read : (bytes : List ℕ) (start : LineStart) (from : Console) (input block : List ℕ) (count : ℕ) → longest_record + 2 ≤ length bytes
-    → StartRead bytes start → Takes from input (spelled start.end (take start.count bytes)) start.console block → count ≤ start.count → take count bytes ≡ line_text start.end (take start.count bytes)
-    → TextRead bytes (record { console = start.console; count = count; end = start.end }) from input block
-text-read bytes start from input block count room read takes few text =
+pub text-read : (bytes : List ℕ) (start : LineStart) (from to : Blocks) (count : ℕ) → longest_record + 2 ≤ length bytes
+    → StartRead bytes start to → Takes from (spelled start.end (take start.count bytes)) to → count ≤ start.count
+    → take count bytes ≡ line_text start.end (take start.count bytes) → TextRead bytes (record { count = count; end = start.end }) from to
+text-read bytes start from to count room read takes few text =
     record {
       read = start.count;
       taken = takes;

@@ -1,5 +1,6 @@
 -- What can be said of a set that is read from records, whatever lines come.
-use Rattle.std.specs.Prelude.{◌≡◌, Bool, true, false, ◌⊎◌, List, ℕ, ◌+◌, length, ℤ, Ok}
+use Rattle.std.specs.Prelude.{◌≡◌, Bool, true, false, List, ℕ, ◌+◌, length, ℤ, Result, Ok, Err, Option, Some, None}
+use Rattle.refusal.specs.declared.Cause.{Cause}
 use Rattle.design.specs.declared.Design.{Design}
 use Rattle.design.specs.Legal.{Legal}
 use Rattle.frames.specs.Hex.{bytes_of}
@@ -8,6 +9,8 @@ use Rattle.frames.specs.DesignText.{design_line_verdict}
 use Rattle.records.specs.SetBytes.{byte_count}
 use Rattle.record_reading.specs.ReadRecord.{hex_possible, hex_finished, HexSession, hex_session}
 use Rattle.record_storage.specs.Loading.{no_record, hex_feed}
+use Rattle.set_console.specs.declared.Came.{Came}
+use Rattle.set_console.specs.Reading.{Outcome}
 
 -- A design that was read: it stands on some line that has to hold one, "15, 16, 1 to 9", and is legal.
 pub record DesignCame (d : Design) : Type 0 where
@@ -16,15 +19,23 @@ pub record DesignCame (d : Design) : Type 0 where
   pub held : frame_design (bytes_of line) ≡ d
   pub legal : Legal d
 
+-- What came of reading one: the design, if there is a line and it is not refused
+abbrev pub DesignRead : Result (Option Design) Cause → Type 0
+DesignRead (Ok (Some d)) = DesignCame d
+DesignRead (Ok None) = Unit {0}
+DesignRead (Err cause) = Unit {0}
+
 -- Taking a record, or none, leads from one reading to the next: it is fed to the reader.
-pub record HexStepped (d : Design) (before next : HexSession) (more : Bool) : Type 0 where
+pub record HexStepped (d : Design) (before next : HexSession) (came : Outcome) : Type 0 where
   pub texts : List (List ℕ)
   pub fed : hex_feed d before texts ≡ next
   -- There is more to take where a record was accepted, which moves the state on by one, and the reading is not finished,
-  pub moves : more ≡ true → next.state.taken ≡ before.state.taken + 1
-  pub unfinished : more ≡ true → hex_finished d next.state ≡ false
+  pub moves : came ≡ Ok Came.Line → next.state.taken ≡ before.state.taken + 1
+  pub unfinished : came ≡ Ok Came.Line → hex_finished d next.state ≡ false
   -- and no more only where it is finished or no record was taken.
-  pub stops : more ≡ false → (hex_finished d next.state ≡ true) ⊎ (next ≡ before)
+  pub finished : came ≡ Ok Came.Set → hex_finished d next.state ≡ true
+  pub nothing : came ≡ Ok Came.Nothing → next ≡ before
+  pub refused : (cause : Cause) → came ≡ Err cause → next ≡ before
 
 -- A set that was read into these tables: "begun with no record taken, each call given the same design, the state that the call before gave
 -- back and the same tables". What comes back is where the records led that were fed, so that what `RecordStorage` says of a finished
@@ -36,3 +47,8 @@ pub record HexCame (d : Design) (initial : List ℕ) (offsets : List ℤ) (end :
   pub is-possible : hex_possible (byte_count d) end.state ≡ true
   pub initial-length : length end.initial ≡ length initial
   pub offsets-length : length end.offsets ≡ length offsets
+
+-- Whether a whole set came
+abbrev pub is_whole : Result Bool Cause → Bool
+is_whole (Ok whole) = whole
+is_whole (Err cause) = false

@@ -1,15 +1,8 @@
 -- `filling::fill` meets its contract: the verdict of the set, then the budget against the limit, then both tables.
-use Rattle.std.specs.Prelude.{Ok}
 use Rattle.std.proofs.lemmas.Result.{err_from_is_err_and}
-use mathlib.Core.Path.{◌≡◌, sym, ◌∙◌}
-use Prim.Native.Nat.{ℕ}
+use mathlib.Core.Path.{sym}
 use native.Mathlib.Omega.{arith}
-use Rattle.refusal.specs.Verdict.{Verdict}
-use Rattle.refusal.specs.Checks.{verdict}
-use Rattle.design.specs.declared.Design.{Design}
 use Rattle.design.proofs.LegalLaws.{limits, guard_small}
-use Rattle.tables.specs.Inputs.{Usable}
-use Rattle.tables.specs.Set.{set_checks}
 use Rattle.tables.proofs.SetLaws.{usable}
 use Rattle.filling.proofs.FillLaws.{refused-before, not-admitted, admitted, refuses, fills}
 use Rattle.filling.proofs.fill.Goals as goal

@@ -2,5 +2,5 @@
 use Rattle.set_console.proofs.LineLaws.{every_set}
 use Rattle.set_files.proofs.answer_sets.Goals as goal
 
-pub answer_all-requires : goal.answer_all-requires
-answer_all-requires g c = every_set
+pub answer_all-requires-clause-holds_every_set : goal.answer_all-requires-clause-holds_every_set
+answer_all-requires-clause-holds_every_set g c = every_set

@@ -7,5 +7,5 @@ abbrev pub invariant-line : goal.invariant-line
 invariant-line g l =
     record {
       folding : Folding (λ t b u. goal.F-post g l.with t b u) l.initial.self l.initial.text l.text l.begun l.self;
-      output : l.self.output ≡ l.initial.self.output
+      output : l.self.output ≡ l.initial.self.output;
     }

@@ -1,6 +1,7 @@
 -- `console::Console::read_start` meets its contract: no newline is stored, and the bytes that were taken are those of the line.
 use mathlib.Core.Path.{◌∙◌}
 use native.Mathlib.Omega.{arith}
+use lib.Seq.{set-get_or}
 use Rattle.console.proofs.LineLaws.{one_more, by-input}
 use Rattle.console.proofs.TakeLaws.{takes-byte, takes-end, end_kept, line-more, line-newline, line-end}
 use Rattle.console.proofs.Console.read_start.Goals as goal
@@ -16,15 +17,22 @@ returns-in-None-clause-taken g c =
 pub returns-in-None-2-clause-start : goal.returns-in-None-2-clause-start
 returns-in-None-2-clause-start g c =
     let l = c.loop-count in
-    by-input _ l.bytes l.count (omega arith) l.invariant.no-newline (omega arith) (end_kept _ _ _ c.next_byte.ensures.value c.in-None-2.is)
+    rw (set-get_or l.bytes l.count 0)
+    (by-input _ l.bytes l.count (omega arith) l.invariant.no-newline (omega arith)
+    (end_kept _ _ _ c.next_byte.ensures.value c.in-None-2.is))
 
 pub returns-in-None-2-clause-taken : goal.returns-in-None-2-clause-taken
-returns-in-None-2-clause-taken g c = line-end _ _ _ _ c.loop-count.invariant.taken (takes-end _ _ _ c.next_byte.ensures.value c.in-None-2.is)
+returns-in-None-2-clause-taken g c =
+    let l = c.loop-count in
+    rw (set-get_or l.bytes l.count 0)
+    (line-end _ _ _ _ l.invariant.taken (takes-end _ _ _ c.next_byte.ensures.value c.in-None-2.is))
 
 pub returns-in-Some-eq10-clause-taken : goal.returns-in-Some-eq10-clause-taken
 returns-in-Some-eq10-clause-taken g c =
-    line-newline _ _ _ _ _ c.loop-count.invariant.taken (takes-byte _ _ _ c.next_byte.ensures.value _ c.in-Some-eq10.is)
-    c.in-Some-eq10.field-0-test
+    let l = c.loop-count in
+    rw (set-get_or l.bytes l.count 0)
+    (line-newline _ _ _ _ _ l.invariant.taken (takes-byte _ _ _ c.next_byte.ensures.value _ c.in-Some-eq10.is)
+    c.in-Some-eq10.field-0-test)
 
 pub loop-count-preserved : goal.loop-count-preserved
 loop-count-preserved g c =

@@ -1,11 +1,8 @@
 -- `design::LegalDesign::pair` meets its contract: below m the pairs that are read are the design's.
-use mathlib.Core.Path.{◌≡◌, sym}
-use Prim.Native.Nat.{ℕ, ◌<◌}
+use mathlib.Core.Path.{sym}
 use native.Mathlib.Omega.{arith}
-use lib.ListN.{get_or}
 use lib.Seq.{get_or-take}
-use Rattle.design.specs.declared.Design.{Design}
-use Rattle.design.specs.Cut.{no_pair, tables, pair_at}
+use Rattle.design.specs.Cut.{tables, pair_at}
 use Rattle.design.proofs.LegalLaws.{limits}
 use Rattle.design.proofs.LegalDesign.pair.Goals as goal
 

@@ -1,15 +1,13 @@
 -- `design::legal::cut_verdict` meets its contract: each answer rewrites with the tests that led there.
 use Rattle.std.specs.Prelude.{Ok}
-use mathlib.Core.Path.{◌≡◌, sym, ap, ◌∙◌}
-use mathlib.Core.Bool.{Bool, false, not}
-use mathlib.Core.List.{List}
-use Prim.Native.Nat.{ℕ, ◌-◌, ◌≤◌, ◌<◌}
+use mathlib.Core.Path.{◌≡◌}
+use mathlib.Core.Bool.{false, not}
+use Prim.Native.Nat.{◌-◌, ◌≤◌, ◌<◌}
 use native.Mathlib.Omega.{arith}
 use borrow.Author.Tests.{lt-leb, le-leb, eq-eqb, ne_eqb}
-use lib.Dec.{leb, eqb}
-use lib.ListN.{length, take, get_or}
+use lib.Dec.{eqb}
+use lib.ListN.{length, take}
 use Rattle.std.specs.List.{list_any, sum_by}
-use Rattle.general.specs.Below.{some_below}
 use Rattle.general.proofs.Tests.{tested}
 use Rattle.refusal.specs.declared.Cause.{Cause}
 use Rattle.refusal.specs.Checks.{refuses, verdict, outside}
@@ -18,8 +16,8 @@ use Rattle.design.specs.declared.Design.{Design}
 use Rattle.design.specs.declared.Pair.{Pair}
 use Rattle.design.specs.declared.legal.TableRule.{TableRule}
 use Rattle.design.specs.Limits.{least_initial_bits, most_initial_bits, most_tables}
-use Rattle.design.specs.Cut.{tables, position}
-use Rattle.design.specs.Legal.{breaks, table_breaks, cut_checks}
+use Rattle.design.specs.Cut.{tables}
+use Rattle.design.specs.Legal.{breaks, cut_checks}
 use Rattle.design.proofs.LegalLaws.{some-breaks, bits-in-all}
 use Rattle.design.proofs.legal.cut_verdict.Goals as goal
 use Rattle.design.proofs.legal.cut_verdict.Goals.{

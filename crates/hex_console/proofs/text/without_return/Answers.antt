@@ -1,7 +1,7 @@
--- `hex_console::without_return` meets its contract: of no bytes, and of bytes with a carriage return at their end or without.
+-- `hex_console::text::without_return` meets its contract: of no bytes, and of bytes with a carriage return at their end or without.
 use native.Mathlib.Omega.{arith}
 use Rattle.hex_console.proofs.TextLaws.{none_left, return-dropped, nothing-dropped}
-use Rattle.hex_console.proofs.without_return.Goals as goal
+use Rattle.hex_console.proofs.text.without_return.Goals as goal
 
 pub returns-then-count-eq0-clause-bytes_value : goal.returns-then-count-eq0-clause-bytes_value
 returns-then-count-eq0-clause-bytes_value c = rw c.if-count-eq0.true (none_left c.args.bytes.now)

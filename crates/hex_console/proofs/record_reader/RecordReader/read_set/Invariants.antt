@@ -1,0 +1,23 @@
+-- `hex_console::record_reader::RecordReader::read_set` ends, since no more records are accepted than the set has; each is fed after those
+-- before it.
+use mathlib.Core.Path.{◌≡◌}
+use mathlib.Core.Bool.{false}
+use Prim.Native.Nat.{◌-◌}
+use Rattle.records.specs.IntelHex.{record_count}
+use Rattle.records.specs.SetBytes.{byte_count}
+use Rattle.record_reading.specs.ReadRecord.{hex_finished, hex_session}
+use Rattle.hex_console.specs.Loaded.{HexCame}
+use Rattle.hex_console.proofs.record_reader.RecordReader.read_set.Given as goal
+
+abbrev pub invariant-records : goal.invariant-records
+invariant-records g l =
+    let i = l.initial in
+    record {
+      design : l.self.design ≡ i.self.design;
+      came : HexCame i.self.design i.initial' i.offsets (hex_session l.self.state l.initial' l.offsets);
+      unfinished : hex_finished i.self.design l.self.state ≡ false;
+      output : l.console.output ≡ i.console.output
+    }
+
+abbrev pub decreases-records : goal.decreases-records
+decreases-records g l = record_count (byte_count l.initial.self.design) - l.self.state.taken

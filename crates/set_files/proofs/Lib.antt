@@ -1,2 +1,0 @@
--- Laws of going through a file of sets.
-pub mod SetLaws
