@@ -30,19 +30,13 @@ module _ (d : Design) (initial : List ℕ) (offsets : List ℤ) (words output : 
     unfolding room_verdict output_check
     long h = rw (verdict-append, passed, le-ltb _ _ h)
 
-pub returns-in_err-set : goal.returns-in_err-set
-returns-in_err-set c =
+pub returns-in_err-set-clause-verdict : goal.returns-in_err-set-clause-verdict
+returns-in_err-set-clause-verdict c =
     let r = err_from_is_err_and c.from_residual.result c.from_residual.ensures.1 in
-    let p = refused _ _ _ _ _ _ (sym c.in_err-set.ensures.verdict) in
-    rw (r.1, r.2) (record { verdict = p; kept = tt })
+    rw (r.1, r.2) (refused _ _ _ _ _ _ (sym c.in_err-set.ensures.verdict))
 
-pub returns-then-output-words : goal.returns-then-output-words
-returns-then-output-words c =
-    record { verdict = short _ _ _ _ _ (sym c.in_ok-set.ensures.verdict) c.if-output-words.true; kept = tt }
+pub returns-then-output-words-clause-verdict : goal.returns-then-output-words-clause-verdict
+returns-then-output-words-clause-verdict c = short _ _ _ _ _ (sym c.in_ok-set.ensures.verdict) c.if-output-words.true
 
-pub returns : goal.returns
-returns c =
-    record {
-      verdict = long _ _ _ _ _ (sym c.in_ok-set.ensures.verdict) c.if-output-words.false;
-      kept = c.in_ok-set.ensures.kept;
-    }
+pub returns-clause-verdict : goal.returns-clause-verdict
+returns-clause-verdict c = long _ _ _ _ _ (sym c.in_ok-set.ensures.verdict) c.if-output-words.false

@@ -7,7 +7,6 @@ use Rattle.design.proofs.LegalLaws.{limits}
 use Rattle.tables.specs.Sum.{word_at}
 use Rattle.evaluating.proofs.WordLaws.{word-past, sum-refused, word-passed}
 use Rattle.evaluating.proofs.word_answer.Goals as goal
-use Rattle.evaluating.proofs.word_answer.Goals.{Else-pow2-x}
 
 pub pow2-requires : goal.pow2-requires
 pow2-requires c = omega (arith, (limits _ c.args.set.tables.legal).widths.room.w-small)
@@ -17,21 +16,11 @@ returns-then-pow2-x c =
     let s = c.args.set in
     rw (word-past s.tables.design s.initial.now s.tables.offsets.now c.args.x (omega (arith, c.pow2.ensures))) refl
 
--- where the word is in range
-within : (c : Else-pow2-x) → c.args.x < 2 ^ c.args.set.tables.design.w
-within c = omega (arith, c.pow2.ensures)
-
-pub sum_of-sum-requires : goal.sum_of-sum-requires
-sum_of-sum-requires c = within c
-
 pub returns-then-sum_outside : goal.returns-then-sum_outside
 returns-then-sum_outside c =
     let low : c.args.x < 2 ^ c.args.set.tables.design.w = omega (arith, c.pow2.ensures) in
     let tested = rw c.sum_of-sum.ensures at c.sum_outside.ensures in
     rw (sum-refused _ _ _ _ low (sym tested ∙ c.if-sum_outside.true)) refl
-
-pub word_of-requires : goal.word_of-requires
-word_of-requires c = sym c.sum_outside.ensures ∙ c.if-sum_outside.false
 
 pub returns : goal.returns
 unfolding word_at

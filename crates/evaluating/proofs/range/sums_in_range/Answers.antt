@@ -1,30 +1,13 @@
 -- `evaluating::range::sums_in_range` meets its contract: what it tests is what `sums-stay` asks.
 use mathlib.Core.Path.{sym, ap, ◌∙◌}
-use mathlib.Core.Bool.{true≢false}
-use Prim.Native.Nat.{ℕ, ◌+◌, ◌*◌, ◌≤◌}
-use native.Mathlib.Nat.{mul-le-mul_right}
+use Prim.Native.Nat.{ℕ, ◌+◌, ◌*◌}
 use native.Mathlib.Omega.{arith}
 use borrow.Author.Tests.{not-true}
 use lib.Seq.{length-take-le}
-use Rattle.design.specs.declared.Design.{Design}
-use Rattle.design.specs.Limits.{most_tables}
 use Rattle.design.specs.Stored.{initial_count}
-use Rattle.design.proofs.LegalLaws.{Limits, limits, sum-limit-small}
+use Rattle.design.proofs.LegalLaws.{limits, sum-limit-small}
 use Rattle.evaluating.proofs.RangeLaws.{sums-stay}
 use Rattle.evaluating.proofs.range.sums_in_range.Goals as goal
-
-module _ (d : Design) (l : Limits d) where
-  reach-small : (size : ℕ) → d.m * size ≤ most_tables * size
-  reach-small size = mul-le-mul_right size l.m-high
-
-pub slice_bounds-offsets-end : goal.slice_bounds-offsets-end
-slice_bounds-offsets-end c = sym (length-take-le _ _ (rw c.offset_total.ensures c.args.set.tables.offsets_long))
-
-pub overflow_mul-reach : goal.overflow_mul-reach
-overflow_mul-reach c = omega (arith, reach-small _ (limits _ c.args.set.tables.legal) (c.largest_magnitude.result + 1))
-
-pub returns-then-limit-reach : goal.returns-then-limit-reach
-returns-then-limit-reach c e = absurd (true≢false (sym e))
 
 pub overflow_cast-reach-2 : goal.overflow_cast-reach-2
 overflow_cast-reach-2 c =

@@ -41,9 +41,6 @@ module _ (w : ℕ) (words : List ℕ) where
   unfolding width_answer
   none p = sym (batch-all _ _ (λ j h. narrow w _ (p j 0 (omega arith) h)))
 
-pub pow2-limit-requires : goal.pow2-limit-requires
-pow2-limit-requires c = omega arith
-
 pub returns-in-Some : goal.returns-in-Some
 returns-in-Some c =
     let first : First c.args.w c.args.words.now c.position.result =
