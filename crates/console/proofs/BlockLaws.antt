@@ -126,7 +126,11 @@ module _ (c next : Blocks) (text : List ℕ) (next-is : next ≡ with_room c (le
           | no h ↦
               let none = room-made (omega arith) in
               front
-              ∙ rw (none, lt-leb (c.pending + length text) (length c.output) (omega arith), le-leb (length text) (length c.output) (omega arith))
+              ∙ rw (
+                none,
+                lt-leb (c.pending + length text) (length c.output) (omega arith),
+                le-leb (length text) (length c.output) (omega arith),
+              )
         ])
 
 -- A part of a block that a text was copied into

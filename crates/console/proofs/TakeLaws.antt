@@ -132,7 +132,9 @@ module _ (c next : Blocks) (byte : Option ℕ) (read : NextRead c byte next) whe
           let told = read.left (ap is_some is) in
           inl (record {
             left = left_of c byte next told;
-            over = λ none. let z : ◌≡◌ {A = Option ℕ} None (Some b) = sym none ∙ ap (λ (p : Option ℕ × Blocks). p.0) told ∙ is in absurd (true≢false (sym (ap is_some z)));
+            over = λ none.
+                let z : ◌≡◌ {A = Option ℕ} None (Some b) = sym none ∙ ap (λ (p : Option ℕ × Blocks). p.0) told ∙ is in
+                absurd (true≢false (sym (ap is_some z)));
           })
       go None is true e = inl (record { left = left_of c byte next (read.over e); over = λ none. e })
       go None is false e =

@@ -26,7 +26,8 @@ use std::io;
 use std::io::Read;
 use std::marker::Model;
 
-// Where a program is in its input and output.
+// Where a program is in its input and output. The runtime has a lifetime of its own, as the check has no proof of a call on it while a
+// block of the same lifetime is lent.
 #[derive(Drop)]
 pub struct Console<'r, 'b, R> {
     rt: &'r R,

@@ -21,7 +21,8 @@ pub struct LineStart {
 // One byte more than the longest line has.
 pub const KEPT: usize = LONGEST_LINE + 1;
 
-// The start of a line, so many bytes at most: a line that has them is refused whatever follows, so no more of it is needed.
+// The start of a line, so many bytes at most: a line that has them is refused whatever follows, so no more of it is needed. An array beside
+// its count, as programs have no heap.
 #[derive(Clone, Copy)]
 pub struct Line {
     pub bytes: [u8; KEPT],

@@ -11,7 +11,8 @@ use report_text::Text;
 use std::io;
 
 impl<'r, 'b, R: Print> Console<'r, 'b, R> {
-    // Writes what is pending, and leaves it so.
+    // Writes what is pending, and leaves it so. A function of its own, as the check forgets what a block holds that is lent behind a
+    // `&mut self`.
     fn write_pending(&self) -> io::Result<()> {
         self.rt.write_all(&self.output[..self.pending])
     }

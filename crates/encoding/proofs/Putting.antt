@@ -61,10 +61,6 @@ module _ {before line bytes : List ℕ} {sum i : ℕ} (part : Put before line by
   room : 0 + length (hex_of (take i bytes)) ≤ length before
   room = omega (arith, digits, part.input)
 
-  -- The line keeps its length.
-  pub put-length : length line ≡ length before
-  put-length = ap length part.so_far ∙ over-length before 0 (hex_of (take i bytes)) room
-
   -- The digits of one byte more behind the others are those of all these bytes.
   next : (byte : ℕ) → over line (2 * i) (hex_of (byte ∷ [])) ≡ over before 0 (hex_of (take i bytes ++ (byte ∷ [])))
   next byte =

@@ -15,7 +15,6 @@ use Rattle.refusal.proofs.Checks.{none-fails}
 use Rattle.refusal.proofs.Answers.{answer-refused, answer-given}
 use Rattle.frames.specs.declared.Decoded.{Decoded}
 use Rattle.frames.specs.Hex.{bytes_of}
-use Rattle.frames.specs.Inputs.{EvenDigits}
 use Rattle.frames.specs.Line.{
   text_fails,
   longest_line,
@@ -41,11 +40,6 @@ sound-length digits e =
     let parts = neither (eqb (digits % 2) 1) (ltb longest_line digits) e in
     let odd = eqb-false (digits % 2) 1 parts.0 in
     record { even = omega arith; short = ltb-false _ _ parts.1 }
-
-pub even-digits : (digits : ℕ) → length_fails digits ≡ false → EvenDigits digits
-even-digits digits e =
-    let sound = sound-length digits e in
-    record { even = sound.even; few = omega arith }
 
 -- A line that is longer than the longest fails, whatever stands in it.
 pub long-fails : (line : List ℕ) → longest_line < length line → line_fails line ≡ true

@@ -32,7 +32,8 @@ use records::{
 use refusal::Cause;
 use tables::checked_set;
 
-// Document 02's reading state: how many records are taken, and the start of an entry that the last of them cut. Unused bytes are 0.
+// Document 02's reading state: how many records are taken, and the start of an entry that the last of them cut. Unused bytes are 0. They
+// are two fields and no array, of which each theorem over all states would have to say how long it is.
 #[derive(Clone, Copy)]
 pub struct HexReading {
     pub taken: usize,
@@ -57,6 +58,7 @@ fn unused_fail(k: usize, state: HexReading) -> bool
 }
 
 // How many bytes are held after n records.
+#[tactic(auto, unfolding(crate::specs::ReadRecord::held_count))]
 fn held_count(total: usize, n: usize) -> usize
     requires { CountInput total n }
     ensures { result ≡ held_count total n }
@@ -197,7 +199,8 @@ impl HexReading {
         take_record(self, extent, frame, initial, offsets)
     }
 
-    // Takes a record (document 02, A2). A refusal gives back the state that came.
+    // Takes a record (document 02, A2). A refusal gives back the state that came. `read_line` differs in what it does, and not in a type:
+    // a line stores the one entry that it holds, a record those that it makes whole.
     pub fn read_record(
         self,
         d: Design,

@@ -1,8 +1,9 @@
 -- What the checks of the writer come to, and the length of the asked record.
 use Rattle.std.specs.Prelude.{Ok, Err, Result}
 use mathlib.Core.Path.{◌≡◌, ap, ◌∙◌}
+use mathlib.Core.Bool.{Bool}
 use mathlib.Core.List.{List, [], ◌∷◌, ◌++◌}
-use Prim.Native.Nat.{ℕ, ◌+◌, ◌*◌, ◌≤◌, ◌<◌}
+use Prim.Native.Nat.{ℕ, ◌+◌, ◌-◌, ◌*◌, ◌≤◌, ◌<◌}
 use native.Mathlib.Omega.{arith}
 use lib.ListN.{length}
 use lib.IntN.{ℤ}
@@ -22,7 +23,7 @@ use Rattle.encoding.specs.Encode.{line_of}
 use Rattle.writing.specs.Write.{width_check, room_check}
 use Rattle.writing.proofs.WriteLaws.{refuses-by, writes-by}
 use Rattle.records.specs.declared.Extent.{Extent}
-use Rattle.records.specs.IntelHex.{record_count, length_at, record_head, record_text, data_in, record_of}
+use Rattle.records.specs.IntelHex.{data_bytes, record_count, bytes_before, length_at, record_head, record_text, data_in, record_of}
 use Rattle.records.specs.SetBytes.{
   entry_count,
   byte_count,
@@ -34,6 +35,8 @@ use Rattle.records.specs.SetBytes.{
   bytes_check,
   record_set_checks,
 }
+use Rattle.records.proofs.CountLaws.{length-small, before-next}
+use Rattle.records.proofs.ExtentLaws.{extent-bytes}
 use Rattle.records.proofs.BytesLaws.{below_length, set-length, record-length}
 use Rattle.record_writing.specs.WriteRecord.{
   hex_number_check,
@@ -81,24 +84,71 @@ unfolding set_record
 asked-length d initial offsets n =
     record-length (set_bytes d initial offsets) n ∙ ap (λ total. 11 + 2 * length_at total n) (set-length d initial offsets)
 
--- The same by the number of the set's entries and of its initial entries, which the writer works with
-module _ (d : Design) (initial : List ℕ) (offsets : List ℤ) (n : ℕ) (extent : Extent)
-    (extent-is : extent ≡ record { initials = initial_count d; entries = entry_count d }) where
-  pub asked-input : Usable d (length initial) (length offsets) → byte_count d ≤ most_bytes → n < record_count (byte_count d)
-      → AskedInput extent (length initial) (length offsets) n
-  unfolding byte_count entry_count
-  asked-input u few within =
-      rw extent-is (record { few = few; within = within; initial-long = u.initial-long; offsets-long = omega (arith, u.offsets-long) })
+-- A set's extent is what the calls tell, and it has an address for each byte.
+pub record Addressed (d : Design) (initial : List ℕ) (offsets : List ℤ) (extent : Extent) : Type 0 where
+  pub set : Usable d (length initial) (length offsets)
+  pub extent-is : extent ≡ record { initials = initial_count d; entries = entry_count d }
+  pub few : byte_count d ≤ most_bytes
 
-  pub asked-fits : record_fits extent.entries extent.initials initial offsets n
-      ≡ record_fits (entry_count d) (initial_count d) initial offsets n
-  asked-fits = rw extent-is
+module _ {d : Design} {initial : List ℕ} {offsets : List ℤ} {extent : Extent} (at : Addressed d initial offsets extent) where
+  total-is : entry_bytes * extent.entries ≡ byte_count d
+  total-is = extent-bytes d extent at.extent-is
+
+  -- How many records it has, which the writer finds out by the extent
+  pub count-told : {count : ℕ} → count ≡ record_count (entry_bytes * extent.entries) → count ≡ record_count (byte_count d)
+  count-told promise = promise ∙ ap record_count total-is
+
+  -- for one of which the writer can put its entries together.
+  pub asked-input : (n : ℕ) → n < record_count (byte_count d) → AskedInput extent (length initial) (length offsets) n
+  unfolding byte_count entry_count
+  asked-input n within =
+      let u = at.set in
+      rw at.extent-is
+      (record { few = at.few; within = within; initial-long = u.initial-long; offsets-long = omega (arith, u.offsets-long) })
+
+-- The asked record, by how many bytes the records before it hold and how many those up to it
+pub record Asked (d : Design) (initial : List ℕ) (offsets : List ℤ) (extent : Extent) (n before next : ℕ) : Type 0 where
+  pub addressed : Addressed d initial offsets extent
+  pub within : n < record_count (byte_count d)
+  pub before-is : before ≡ bytes_before (entry_bytes * extent.entries) n
+  pub next-is : next ≡ bytes_before (entry_bytes * extent.entries) (n + 1)
+
+module _ {d : Design} {initial : List ℕ} {offsets : List ℤ} {extent : Extent} {n before next : ℕ}
+    (asked : Asked d initial offsets extent n before next) where
+  asked-total : entry_bytes * extent.entries ≡ byte_count d
+  asked-total = total-is asked.addressed
+
+  size_is : next ≡ before + length_at (byte_count d) n
+  size_is = rw (asked.next-is, asked.before-is, asked-total) (before-next (byte_count d) n)
+
+  -- It holds 16 bytes at most,
+  pub size_from : before ≤ next
+  size_from = omega (arith, size_is)
+
+  pub size_small : next - before ≤ data_bytes
+  size_small = omega (arith, size_is, length-small (byte_count d) n)
+
+  pub size_told : next - before ≡ length_at (entry_bytes * extent.entries) n
+  size_told = omega (arith, size_is, ap (λ total. length_at total n) asked-total)
+
+  -- it has a colon, and two digits for each of them and of the five beside them,
+  pub length-told : length (set_record d initial offsets n) ≡ 11 + 2 * (next - before)
+  length-told = omega (arith, size_is, asked-length d initial offsets n)
 
   pub asked-text : {frame : List ℕ} → frame ≡ record_head (entry_bytes * extent.entries) n
       ++ data_in (bytes_below extent.entries (entry_at extent.initials initial offsets)) n
       → 58 ∷ line_of frame ≡ set_record d initial offsets n
   unfolding set_record record_of record_text set_bytes
-  asked-text frame_is = rw (frame_is, extent-is, below_length (entry_at (initial_count d) initial offsets) (entry_count d))
+  asked-text frame_is =
+      rw (frame_is, asked.addressed.extent-is, below_length (entry_at (initial_count d) initial offsets) (entry_count d))
+
+  -- and 18 and 14 are left.
+  pub settled : (fits : Bool) (buffer : ℕ) → fits ≡ record_fits extent.entries extent.initials initial offsets n
+      → hex_write_verdict d initial offsets n buffer
+      ≡ verdict (width_check fits ∷ room_check (11 + 2 * (next - before)) buffer ∷ [])
+  settled fits buffer promise =
+      let at = asked.addressed in
+      rw (promise, at.extent-is, ← length-told) (within-records d initial offsets n buffer at.set at.few asked.within)
 
 -- The answer and the record buffer, by the verdict
 module _ (d : Design) (initial : List ℕ) (offsets : List ℤ) (n : ℕ) (buffer : List ℕ) where

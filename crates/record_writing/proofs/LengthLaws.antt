@@ -7,7 +7,7 @@ use native.Mathlib.Omega.{arith}
 use lib.ListN.{length}
 use lib.IntN.{ℤ}
 use Rattle.design.specs.declared.Design.{Design}
-use Rattle.records.specs.IntelHex.{data_count, record_count, bytes_before, length_at}
+use Rattle.records.specs.IntelHex.{record_count, bytes_before, length_at}
 use Rattle.records.specs.SetBytes.{byte_count, set_bytes, set_record}
 use Rattle.records.specs.Record.{longest_record}
 use Rattle.records.proofs.BytesLaws.{record-length}

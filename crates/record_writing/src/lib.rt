@@ -100,6 +100,7 @@ fn put_record(bytes: &[u8], record: &mut [u8])
 }
 
 // Puts record `number` of the set at the start of the record buffer (document 02, A2). Nothing is written before every check has passed.
+// `write_line` differs in what it does, and not in a type: a line holds one entry whole, a record cuts entries.
 pub fn write_record(
     d: Design,
     initial: &[u32],

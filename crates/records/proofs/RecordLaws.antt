@@ -3,7 +3,7 @@ use Rattle.std.specs.Prelude.{Ok, Err, ok_or}
 use mathlib.Core.Path.{◌≡◌, refl, sym, ap, ◌∙◌}
 use mathlib.Core.Bool.{Bool, true, false, or-true}
 use mathlib.Core.List.{List, [], ◌∷◌}
-use Prim.Native.Nat.{ℕ, ◌+◌, ◌-◌, ◌*◌, ◌/◌, ◌%◌, ◌≤◌, ◌<◌}
+use Prim.Native.Nat.{ℕ, ◌+◌, ◌-◌, ◌*◌, ◌/◌, ◌%◌, ◌<◌}
 use native.Mathlib.Omega.{arith}
 use lib.ListN.{length, take, drop, get_or, length-drop}
 use lib.Seq.{take_all}
@@ -15,7 +15,6 @@ use Rattle.refusal.proofs.Answers.{answer-given}
 use Rattle.frames.specs.declared.Decoded.{Decoded}
 use Rattle.frames.specs.Hex.{all_digits, bytes_of}
 use Rattle.frames.specs.Line.{text_fails, capacity, padded, kept, decoded_digits}
-use Rattle.frames.specs.Inputs.{EvenDigits}
 use Rattle.frames.proofs.HexLaws.{bytes-length}
 use Rattle.frames.proofs.DecodedLaws.{other-character, read-answer}
 use Rattle.encoding.proofs.HexBack.{Bytes, bytes_small}
@@ -80,9 +79,6 @@ module _ (text : List ℕ) where
 
   -- What is left of a record that has its colon and an even number of digits, not too many
   module _ (odd : length text % 2 ≡ 1) where
-    pub digits-even : length text ≤ longest_record → EvenDigits (length (digits_in text))
-    digits-even short = record { even = omega (arith, length-drop 1 text); few = omega (arith, length-drop 1 text) }
-
     count-is : length (bytes_of (digits_in text)) * 2 ≡ length (digits_in text)
     count-is =
         let digits = digits_in text in

@@ -28,6 +28,7 @@ pub struct Lookups {
 }
 
 // Table i, whose bits begin at `position` and whose offsets begin at `start`. Where there is none, a table of no bits.
+#[inline(always)]
 fn lookup_of(legal: LegalDesign, i: u32, position: u32, start: u32) -> Lookup
     requires { (position ≡ Cut.position legal.design i) × (start ≡ table_start legal.design i) }
     ensures { result ≡ lookup_of legal.design i }
@@ -51,6 +52,7 @@ fn lookup_of(legal: LegalDesign, i: u32, position: u32, start: u32) -> Lookup
 }
 
 // Table i + 1, whose bits and offsets begin where those of table i end.
+#[inline(always)]
 fn lookup_after(legal: LegalDesign, i: u32, previous: Lookup) -> Lookup
     requires { (i < 3) × (previous ≡ lookup_of legal.design i) }
     ensures { result ≡ lookup_of legal.design (i + 1) }
@@ -64,7 +66,9 @@ fn lookup_after(legal: LegalDesign, i: u32, previous: Lookup) -> Lookup
     )
 }
 
-// inner: the lookups of all tables.
+// inner: the lookups of all tables. Always inlined, with what it calls: behind a call their numbers are read from memory for each word, and
+// the check takes up to a fifth longer.
+#[inline(always)]
 pub fn lookups_of(legal: LegalDesign) -> Lookups
     ensures { result ≡ lookups_of legal.design }
 {

@@ -127,7 +127,8 @@ impl OffsetTables<'_> {
 }
 
 impl<'a> TableSet<'a> {
-    // The set that these tables are, or the first of the refusals 1 to 10.
+    // The set that these tables are, or the first of the refusals 1 to 10. Always inlined, for the same reason as its lookups.
+    #[inline(always)]
     pub fn of(d: Design, initial: &'a [u32], offsets: &'a [i32]) -> Result<TableSet<'a>, Cause>
         ensures verdict { verdict_of result ≡ verdict (set_checks d (length initial.now) (length offsets.now)) }
         ensures kept { IfOk result

@@ -68,7 +68,8 @@ module _ (t : List ℕ) (c : ℕ) where
   unfolding after_character longer reading_of
   reading-goes-on =
       rw (digits-next c t, number-next c t, length-append t (c ∷ []), ne_eqb (length t + 1) 0 (λ none. omega arith))
-      (ap (λ (number : Option ℕ). record { number = number; begun = true }) (kept-next (decimal_number t) (c - 48) (all_decimal t) (outside 48 57 c)))
+      (ap (λ (number : Option ℕ). record { number = number; begun = true })
+      (kept-next (decimal_number t) (c - 48) (all_decimal t) (outside 48 57 c)))
 
 -- A number and one character more, by the character
 module _ (number : Option ℕ) (c : ℕ) where

@@ -3,12 +3,9 @@ use mathlib.Core.Path.{sym, ap, ◌∙◌}
 use Rattle.std.specs.Prelude.{Option, ok_or}
 use Rattle.refusal.specs.declared.Cause.{Cause}
 use Rattle.frames.specs.declared.Decoded.{Decoded}
-use Rattle.frames.proofs.LineLaws.{even-digits, empty-refused, length-refused, text-decides}
+use Rattle.frames.proofs.LineLaws.{empty-refused, length-refused, text-decides}
 use Rattle.frames.proofs.decode.Goals as goal
 use Rattle.frames.proofs.decode.Goals.{then-is_empty-via-else-is_empty+then-length_fails, then-is_empty-via-then-is_empty}
-
-pub decode_digits-requires : goal.decode_digits-requires
-decode_digits-requires c = even-digits _ (sym c.length_fails.ensures ∙ c.if-length_fails.false)
 
 pub returns : goal.returns
 returns c =

@@ -14,7 +14,6 @@ use Rattle.refusal.proofs.Checks.{inside}
 use Rattle.frames.specs.Hex.{digit_value}
 use Rattle.frames.specs.Inputs.{digit_numbers}
 use Rattle.frames.proofs.digit.Goals as goal
-use Rattle.frames.proofs.digit.Goals.{Else-outside}
 
 -- Whether a number is not the one that its character stands for
 abbrev differs : ℕ → Bool
@@ -46,15 +45,5 @@ module _ (c : ℕ) where
 pub returns-then-outside : goal.returns-then-outside
 returns-then-outside c = beyond _ (sym c.outside.ensures ∙ c.if-outside.true)
 
--- where the character is one of those
-range : (c : Else-outside) → outside 48 70 c.args.c ≡ false
-range c = sym c.outside.ensures ∙ c.if-outside.false
-
-pub overflow_sub-result : goal.overflow_sub-result
-overflow_sub-result c = (inside 48 70 c.args.c (range c)).0
-
-pub bounds-numbers-c : goal.bounds-numbers-c
-bounds-numbers-c c = let limits = inside 48 70 c.args.c (range c.before.before) in omega arith
-
 pub returns : goal.returns
-returns c = rw c.requires (within _ (range c.before.before.before))
+returns c = rw c.requires (within _ (sym c.outside.ensures ∙ c.if-outside.false))

@@ -7,27 +7,12 @@ use lib.Dec.{eqb}
 use lib.ListN.{get_or}
 use Rattle.refusal.specs.declared.Cause.{Cause}
 use Rattle.refusal.specs.Checks.{verdict}
-use Prim.Native.Nat.{ℕ, ◌+◌, ◌*◌, ◌≤◌}
+use Prim.Native.Nat.{ℕ, ◌+◌, ◌*◌}
 use native.Mathlib.Omega.{arith}
-use mir.Syntax.{w8, w64}
-use mir.Val.{Fits}
-use borrow.Author.Rules.{rules}
 use borrow.Author.Tests.{eq-eqb, ne_eqb}
 use Rattle.frames.specs.DesignFrame.{frame_fails, frame_checks}
 use Rattle.frames.proofs.frame_verdict.Goals as goal
 use Rattle.frames.proofs.frame_verdict.Goals.{then-frame-ne1-via-else-frame-ne1+then-frame-due, then-frame-ne1-via-then-frame-ne1}
-
-twice-fits : (m : ℕ) → Fits w8 m → Fits w64 (2 * m)
-twice-fits m fits = omega arith
-
-due-fits : (k m : ℕ) → k ≤ 8 → Fits w8 m → Fits w64 (k + 2 * m)
-due-fits k m h fits = omega arith
-
-pub overflow_mul-due : goal.overflow_mul-due
-overflow_mul-due c = twice-fits _ (search rules)
-
-pub overflow_add-due : goal.overflow_add-due
-overflow_add-due c = due-fits _ _ (omega arith) (search rules)
 
 -- The verdict by the two tests: the frame kind is 1, and the number of bytes is 8 + 2m.
 module _ (bytes : List ℕ) (count : ℕ) where

@@ -7,17 +7,6 @@ use mir.ValLaws.{to_z-of_z}
 use Rattle.reading.specs.ReadLine.{initial_stored, offsets_stored}
 use Rattle.reading.proofs.store.Goals as goal
 
-pub bounds-initial-index : goal.bounds-initial-index
-bounds-initial-index c =
-    rw c.in-Initial.is at c.requires.slot_in
-
-pub from_complement-requires : goal.from_complement-requires
-from_complement-requires c = c.requires.number_bound
-
-pub bounds-offsets-place : goal.bounds-offsets-place
-bounds-offsets-place c =
-    rw c.in-Offset.is at c.requires.slot_in
-
 pub returns-in-Design : goal.returns-in-Design
 unfolding initial_stored offsets_stored
 returns-in-Design c =

@@ -1,25 +1,12 @@
 -- `record_reading::store_entry` meets its contract: the entry goes into the table that owns it, and the other one stands.
 use mathlib.Core.Path.{refl, ap, ◌∙◌}
 use Prim.Native.Nat.{◌-◌}
-use native.Mathlib.Omega.{arith}
 use borrow.Author.Tests.{lt-ltb, le-ltb, lt-leb, le-leb}
 use lib.ListN.{set}
 use mir.Syntax.{w32}
 use mir.ValLaws.{to_z-of_z}
 use Rattle.record_reading.specs.Storing.{stored_at}
 use Rattle.record_reading.proofs.store_entry.Goals as goal
-
-pub bounds-initial-e : goal.bounds-initial-e
-bounds-initial-e c = c.requires.entry_in.in-initial c.if-e-initials.true
-
-pub offset_bounds-initial-e : goal.offset_bounds-initial-e
-offset_bounds-initial-e c = omega (arith, c.requires.entry_in.in-initial c.if-e-initials.true)
-
-pub bounds-offsets-e : goal.bounds-offsets-e
-bounds-offsets-e c = c.requires.entry_in.in-offsets c.if-e-initials.false
-
-pub offset_bounds-offsets-e : goal.offset_bounds-offsets-e
-offset_bounds-offsets-e c = omega (arith, c.requires.entry_in.in-offsets c.if-e-initials.false)
 
 pub returns-then-e-initials : goal.returns-then-e-initials
 unfolding stored_at

@@ -1,11 +1,9 @@
 -- `record_reading::take_record` meets its contract: a record that is not due is refused, and of one that is the stream is stored.
-use mathlib.Core.Path.{◌≡◌, refl}
+use mathlib.Core.Path.{refl}
 use Prim.Native.Nat.{◌+◌, ◌-◌, ◌*◌, ◌%◌, ◌<◌}
 use native.Mathlib.Omega.{arith}
-use borrow.Author.Rules.{rules}
-use lib.ListN.{length, drop, length-take}
+use lib.ListN.{drop, length-take}
 use Rattle.encoding.specs.Bytes.{entry_bytes}
-use Rattle.frames.specs.Line.{capacity}
 use Rattle.records.specs.IntelHex.{record_count}
 use Rattle.record_reading.proofs.WindowLaws.{window-stream}
 use Rattle.record_reading.proofs.TakeLaws.{
@@ -43,12 +41,6 @@ returns-then-head_fails c =
     (length-told _ _ _ _ c.bytes_before-before.ensures c.bytes_before.ensures)
     c.head_fails.ensures c.if-head_fails.true in
     refused-outcome _ _ c.args.initial.now c.args.offsets.now _ _ _ (other-due _ _ _ _ due)
-
-pub with_held-requires : goal.with_held-requires
-with_held-requires c =
-    let bytes-full : length c.args.frame.bytes ≡ capacity =
-    search rules in
-    record { window_len = bytes-full; k_lt_entry_bytes = omega arith }
 
 pub overflow_add-stream : goal.overflow_add-stream
 overflow_add-stream c = omega (arith, head-room _ _ _ _ c.bytes_before-before.ensures c.bytes_before.ensures 4 refl)

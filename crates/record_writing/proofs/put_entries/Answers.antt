@@ -40,24 +40,11 @@ module _ (entries n before next : ℕ) (before-is : before ≡ bytes_before (ent
     place : 4 + entry_bytes * e - before ≡ 4 - before % entry_bytes + entry_bytes * (e - before / entry_bytes)
     place = omega arith
 
-pub overflow_mul-total : goal.overflow_mul-total
-overflow_mul-total c = omega (arith, c.requires.asked_input.few)
-
-pub bytes_before-start-requires : goal.bytes_before-start-requires
-bytes_before-start-requires c =
-    let a = c.requires.asked_input in
-    record { few = a.few; within = omega (arith, a.within) }
-
 pub overflow_add-n : goal.overflow_add-n
 unfolding record_count data_count
 overflow_add-n c =
     let a = c.requires.asked_input in
     omega (arith, a.few, a.within)
-
-pub bytes_before-requires : goal.bytes_before-requires
-bytes_before-requires c =
-    let a = c.requires.asked_input in
-    record { few = a.few; within = omega (arith, a.within) }
 
 pub overflow_add-end : goal.overflow_add-end
 overflow_add-end c =

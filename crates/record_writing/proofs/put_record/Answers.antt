@@ -1,17 +1,11 @@
 -- `record_writing::put_record` meets its contract: the line is put behind the colon.
 use Prim.Native.Nat.{◌+◌, ◌≤◌}
 use native.Mathlib.Omega.{arith}
-use lib.ListN.{length, length-set}
+use lib.ListN.{length}
 use Rattle.encoding.specs.Encode.{line_of}
 use Rattle.encoding.proofs.LineBack.{line-length}
 use Rattle.record_writing.proofs.ColonLaws.{behind-length, colon-put}
 use Rattle.record_writing.proofs.put_record.Goals as goal
-
-pub slice_bounds-put_bytes-count : goal.slice_bounds-put_bytes-count
-slice_bounds-put_bytes-count c = rw length-set (omega arith)
-
-pub slice_bounds-put_bytes-start : goal.slice_bounds-put_bytes-start
-slice_bounds-put_bytes-start c = rw length-set (omega arith)
 
 pub put_bytes-requires : goal.put_bytes-requires
 put_bytes-requires c =

@@ -15,7 +15,6 @@ use Rattle.records.proofs.RecordLaws.{
   colon-refused,
   odd_refused,
   long-refused,
-  digits-even,
   digits-refused,
   count-refused,
   sound,
@@ -31,11 +30,6 @@ read text told is = told ∙ ap (λ (o : Option Decoded). ok_or o Cause.Record) 
 pub returns-then-text-eq0 : goal.returns-then-text-eq0
 returns-then-text-eq0 c =
     elim c.then-text-eq0.branch [ then-text-eq0-via-then-text-eq0 w ↦ odd_refused _ w.if-text-eq0.true | then-text-eq0-via-else-text-eq0+then-text-gt-LONGEST_RECORD w ↦ long-refused _ w.if-text-gt-LONGEST_RECORD.true | then-text-eq0-via-else-text-eq0+else-text-gt-LONGEST_RECORD+then-text-ne58 w ↦ colon-refused _ w.if-text-ne58.true ]
-
-pub decode_digits-requires : goal.decode_digits-requires
-decode_digits-requires c =
-    let text = c.args.text.now in
-    rw (lent-digits text) (digits-even text (omega (arith, c.if-text-eq0.false)) c.if-text-gt-LONGEST_RECORD.false)
 
 pub returns-in_err-decoded : goal.returns-in_err-decoded
 returns-in_err-decoded c =

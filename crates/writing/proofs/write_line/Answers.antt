@@ -9,7 +9,6 @@ use borrow.Author.Tests.{lt-ltb, le-ltb}
 use lib.IntN.{ℤ}
 use lib.ListN.{length}
 use Rattle.general.specs.Lists.{over}
-use Rattle.refusal.specs.Verdict.{Verdict}
 use Rattle.refusal.specs.Checks.{verdict}
 use Rattle.refusal.proofs.Answers.{answer-refused, answer-given}
 use Rattle.design.specs.declared.Design.{Design}

@@ -18,7 +18,8 @@ pub returns-in-None-2-clause-start : goal.returns-in-None-2-clause-start
 returns-in-None-2-clause-start g c =
     let l = c.loop-count in
     rw (set-get_or l.bytes l.count 0)
-    (by-input _ l.bytes l.count (omega arith) l.invariant.no-newline (omega arith) (end_kept _ _ _ c.next_byte.ensures.value c.in-None-2.is))
+    (by-input _ l.bytes l.count (omega arith) l.invariant.no-newline (omega arith)
+    (end_kept _ _ _ c.next_byte.ensures.value c.in-None-2.is))
 
 pub returns-in-None-2-clause-taken : goal.returns-in-None-2-clause-taken
 returns-in-None-2-clause-taken g c =
