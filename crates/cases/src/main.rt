@@ -118,7 +118,10 @@ fn show_value(
 // Whether a design of 16 bits, of which 8 are initial, is refused.
 fn show_legal(console: &mut Console<impl Print>, label: &[u8], a: u32, b: u32) {
     console.put(label);
-    show_verdict(console, design::budget(of_one_table(16, 8, a, b)).map(|_| ()));
+    show_verdict(
+        console,
+        design::budget(of_one_table(16, 8, a, b)).map(|_| ()),
+    );
 }
 
 fn refusals(console: &mut Console<impl Print>) {

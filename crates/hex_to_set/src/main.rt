@@ -7,8 +7,8 @@ ghost use Rattle.record_storage.specs.RecordStorage.{Recordable};
 ghost use Rattle.set_console.specs.Reading.{HoldsEverySet};
 
 use console::{BLOCK, Console};
-use design::{Design, LegalDesign};
 use design::limits::{MOST_INITIAL, MOST_OFFSETS};
+use design::{Design, LegalDesign};
 use hex_console::read_design;
 use hex_console::record_reader::RecordReader;
 use lines::some_over;

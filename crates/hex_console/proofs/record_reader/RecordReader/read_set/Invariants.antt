@@ -16,7 +16,7 @@ invariant-records g l =
       design : l.self.design ≡ l.fn.self.design;
       came : HexCame l.fn.self.design i.initial' i.offsets (hex_session l.self.state l.initial' l.offsets);
       unfinished : hex_finished l.fn.self.design l.self.state ≡ false;
-      output : l.console.output ≡ i.console.output
+      output : l.console.output ≡ i.console.output;
     }
 
 abbrev pub decreases-records : goal.decreases-records
