@@ -70,20 +70,21 @@ impl RecordReader {
         self.take_text(initial, offsets, &bytes[..line.count])
     }
 
-    // inner: reads on until a record completes the set, is refused, or does not come. The answer is whether the set came. The tables hold it.
+    // inner: reads a set, from its first record on, until a record completes it, is refused, or does not come. The answer is whether the set
+    // came. The tables hold it.
     pub fn read_set(
         &mut self,
         console: &mut Console<impl Input + Print>,
         initial: &mut [u32],
         offsets: &mut [i32],
     ) -> Result<bool, Cause>
-        requires usable { Usable self.old.design (length initial.old) (length offsets.old) }
-        requires begun { self.old.state ≡ no_record }
+        requires { Usable self.old.design (length initial.old) (length offsets.old) }
         ensures design { self.new.design ≡ self.old.design }
         ensures came { HexCame self.old.design initial.old offsets.old (hex_session self.new.state initial.new offsets.new) }
         ensures told { is_whole result ≡ hex_finished self.old.design self.new.state }
         ensures output { console.new.output ≡ console.old.output }
     {
+        *self = RecordReader::new(self.design);
         'records: loop {
             match self.take_record(console, initial, offsets)? {
                 Came::Line => {}

@@ -38,10 +38,7 @@ fn text_length(bytes: &[u8], count: usize, end: LineEnd) -> usize
 }
 
 // inner: reads a line of the input, if there is one. Its text stands at the start of the lent bytes.
-pub fn read_text(
-    console: &mut Console<impl Input + Print>,
-    bytes: &mut [u8],
-) -> Option<LineStart>
+pub fn read_text(console: &mut Console<impl Input + Print>, bytes: &mut [u8]) -> Option<LineStart>
     requires { longest_record + 2 ≤ length bytes.old }
     ensures read { TextCame bytes.new result console.old console.new }
     ensures output { console.new.output ≡ console.old.output }

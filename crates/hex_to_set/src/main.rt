@@ -7,67 +7,55 @@ ghost use Rattle.record_storage.specs.RecordStorage.{Recordable};
 ghost use Rattle.set_console.specs.Reading.{HoldsEverySet};
 
 use console::{BLOCK, Console};
-use design::Design;
 use design::limits::{MOST_INITIAL, MOST_OFFSETS};
-use hex_console::{read_design, read_records};
+use design::{Design, LegalDesign};
+use hex_console::read_design;
+use hex_console::record_reader::RecordReader;
 use lines::some_over;
 use refusal::Cause;
-use set_console::{is_line, put_end, put_set};
+use set_console::answers::{put_refused_line, put_unfinished};
+use set_console::set_lines::put_set;
 
 // Puts the lines of a set that records hold. Records carry initial entries that lines do not: of such a set no line is put.
-fn put_loaded(
-    rt: &impl Print,
-    console: Console,
-    output: &mut [u8],
-    design: Design,
-    initial: &[u32],
-    offsets: &[i32],
-) -> Console
+fn put_loaded(console: &mut Console<impl Print>, design: Design, initial: &[u32], offsets: &[i32])
     requires { Recordable (record { design = design; initial = initial.now; offsets = offsets.now }) }
 {
-    if some_over(design, initial) {
-        return console.put_refused(rt, output, Cause::InitialRange);
+    let legal = LegalDesign { design };
+    if some_over(legal, initial) {
+        console.put_refused(Cause::InitialRange);
+        return;
     }
-    put_set(rt, console, output, design, initial, offsets)
+    put_set(console, design, initial, offsets);
 }
 
 fn load_and_write(
-    rt: &(impl Input + Print),
+    console: &mut Console<impl Input + Print>,
     design: Design,
-    console: Console,
-    input: &mut [u8],
-    output: &mut [u8],
     initial: &mut [u32],
     offsets: &mut [i32],
-) -> Console
+)
     requires { Usable design (length initial.old) (length offsets.old) }
 {
-    let set = read_records(rt, design, console, input, output, initial, offsets);
-    let next = set.console;
-    let came = set.came;
-    if !set.finished {
-        return put_end(rt, next, output, came, set.lines);
+    let mut reader = RecordReader::new(design);
+    match reader.read_set(console, initial, offsets) {
+        Ok(true) => put_loaded(console, design, initial, offsets),
+        Ok(false) => put_unfinished(console, reader.lines()),
+        Err(cause) => put_refused_line(console, reader.lines(), cause),
     }
-    put_loaded(rt, next, output, design, initial, offsets)
 }
 
 fn read_and_write(
-    rt: &(impl Input + Print),
-    input: &mut [u8],
-    output: &mut [u8],
+    console: &mut Console<impl Input + Print>,
     initial: &mut [u32],
     offsets: &mut [i32],
-) -> Console
+)
     requires { HoldsEverySet (length initial.old) (length offsets.old) }
 {
-    let first = read_design(rt, Console::new(), input, output);
-    let design = first.design;
-    let came = first.came;
-    let console = first.console;
-    if !is_line(came) {
-        return put_end(rt, console, output, came, 0);
+    match read_design(console) {
+        Ok(Some(design)) => load_and_write(console, design, initial, offsets),
+        Ok(None) => put_unfinished(console, 0),
+        Err(cause) => put_refused_line(console, 0, cause),
     }
-    load_and_write(rt, design, console, input, output, initial, offsets)
 }
 
 fn main(rt: HostRuntime) {
@@ -75,6 +63,7 @@ fn main(rt: HostRuntime) {
     let mut output = [0u8; BLOCK];
     let mut initial = [0u32; MOST_INITIAL];
     let mut offsets = [0i32; MOST_OFFSETS];
-    let console = read_and_write(&rt, &mut input, &mut output, &mut initial, &mut offsets);
-    console.flush(&rt, &output);
+    let mut console = Console::new(&rt, &mut input, &mut output);
+    read_and_write(&mut console, &mut initial, &mut offsets);
+    console.flush();
 }

@@ -9,29 +9,21 @@ use design::limits::{MOST_INITIAL, MOST_OFFSETS};
 use filling::fill;
 use frames::design_line;
 use refusal::Cause;
-use set_console::put_set;
+use set_console::set_lines::put_set;
 
 // The line's refusals are the report's; then the fill's, of which 10 never comes.
 fn make(
-    rt: &impl Print,
-    console: Console,
-    output: &mut [u8],
+    console: &mut Console<impl Print>,
     line: &[u8],
     initial: &mut [u32],
     offsets: &mut [i32],
-) -> Console
+) -> Result<(), Cause>
     requires { HoldsEverySet (length initial.old) (length offsets.old) }
 {
-    let read = design_line(line);
-    let verdict = read.verdict;
-    if let Err(cause) = verdict {
-        return console.put_refused(rt, output, cause);
-    }
-    let d = read.design;
-    if let Err(cause) = fill(d, initial, offsets) {
-        return console.put_refused(rt, output, cause);
-    }
-    put_set(rt, console, output, d, initial, offsets)
+    let d = design_line(line)?;
+    fill(d, initial, offsets)?;
+    put_set(console, d, initial, offsets);
+    Ok(())
 }
 
 fn main(rt: HostRuntime) {
@@ -40,17 +32,14 @@ fn main(rt: HostRuntime) {
     let mut output = [0u8; BLOCK];
     let mut initial = [0u32; MOST_INITIAL];
     let mut offsets = [0i32; MOST_OFFSETS];
-    let line = Console::new().read_line(&rt, &mut input, &output);
-    let bytes = line.bytes;
-    let count = line.count;
-    let console = line.console;
-    let made = make(
-        &rt,
-        console,
-        &mut output,
-        &bytes[..count],
-        &mut initial,
-        &mut offsets,
-    );
-    made.flush(&rt, &output);
+    let mut console = Console::new(&rt, &mut input, &mut output);
+    let line = console.read_line();
+    let text = match &line {
+        Some(line) => line.text(),
+        None => b"",
+    };
+    if let Err(cause) = make(&mut console, text, &mut initial, &mut offsets) {
+        console.put_refused(cause);
+    }
+    console.flush();
 }

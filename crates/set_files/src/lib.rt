@@ -77,7 +77,9 @@ fn answer_next<R: Input + Print, F: Fn(&mut Console<R>, Design, &[u32], &[i32])>
     ensures reached { Reached (session reader.new.state initial.new offsets.new) }
 {
     let came = reader.read_set(console, initial, offsets);
-    put_came(console, separator, put_answer, came, any, *reader, initial, offsets);
+    put_came(
+        console, separator, put_answer, came, any, *reader, initial, offsets,
+    );
     came
 }
 
@@ -126,6 +128,12 @@ pub fn answer_sets<R: Input + Print, F: Fn(&mut Console<R>, Design, &[u32], &[i3
     let mut initial = [0u32; MOST_INITIAL];
     let mut offsets = [0i32; MOST_OFFSETS];
     let mut console = Console::new(rt, &mut input, &mut output);
-    answer_all(&mut console, separator, put_answer, &mut initial, &mut offsets);
+    answer_all(
+        &mut console,
+        separator,
+        put_answer,
+        &mut initial,
+        &mut offsets,
+    );
     console.flush();
 }

@@ -7,19 +7,6 @@ use encoding::{design_frame, put_line};
 use question_text::{Question, QuestionText};
 use searching::smallest;
 
-// What the line asks: everything before the first newline, or everything there is. A character at a time, so that the line may be of any
-// length. No input is so long that the loop ends by itself, but a proved loop has to end.
-fn read_question<R: Input + Print>(console: &mut Console<'_, '_, R>) -> Option<Question> {
-    let mut text = QuestionText::new();
-    for _ in 0..u64::MAX {
-        match console.next_byte() {
-            None | Some(b'\n') => return text.question(),
-            Some(b) => text = text.with(b),
-        }
-    }
-    None
-}
-
 // The design's line, and what the report says of it.
 fn put_design<R: Print>(console: &mut Console<'_, '_, R>, legal: LegalDesign) {
     let frame = design_frame(legal);
@@ -49,7 +36,9 @@ fn main(rt: HostRuntime) {
     let mut input = [0u8; 1];
     let mut output = [0u8; 128];
     let mut console = Console::new(&rt, &mut input, &mut output);
-    match read_question(&mut console) {
+    // The question is everything before the first newline, or everything there is. A character at a time, so that the line may be of any length.
+    let text = console.fold_line(QuestionText::new(), QuestionText::with);
+    match text.and_then(QuestionText::question) {
         Some(question) => answer(&mut console, question),
         None => console.put(b"NOT THREE NUMBERS\n"),
     }

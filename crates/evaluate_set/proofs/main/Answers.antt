@@ -2,5 +2,5 @@
 use Rattle.set_console.proofs.LineLaws.{every_set}
 use Rattle.evaluate_set.proofs.main.Goals as goal
 
-pub read_and_answer-console-requires : goal.read_and_answer-console-requires
-read_and_answer-console-requires c = every_set
+pub read_and_answer-requires : goal.read_and_answer-requires
+read_and_answer-requires c = every_set

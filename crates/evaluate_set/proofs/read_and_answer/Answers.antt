@@ -2,5 +2,5 @@
 use Rattle.set_console.proofs.FeedLaws.{reached-begin}
 use Rattle.evaluate_set.proofs.read_and_answer.Goals as goal
 
-pub read_set-set-requires : goal.read_set-set-requires
-read_set-set-requires g c = record { holds_every_set = c.requires; reached_2 = reached-begin _ c.start.ensures.0 }
+pub read_set-requires : goal.read_set-requires
+read_set-requires g c = record { holds_every_set = c.requires; begun = reached-begin _ c.new-reader.ensures.0 }

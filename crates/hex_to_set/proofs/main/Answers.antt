@@ -2,5 +2,5 @@
 use Rattle.set_console.proofs.LineLaws.{every_set}
 use Rattle.hex_to_set.proofs.main.Goals as goal
 
-pub read_and_write-console-requires : goal.read_and_write-console-requires
-read_and_write-console-requires c = every_set
+pub read_and_write-requires : goal.read_and_write-requires
+read_and_write-requires c = every_set

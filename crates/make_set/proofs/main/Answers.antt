@@ -2,5 +2,5 @@
 use Rattle.set_console.proofs.LineLaws.{every_set}
 use Rattle.make_set.proofs.main.Goals as goal
 
-pub make-made-requires : goal.make-made-requires
-make-made-requires c = every_set
+pub make-requires : goal.make-requires
+make-requires c = every_set

@@ -6,4 +6,4 @@ use Rattle.make_set.proofs.make.Goals as goal
 pub put_set-requires : goal.put_set-requires
 put_set-requires g c =
     let e = c.fill.ensures in
-    rw (e.initial_table, e.offset_tables) (fill-storable _ _ _ (sym e.answer ∙ c.in_default-fill.is))
+    rw (e.initial_table, e.offset_tables) (fill-storable _ _ _ (sym e.answer ∙ c.in_ok-fill.was))

@@ -11,7 +11,7 @@ invariant-sets g l =
     record {
       initial_length : length l.initial' ≡ length l.initial.initial';
       offsets_length : length l.offsets ≡ length l.initial.offsets;
-      reached : Reached (session l.reader.state l.initial' l.offsets)
+      reached : Reached (session l.reader.state l.initial' l.offsets);
     }
 
 abbrev pub decreases-sets : goal.decreases-sets

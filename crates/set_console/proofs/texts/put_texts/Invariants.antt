@@ -14,5 +14,5 @@ invariant-loop-number g l =
       so_far : Puts (length l.initial.console.output) (pending_in l.initial.console) (printed (list_below l.number (g.T.Texts.text l.texts)))
           (pending_in l.console);
       input : KeepsInput l.initial.console l.console;
-      room : length l.console.output ≡ length l.initial.console.output
+      room : length l.console.output ≡ length l.initial.console.output;
     }

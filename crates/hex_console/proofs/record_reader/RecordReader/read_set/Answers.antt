@@ -8,7 +8,8 @@ use Rattle.hex_console.proofs.record_reader.RecordReader.read_set.Goals as goal
 
 pub records-init : goal.records-init
 records-init g c =
-    record { design = refl; came = rw c.requires.begun (loaded-none _ _ _); unfinished = rw c.requires.begun (unfinished_none _); output = refl }
+    let new = c.new.ensures in
+    record { design = new.0; came = rw new.1 (loaded-none _ _ _); unfinished = rw new.1 (unfinished_none _); output = refl }
 
 pub records-preserved : goal.records-preserved
 records-preserved g c =

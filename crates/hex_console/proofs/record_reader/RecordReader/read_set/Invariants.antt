@@ -13,11 +13,11 @@ abbrev pub invariant-records : goal.invariant-records
 invariant-records g l =
     let i = l.initial in
     record {
-      design : l.self.design ≡ i.self.design;
-      came : HexCame i.self.design i.initial' i.offsets (hex_session l.self.state l.initial' l.offsets);
-      unfinished : hex_finished i.self.design l.self.state ≡ false;
-      output : l.console.output ≡ i.console.output
+      design : l.self.design ≡ l.fn.self.design;
+      came : HexCame l.fn.self.design i.initial' i.offsets (hex_session l.self.state l.initial' l.offsets);
+      unfinished : hex_finished l.fn.self.design l.self.state ≡ false;
+      output : l.console.output ≡ i.console.output;
     }
 
 abbrev pub decreases-records : goal.decreases-records
-decreases-records g l = record_count (byte_count l.initial.self.design) - l.self.state.taken
+decreases-records g l = record_count (byte_count l.fn.self.design) - l.self.state.taken

@@ -16,7 +16,7 @@ invariant-lines g l =
           (Ok Came.Line);
       initial_length : length l.initial' ≡ length i.initial';
       offsets_length : length l.offsets ≡ length i.offsets;
-      output : l.console.output ≡ i.console.output
+      output : l.console.output ≡ i.console.output;
     }
 
 abbrev pub decreases-lines : goal.decreases-lines

@@ -16,4 +16,3 @@ returns-clause-led g c =
     let fed = c.feed_line.ensures in
     led-line _ _ (no-newlines line _ read.line) line.end _ _ read.taken read.line.over _ _ _ _ (rw c.text.ensures at fed.reading)
     (rw c.text.ensures at fed.came) fed.counted
-
