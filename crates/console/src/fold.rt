@@ -6,7 +6,7 @@ use crate::Console;
 
 impl<'r, 'b, R: Input + Print> Console<'r, 'b, R> {
     // Folds the next line of the input, however long, a character at a time. The newline is no part of it, and there is no line where the
-    // input ended before a character of it.
+    // input ended before a character of it. The turns are counted, since a loop has to end and the input may not.
     pub fn fold_line<T: Copy, F: Fn(T, u8) -> T>(&mut self, start: T, with: F) -> Option<T>
         requires { F.IsAlwaysCallable with }
         ensures line { IfSome result (λ text. LineFolded (λ t b u. F.post with t b u) self.old start text self.new) }

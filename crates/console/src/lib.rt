@@ -31,12 +31,14 @@ use std::marker::Model;
 #[derive(Drop)]
 pub struct Console<'r, 'b, R> {
     rt: &'r R,
-    // Of the input's block, the bytes from `at` up to `count` are still to be read; `ended` says whether no other block comes.
+    // Of the input's block, the bytes from `at` up to `count` are still to be read; `ended` says whether no other block comes. A flag, since
+    // none is left to be read at the start either. The blocks are lent, as each program says how far it may read ahead.
     input: &'b mut [u8],
     at: usize,
     count: usize,
     ended: bool,
-    // Of the output's block, the first `pending` bytes are still to be written; `failed` says whether something could not be.
+    // Of the output's block, the first `pending` bytes are still to be written; `failed` says whether something could not be: a flag, since a
+    // program says of no error which it was.
     output: &'b mut [u8],
     pending: usize,
     failed: bool,

@@ -11,7 +11,7 @@ pub enum LineEnd {
     Cut,
 }
 
-// How many bytes of a line were read, and why no more.
+// How many bytes of a line were read, and why no more. The bytes stand in the slice that the caller lent.
 #[derive(Clone, Copy, Debug, PartialEq, Eq)]
 pub struct LineStart {
     pub count: usize,

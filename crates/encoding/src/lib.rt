@@ -14,6 +14,7 @@ use design::LegalDesign;
 use frames::CAPACITY;
 
 // A frame while it is put together: its first `count` bytes are there. An array with a count and no `Vec`: nothing here allocates.
+// It is no `Decoded`, which has zeros behind its bytes.
 #[derive(Clone, Copy)]
 pub struct Frame {
     pub bytes: [u8; CAPACITY],
@@ -77,6 +78,7 @@ pub fn design_frame(legal: LegalDesign) -> Frame
     frame
 }
 
+// The digit of a number. `char::from_digit` gives small letters.
 fn digit_of(n: u8) -> u8
     requires { n < 16 }
     ensures { result ≡ digit_of n }
@@ -97,7 +99,7 @@ fn put_byte(byte: u8, at: usize, line: &mut [u8])
 }
 
 // inner: puts the digits of bytes and of the byte that makes their sum 0 at the start of a buffer. The sum of so few bytes is far below
-// 2^32, so it is reduced only once, at the end.
+// 2^32, so it is reduced only once, at the end. By the place, as a byte takes two places of the line.
 pub fn put_bytes(bytes: &[u8], line: &mut [u8])
     requires { PutInput (length bytes.now) (length line.old) }
     ensures { line.new ≡ over line.old 0 (line_of bytes.now) }

@@ -19,7 +19,7 @@ pub fn number_in(bytes: &[u8]) -> u32
     number
 }
 
-// inner: whether a number without sign fits an entry's bytes.
+// inner: whether a number without sign fits an entry's bytes. A shift would be no plainer.
 pub fn fits(v: u32) -> bool
     ensures { result ≡ Bytes.fits entry_bytes v }
 {

@@ -29,7 +29,7 @@ fn put_word(
     }
 }
 
-// Answers each line that is left.
+// Answers each line that is left. The turns are counted, since a loop has to end and the input may not.
 fn answer_words(
     console: &mut Console<impl Input + Print>,
     d: Design,

@@ -18,7 +18,8 @@ use refusal::Cause;
 use tables::sums::TableSet;
 use values::OutputUnits;
 
-// Why `evaluate_batch` refuses, and the place of the lowest bad word (0 if no word is the cause).
+// Why `evaluate_batch` refuses, and the place of the lowest bad word (0 if no word is the cause). A struct and no case of `Cause`: C gets a
+// place whatever the cause is.
 #[derive(Clone, Copy, Debug, PartialEq, Eq)]
 pub struct BatchRefusal {
     pub cause: Cause,

@@ -4,7 +4,7 @@ ghost use Rattle.exports.specs.Numbers.{design_of, numbers_of};
 
 use design::{Design, Pair};
 
-// The design that the numbers stand for.
+// The design that the numbers stand for. A function and no `From`, since neither type is of this crate.
 pub fn design_of(numbers: &[u32; 14]) -> Design
     ensures { result ≡ design_of numbers.now }
 {

@@ -212,7 +212,7 @@ pub extern "C" fn dorykleth_check(
     }
 }
 
-// The five counts, in the order of their names in `Counts`.
+// The five counts, in the order of their names in `Counts`. A function and no `From`, as for a design's numbers.
 fn five(counts: Counts) -> [u32; 5]
     ensures { result ≡ five_of counts }
 {

@@ -72,7 +72,7 @@ fn fill_table(legal: LegalDesign, i: u32, p: u32, table: &mut [i32])
     }
 }
 
-// The offset tables, one after another.
+// The offset tables, one after another. By the number of the table, which its count and its pair go by.
 fn fill_offsets(legal: LegalDesign, offsets: &mut [i32])
     requires { offset_total legal.design ≤ length offsets.old }
     ensures { offsets.new ≡ over offsets.old 0 (offset_entries legal.design) }

@@ -19,7 +19,7 @@ pub const LONGEST_LINE: usize = 32;
 // How many bytes an array holds that frames and records are read into or put together in. The longest line's are 16, a record's 21.
 pub const CAPACITY: usize = 21;
 
-// What digits hold: their bytes with zeros behind them, and how many there are.
+// What digits hold: their bytes with zeros behind them, and how many there are. An array and a count: fixed memory, no heap.
 #[derive(Clone, Copy, Debug, PartialEq, Eq)]
 pub struct Decoded {
     pub bytes: [u8; CAPACITY],

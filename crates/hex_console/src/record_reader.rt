@@ -71,7 +71,7 @@ impl RecordReader {
     }
 
     // inner: reads a set, from its first record on, until a record completes it, is refused, or does not come. The answer is whether the set
-    // came. The tables hold it.
+    // came. The tables hold it. `SetReader` has such a loop; what it promises, of a set that can be stored, is not asked for here.
     pub fn read_set(
         &mut self,
         console: &mut Console<impl Input + Print>,

@@ -16,6 +16,7 @@ use records::LONGEST_RECORD;
 use refusal::Cause;
 use set_console::texts::{Texts, put_texts};
 
+// A set in parts, as C lends it to the writer.
 #[derive(Clone, Copy, Debug)]
 pub struct SetRecords<'a> {
     pub design: Design,

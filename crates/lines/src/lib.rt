@@ -29,7 +29,7 @@ pub fn line_count(legal: LegalDesign) -> u64
     pow2(legal.design.alpha) + legal.offset_total() + 2
 }
 
-// The table and the index in it of the offset at a place: at most four tables are looked at.
+// The table and the index in it of the offset at a place: at most four tables are looked at, by their numbers, one of which is in the answer.
 fn offset_slot(legal: LegalDesign, place: u32) -> Slot
     requires { place < offset_total legal.design }
     ensures { result ≡ offset_slot legal.design place }

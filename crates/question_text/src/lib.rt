@@ -7,7 +7,8 @@ ghost use Rattle.question_text.specs.Question.{fields, kept_of, with_character, 
 
 use word_text::WordText;
 
-// What is asked for: the smallest table design of this kind, with input words of w bits and output words of q bits.
+// What is asked for: the smallest table design of this kind, with input words of w bits and output words of q bits. A kind is a number, since
+// the first refusal is for every number that is none.
 #[derive(Clone, Copy, Debug, PartialEq, Eq)]
 pub struct Question {
     pub kind: u32,

@@ -36,7 +36,7 @@ use lines::{Slot, entry_over, entry_width, head_of, line_count, slot_of};
 use refusal::Cause;
 use tables::tables_short;
 
-// Document 01's reading state. With no line taken the design is not read.
+// Document 01's reading state. With no line taken the design is not read; no `Option`, since C keeps the state as numbers.
 #[derive(Clone, Copy)]
 pub struct Reading {
     pub design: Design,

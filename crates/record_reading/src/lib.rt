@@ -84,7 +84,7 @@ fn with_held(state: HexReading, k: usize, window: &mut [u8; CAPACITY])
     window[HEAD_BYTES - k..HEAD_BYTES].copy_from_slice(&held[..k]);
 }
 
-// Stores entry e, which is an initial entry if it is one of the first `initials`.
+// Stores entry e, which is an initial entry if it is one of the first `initials`. By its number: a record names no `Slot`.
 fn store_entry(initials: usize, e: usize, number: u32, initial: &mut [u32], offsets: &mut [i32])
     requires entry_in { EntryIn initials (length initial.old) (length offsets.old) e }
     requires number_bound { number < 2 ^ (8 * entry_bytes) }

@@ -22,7 +22,8 @@ use records::{
 use refusal::Cause;
 use tables::checked_set;
 
-// The number that entry e is written as, or None where it does not fit its 3 bytes.
+// The number that entry e is written as, or None where it does not fit its 3 bytes. By `if` and not `then_some`, since only an entry that fits
+// has a complement.
 fn entry_number(initials: usize, initial: &[u32], offsets: &[i32], e: usize) -> Option<u32>
     requires { EntryIn initials (length initial.now) (length offsets.now) e }
     ensures { result ≡ entry_written initials initial.now offsets.now e }

@@ -67,7 +67,7 @@ impl From<Cause> for u8 {
     }
 }
 
-// Whether n is not one of low..high, both included.
+// Whether n is not one of low..high, both included. `contains` of a range would be no plainer than the two comparisons.
 pub fn outside(low: u32, high: u32, n: u32) -> bool
     ensures { result ≡ Checks.outside low high n }
 {

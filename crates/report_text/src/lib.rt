@@ -62,7 +62,7 @@ pub fn refused(cause: Cause) -> Text
         .word(b"\n")
 }
 
-// The line of a design that can be measured.
+// The line of a design that can be measured. Whether it is admitted stands beside the numbers, which are shown either way.
 fn measured(budget: u64, limit: u64, bits: u64, admitted: bool) -> Text
     ensures { result ≡ text_of (line_text budget limit bits admitted) }
 {

@@ -15,6 +15,7 @@ use design::Design;
 use refusal::Cause;
 use writing::write_line;
 
+// A set in parts, as C lends it to the writer.
 #[derive(Clone, Copy, Debug)]
 pub struct SetLines<'a> {
     pub design: Design,

@@ -42,7 +42,8 @@ fn put_with_newline(console: &mut Console<impl Print>, buffer: &mut [u8], count:
     console.put(&buffer[..count + 1]);
 }
 
-// Puts a text and a newline, if the writer gives it, by a buffer that has room for both. The answer is whether it does.
+// Puts a text and a newline, if the writer gives it, by a buffer that has room for both. The answer is whether it does: why
+// it does not, no caller asks.
 pub fn put_text<T: Texts>(
     console: &mut Console<impl Print>,
     texts: &T,
@@ -63,7 +64,8 @@ pub fn put_text<T: Texts>(
     true
 }
 
-// inner: puts the texts one after another, until the writer gives no more or one fails to go out. The writer gives all of them.
+// inner: puts the texts one after another, until the writer gives no more or one fails to go out. The writer gives all of them, and says
+// where they end.
 pub fn put_texts<T: Texts>(console: &mut Console<impl Print>, texts: &T, buffer: &mut [u8])
     requires longest { T.longest texts.now < length buffer.old }
     requires few { T.count texts.now < usize.MAX }

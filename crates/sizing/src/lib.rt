@@ -18,7 +18,7 @@ use general::{digit_count, pow2};
 use refusal::Cause;
 
 // inner: the bits of each offset of a table, by the largest Hi + Lo of its segments, its b and its p. The widest offset is T or -1 - T of
-// the largest |j|; either takes T's digits and one bit for the sign.
+// the largest |j|; either takes T's digits and one bit for the sign. One by one: a search has the three in different places.
 pub fn bits_of(slopes: u64, b: u32, p: u32) -> u32
     requires { OffsetInput slopes b p }
     ensures { result ≡ bits_for (widest_offset slopes b p) }

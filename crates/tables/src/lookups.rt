@@ -18,7 +18,8 @@ pub struct Lookup {
     pub start: u32,
 }
 
-// The tables by name, so that none of their numbers is read at a place that only the run tells. Those at m and beyond are not looked up.
+// The tables by name, so that none of their numbers is read at a place that only the run tells: an array made a word twenty times slower
+// (docs/SPEED.md). Those at m and beyond are not looked up.
 #[derive(Clone, Copy, Debug, PartialEq, Eq)]
 pub struct Lookups {
     pub first: Lookup,

@@ -45,7 +45,8 @@ fn add_offset(sum: TableUnits, offsets: &[i32], place: u32) -> TableUnits
 }
 
 impl OffsetTables<'_> {
-    // Adds the offset of table i, whose lookup this is; `i` is there for the promise only. `near` is any word of x's interval.
+    // Adds the offset of table i, whose lookup this is; `i` is there for the promise only. `near` is any word of x's interval. Both stay numbers,
+    // since `.ci/straight` follows whole locals.
     #[inline(always)]
     pub(crate) fn add_table(
         self,
@@ -127,7 +128,8 @@ impl OffsetTables<'_> {
 }
 
 impl<'a> TableSet<'a> {
-    // The set that these tables are, or the first of the refusals 1 to 10. Always inlined, for the same reason as its lookups.
+    // The set that these tables are, in parts as C lends it, or the first of the refusals 1 to 10. Always inlined, for the same reason as its
+    // lookups.
     #[inline(always)]
     pub fn of(d: Design, initial: &'a [u32], offsets: &'a [i32]) -> Result<TableSet<'a>, Cause>
         ensures verdict { verdict_of result ≡ verdict (set_checks d (length initial.now) (length offsets.now)) }

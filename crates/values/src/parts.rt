@@ -7,8 +7,8 @@ ghost use Rattle.values.specs.Inputs.{FloorInput};
 use crate::rows::Row;
 use general::pow2;
 
-// How many fraction bits are asked for differs from call to call, so that `FloorInput` stays a `requires` and is no field of the argument.
-// An argument X of a function, for input words of w bits: c·X / 2^w by the function's row.
+// An argument X of a function, for input words of w bits: c·X / 2^w by the function's row. How many fraction bits are asked for differs from
+// call to call, so that `FloorInput` stays a `requires` and is no field of the argument.
 #[derive(Clone, Copy, Debug, PartialEq, Eq)]
 pub struct Argument {
     pub row: Row,

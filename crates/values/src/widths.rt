@@ -5,7 +5,7 @@ ghost use Rattle.values.specs.Widths.{limits_of, function_checks, width_checks};
 
 use refusal::{Cause, outside};
 
-// The lowest and the highest number that pass.
+// The lowest and the highest number that pass. No `RangeInclusive`, which is not `Copy`.
 #[derive(Clone, Copy)]
 pub struct Span(pub u32, pub u32);
 

@@ -4,7 +4,8 @@
 ghost use Rattle.std.specs.Prelude.{◌≡◌, []};
 ghost use Rattle.word_text.specs.Decimal.{reading_of, longer, after_character, word_of};
 
-// What is known of a line so far: its number, unless it is no word, whatever follows; and whether it has a character yet.
+// What is known of a line so far: its number, unless it is no word, whatever follows; and whether it has a character yet: a flag, since a
+// number is known either way.
 #[derive(Clone, Copy, Debug, PartialEq, Eq)]
 pub struct WordText {
     pub number: Option<u32>,
