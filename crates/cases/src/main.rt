@@ -3,14 +3,13 @@
 #![tactic(auto)]
 
 use checking::check;
-use console::{BLOCK, Console, KEPT};
+use console::{BLOCK, Console};
 use design::{Design, NO_PAIR, Pair};
 use filling::fill;
 use refusal::Cause;
 use searching::smallest;
 use set_console::answers::put_checked;
-use set_console::set_lines::SetLines;
-use set_console::texts::put_text;
+use set_console::set_lines::put_line;
 
 // A design of one table, of kind 0 with q 8 and g 4.
 fn of_one_table(w: u32, alpha: u32, a: u32, b: u32) -> Design {
@@ -39,12 +38,7 @@ fn show_line(
     number: usize,
 ) {
     console.put(label);
-    let lines = SetLines {
-        design: g(),
-        initial,
-        offsets,
-    };
-    if !put_text(console, &lines, number, &mut [0u8; KEPT]) {
+    if !put_line(console, g(), initial, offsets, number) {
         console.put(b"none\n");
     }
 }

@@ -58,6 +58,7 @@ module _ {T : Type 0} (step : T → ℕ → T → Type 0) (c : Blocks) (start : 
           end = LineEnd.Newline;
           taken = takes-more c here next f.line (10 ∷ []) f.taken (takes-byte _ _ _ read 10 refl);
           no-newline = f.no-newline;
+          whole = λ e. let z : ◌≡◌ {A = ℕ} 0 1 = cc in omega arith;
           over = λ e. let z : ◌≡◌ {A = ℕ} 0 1 = cc in absurd (omega arith);
           some = λ e. let z : ◌≡◌ {A = ℕ} 0 1 = cc in absurd (omega arith);
           folds = f.folds;
@@ -71,6 +72,7 @@ module _ {T : Type 0} (step : T → ℕ → T → Type 0) (c : Blocks) (start : 
           end = LineEnd.Input;
           taken = rw (append-nil f.line) at (takes-more c here next f.line [] f.taken (takes-end _ _ _ read refl));
           no-newline = f.no-newline;
+          whole = λ e. let z : ◌≡◌ {A = ℕ} 0 1 = cc in omega arith;
           over = λ same. end_kept _ _ _ read refl;
           some = λ same. f.some e;
           folds = f.folds;

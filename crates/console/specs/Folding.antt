@@ -11,6 +11,8 @@ pub record LineFolded {T : Type 0} (step : T → ℕ → T → Type 0) (c : Bloc
   pub end : LineEnd
   pub taken : Takes c (spelled end line) next
   pub no-newline : NoNewline line (length line)
+  -- nothing of the line is cut off
+  pub whole : end ≡ LineEnd.Cut → ⊥
   -- the input has ended where it is said to have ended the line, which has a byte then
   pub over : end ≡ LineEnd.Input → next.ended ≡ true
   pub some : end ≡ LineEnd.Input → 0 < length line

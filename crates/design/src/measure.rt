@@ -3,6 +3,7 @@ ghost use Rattle.std.specs.Prelude.{◌≡◌, ◌≤◌, ◌<◌};
 ghost use Rattle.values.specs.Room.{finest_unit};
 ghost use Rattle.values.specs.Slopes.{largest_slopes};
 ghost use Rattle.design.specs.Stored.{offset_count, offset_total};
+ghost use Rattle.design.specs.Limits.{most_tables};
 ghost use Rattle.design.specs.Cut.{pair_at};
 ghost use Rattle.design.specs.Cut as Cut;
 ghost use Rattle.design.specs.Budget.{table_budget, budget, limit};
@@ -20,6 +21,14 @@ impl Design {
     {
         pow2(self.g + 17)
     }
+
+    // inner: the pair of a table that is read, also of a design that is not legal.
+    pub fn pair(self, i: u32) -> Pair
+        requires { (i < self.m) × (self.m ≤ most_tables) }
+        ensures { result ≡ pair_at self i }
+    {
+        self.pairs[i as usize]
+    }
 }
 
 impl LegalDesign {
@@ -28,7 +37,7 @@ impl LegalDesign {
         requires { i < self.design.m }
         ensures { result ≡ pair_at self.design i }
     {
-        self.design.pairs[i as usize]
+        self.design.pair(i)
     }
 
     // inner: the largest Hi - Lo and the largest Hi + Lo over the segments of table i.

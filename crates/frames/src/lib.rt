@@ -118,7 +118,7 @@ fn frame_pair(bytes: &[u8; CAPACITY], i: usize) -> Pair
 }
 
 // The design that a frame holds, unchecked.
-fn frame_design(frame: &Decoded) -> Design
+pub fn frame_design(frame: &Decoded) -> Design
     ensures { result ≡ frame_design frame.now.bytes }
 {
     let bytes = &frame.bytes;

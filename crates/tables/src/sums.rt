@@ -44,6 +44,26 @@ fn add_offset(sum: TableUnits, offsets: &[i32], place: u32) -> TableUnits
     TableUnits(sum.0 + offset as i64)
 }
 
+// inner: whether Y is out of range, not 0 ≤ Y < 2^(P+2).
+#[inline(always)]
+pub fn sum_outside(legal: LegalDesign, sum: TableUnits) -> bool
+    ensures { result ≡ sum_outside legal.design sum.0 }
+{
+    let limit = legal.sum_limit() as i64;
+    sum.0 < 0 || limit <= sum.0
+}
+
+// inner: the word, floor(Y / 2^g): the only place where table units become output units.
+#[inline(always)]
+pub fn word_of(legal: LegalDesign, sum: TableUnits) -> OutputUnits
+    requires { sum_outside legal.design sum.0 ≡ false }
+    ensures { result ≡ record { 0 = word_of legal.design sum.0 } }
+{
+    let g = legal.design.g;
+    let word = (sum.count() >> g) as u32;
+    OutputUnits(word)
+}
+
 impl OffsetTables<'_> {
     // Adds the offset of table i, whose lookup this is; `i` is there for the promise only. `near` is any word of x's interval. Both stay numbers,
     // since `.ci/straight` follows whole locals.
@@ -106,24 +126,21 @@ impl OffsetTables<'_> {
         }
     }
 
-    // inner: whether Y is out of range, not 0 ≤ Y < 2^(P+2).
+    // inner: whether Y is out of range.
     #[inline(always)]
     pub fn sum_outside(self, sum: TableUnits) -> bool
         ensures { result ≡ sum_outside self.entry.design sum.0 }
     {
-        let limit = self.legal().sum_limit() as i64;
-        sum.0 < 0 || limit <= sum.0
+        sum_outside(self.legal(), sum)
     }
 
-    // inner: the word, floor(Y / 2^g): the only place where table units become output units.
+    // inner: the word that Y comes to.
     #[inline(always)]
     pub fn word_of(self, sum: TableUnits) -> OutputUnits
         requires { sum_outside self.design sum.0 ≡ false }
         ensures { result ≡ record { 0 = word_of self.entry.design sum.0 } }
     {
-        let g = self.design.g;
-        let word = (sum.count() >> g) as u32;
-        OutputUnits(word)
+        word_of(self.legal(), sum)
     }
 }
 
