@@ -1,8 +1,9 @@
 // Refusals 1 to 9 of a design, in document 01's order.
-ghost use Rattle.std.specs.Prelude.{◌≡◌, ◌≤◌, IfOk, length};
+ghost use Rattle.std.specs.Prelude.{◌≡◌, ◌≤◌, ◌<◌, IfOk, length};
 ghost use Rattle.std.specs.List.{list_any, sum_by};
 ghost use Rattle.refusal.specs.Checks.{verdict, verdict_of};
 ghost use Rattle.design.specs.Limits.{most_tables};
+ghost use Rattle.design.specs.Cut.{pair_at};
 ghost use Rattle.design.specs.Legal.{cut_checks, design_verdict};
 ghost use Rattle.design.specs.Legal as Legal;
 
@@ -71,6 +72,20 @@ fn cut_verdict(d: Design) -> Result<(), Cause>
 }
 
 impl Design {
+    // inner: the pair of a table that is read, also of a design that is not legal. The places are literals: an array that is read at a place
+    // that only the run tells is copied to the stack at each call.
+    pub fn pair(self, i: u32) -> Pair
+        requires { (i < self.m) × (self.m ≤ most_tables) }
+        ensures { result ≡ pair_at self i }
+    {
+        match i {
+            0 => self.pairs[0],
+            1 => self.pairs[1],
+            2 => self.pairs[2],
+            _ => self.pairs[3],
+        }
+    }
+
     // The design as a legal one, or the first refusal.
     pub fn checked(self) -> Result<LegalDesign, Cause>
         ensures verdict { verdict_of result ≡ design_verdict self }
