@@ -49,8 +49,9 @@ fn offset_bits(tables: &[Pair]) -> u64
     tables.iter().map(|pair| u64::from(pair.b)).sum()
 }
 
-fn cut_verdict(d: Design) -> Result<(), Cause>
-    ensures { result ≡ verdict (cut_checks d) }
+// By reference: tables are a part of the design's array, so one by value would be copied to the stack for them.
+fn cut_verdict(d: &Design) -> Result<(), Cause>
+    ensures { result ≡ verdict (cut_checks d.now) }
 {
     if outside(LEAST_INITIAL_BITS, MOST_INITIAL_BITS, d.alpha) || d.w <= d.alpha {
         return Err(Cause::InitialBits);
@@ -86,13 +87,22 @@ impl Design {
         }
     }
 
+    // The first refusal, if there is one. A function of its own, so that `checked` can be inlined: behind a call its design would be copied, and
+    // read before the copy is written.
+    fn refusal(&self) -> Result<(), Cause>
+        ensures { result ≡ design_verdict self.now }
+    {
+        width_verdict(limits_of(self.kind), self.kind, self.w, self.q, self.g)?;
+        cut_verdict(self)
+    }
+
     // The design as a legal one, or the first refusal.
+    #[inline(always)]
     pub fn checked(self) -> Result<LegalDesign, Cause>
         ensures verdict { verdict_of result ≡ design_verdict self }
         ensures same { IfOk result (λ legal. legal.design ≡ self) }
     {
-        width_verdict(limits_of(self.kind), self.kind, self.w, self.q, self.g)?;
-        cut_verdict(self)?;
+        self.refusal()?;
         Ok(LegalDesign { design: self })
     }
 }
