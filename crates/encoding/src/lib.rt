@@ -40,11 +40,12 @@ impl Frame {
         ensures result_value { held result ≡ held self ++ big_endian width number }
         ensures count_value { result.count ≡ self.count + width }
     {
+        let mut at = self.count;
         for left in (0..width).rev() {
-            let at = self.count;
             self.bytes[at] = ((number >> (8 * left)) % 256) as u8;
-            self.count = at + 1;
+            at += 1;
         }
+        self.count = at;
         self
     }
 }
