@@ -65,10 +65,11 @@ fn is_possible(state: Reading) -> bool
 }
 
 // inner: whether a frame, of a line or of a record, is not the one due, which begins as `head` does and has `width` bytes more and a sum
-// byte behind that. Byte by byte, as both were put together: `starts_with` reads several at a time, and waits until they are stored.
-pub fn head_fails(head: &Frame, width: usize, frame: &Decoded) -> bool
-    requires { head.now.count + width ≤ capacity }
-    ensures { result ≡ head_fails (held head.now) width frame.now.bytes frame.now.count }
+// byte behind that. Byte by byte, as both were put together: `starts_with` loads several at a time, and waits until they are stored.
+#[inline(always)]
+pub fn head_fails(head: Frame, width: usize, frame: Decoded) -> bool
+    requires { head.count + width ≤ capacity }
+    ensures { result ≡ head_fails (held head) width frame.bytes frame.count }
 {
     if frame.count != head.count + width + 1 {
         return true;
@@ -113,16 +114,16 @@ fn empty_line(state: Reading) -> Result<Reading, Cause>
 // The state after a sound line with no line taken: it must hold a design.
 fn first_line(
     state: Reading,
-    frame: &Decoded,
+    frame: Decoded,
     initial: usize,
     offsets: usize,
 ) -> Result<Reading, Cause>
-    requires sound { Sound frame.now.bytes frame.now.count }
+    requires sound { Sound frame.bytes frame.count }
     requires taken_value { state.taken ≡ 0 }
-    ensures { result ≡ answer (due_verdict state initial offsets (take frame.now.count frame.now.bytes))
-        (next_state state (take frame.now.count frame.now.bytes)) }
+    ensures { result ≡ answer (due_verdict state initial offsets (take frame.count frame.bytes))
+        (next_state state (take frame.count frame.bytes)) }
 {
-    let legal = first_design(frame)?;
+    let legal = first_design(&frame)?;
     if tables_short(legal, initial, offsets) {
         return Err(Cause::TablesShort);
     }
@@ -135,16 +136,16 @@ fn first_line(
 // The state after a sound line with others taken before it.
 fn later_line(
     state: Reading,
-    frame: &Decoded,
+    frame: Decoded,
     initial: &mut [u32],
     offsets: &mut [i32],
 ) -> Result<Reading, Cause>
-    requires sound { Sound frame.now.bytes frame.now.count }
+    requires sound { Sound frame.bytes frame.count }
     requires begun { Begun state }
-    ensures value { result ≡ answer (due_verdict state (length initial.old) (length offsets.old) (take frame.now.count frame.now.bytes))
-        (next_state state (take frame.now.count frame.now.bytes)) }
-    ensures initial_after { initial.new ≡ (after_frame (session state initial.old offsets.old) (take frame.now.count frame.now.bytes)).initial }
-    ensures offsets_after { offsets.new ≡ (after_frame (session state initial.old offsets.old) (take frame.now.count frame.now.bytes)).offsets }
+    ensures value { result ≡ answer (due_verdict state (length initial.old) (length offsets.old) (take frame.count frame.bytes))
+        (next_state state (take frame.count frame.bytes)) }
+    ensures initial_after { initial.new ≡ (after_frame (session state initial.old offsets.old) (take frame.count frame.bytes)).initial }
+    ensures offsets_after { offsets.new ≡ (after_frame (session state initial.old offsets.old) (take frame.count frame.bytes)).offsets }
 {
     let legal = LegalDesign {
         design: state.design,
@@ -155,7 +156,7 @@ fn later_line(
     let slot = slot_of(legal, state.taken);
     let head = head_of(legal, slot);
     let width = entry_width(slot);
-    if head_fails(&head, width, frame) {
+    if head_fails(head, width, frame) {
         return Err(Cause::Frame);
     }
     let number = number_in(&frame.bytes[head.count..head.count + width]);
@@ -214,9 +215,9 @@ impl Reading {
         }
         let frame = decode(line)?;
         if self.taken == 0 {
-            return first_line(self, &frame, initial.len(), offsets.len());
+            return first_line(self, frame, initial.len(), offsets.len());
         }
-        later_line(self, &frame, initial, offsets)
+        later_line(self, frame, initial, offsets)
     }
 
     // Takes a line (document 01, "Bits, lines and the report"). A refusal gives back the state that came.

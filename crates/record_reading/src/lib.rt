@@ -129,17 +129,17 @@ fn holding(taken: usize, bytes: &[u8]) -> HexReading
 fn take_record(
     state: HexReading,
     extent: Extent,
-    frame: &Decoded,
+    frame: Decoded,
     initial: &mut [u32],
     offsets: &mut [i32],
 ) -> Result<HexReading, Cause>
     requires { TakenInput extent state (length initial.old) (length offsets.old) }
-    ensures value { result ≡ answer (due_verdict (entry_bytes * extent.entries) state frame.now.bytes frame.now.count)
-        (after_record extent (hex_session state initial.old offsets.old) frame.now.bytes frame.now.count).state }
+    ensures value { result ≡ answer (due_verdict (entry_bytes * extent.entries) state frame.bytes frame.count)
+        (after_record extent (hex_session state initial.old offsets.old) frame.bytes frame.count).state }
     ensures initial_after { initial.new
-        ≡ (after_record extent (hex_session state initial.old offsets.old) frame.now.bytes frame.now.count).initial }
+        ≡ (after_record extent (hex_session state initial.old offsets.old) frame.bytes frame.count).initial }
     ensures offsets_after { offsets.new
-        ≡ (after_record extent (hex_session state initial.old offsets.old) frame.now.bytes frame.now.count).offsets }
+        ≡ (after_record extent (hex_session state initial.old offsets.old) frame.bytes frame.count).offsets }
 {
     let total = ENTRY_BYTES * extent.entries;
     let n = state.taken;
@@ -148,7 +148,7 @@ fn take_record(
     }
     let before = bytes_before(total, n);
     let length = bytes_before(total, n + 1) - before;
-    if head_fails(&head_of(total, n), length, frame) {
+    if head_fails(head_of(total, n), length, frame) {
         return Err(Cause::RecordDue);
     }
     let held = before % ENTRY_BYTES;
@@ -200,7 +200,7 @@ impl HexReading {
             return Err(Cause::State);
         }
         let frame = decode_record(record)?;
-        take_record(self, extent, &frame, initial, offsets)
+        take_record(self, extent, frame, initial, offsets)
     }
 
     // Takes a record (document 02, A2). A refusal gives back the state that came. `read_line` differs in what it does, and not in a type:
