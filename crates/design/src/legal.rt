@@ -88,7 +88,9 @@ impl Design {
     }
 
     // The first refusal, if there is one. A function of its own, so that `checked` can be inlined: behind a call its design would be copied, and
-    // read before the copy is written.
+    // read before the copy is written. It stays a call, as its loops would stand beside those over words, which the compiler then makes for
+    // fewer forms of function.
+    #[inline(never)]
     fn refusal(&self) -> Result<(), Cause>
         ensures { result ≡ design_verdict self.now }
     {
