@@ -27,10 +27,9 @@ impl Frame {
         ensures result_value { held result ≡ kind ∷ [] }
         ensures count_value { result.count ≡ 1 }
     {
-        Frame {
-            bytes: [kind; CAPACITY],
-            count: 1,
-        }
+        let mut bytes = [0; CAPACITY];
+        bytes[0] = kind;
+        Frame { bytes, count: 1 }
     }
 
     // inner: the frame with a number of `width` bytes behind what it has. Byte by byte: with `copy_from_slice` of the last of `to_be_bytes`

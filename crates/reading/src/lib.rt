@@ -67,9 +67,9 @@ fn is_possible(state: Reading) -> bool
 // inner: whether a frame, of a line or of a record, is not the one due, which begins as `head` does and has `width` bytes more and a sum
 // byte behind that. Byte by byte, as both were put together: `starts_with` loads several at a time, and waits until they are stored.
 #[inline(always)]
-pub fn head_fails(head: Frame, width: usize, frame: Decoded) -> bool
-    requires { head.count + width ≤ capacity }
-    ensures { result ≡ head_fails (held head) width frame.bytes frame.count }
+pub fn head_fails(head: &Frame, width: usize, frame: &Decoded) -> bool
+    requires { head.now.count + width ≤ capacity }
+    ensures { result ≡ head_fails (held head.now) width frame.now.bytes frame.now.count }
 {
     if frame.count != head.count + width + 1 {
         return true;
@@ -156,7 +156,7 @@ fn later_line(
     let slot = slot_of(legal, state.taken);
     let head = head_of(legal, slot);
     let width = entry_width(slot);
-    if head_fails(head, width, frame) {
+    if head_fails(&head, width, &frame) {
         return Err(Cause::Frame);
     }
     let number = number_in(&frame.bytes[head.count..head.count + width]);

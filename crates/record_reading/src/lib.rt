@@ -148,7 +148,7 @@ fn take_record(
     }
     let before = bytes_before(total, n);
     let length = bytes_before(total, n + 1) - before;
-    if head_fails(head_of(total, n), length, frame) {
+    if head_fails(&head_of(total, n), length, &frame) {
         return Err(Cause::RecordDue);
     }
     let held = before % ENTRY_BYTES;

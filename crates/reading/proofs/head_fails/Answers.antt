@@ -43,8 +43,8 @@ module _ (head : Frame) (full : length head.bytes ≡ capacity) (fits : head.cou
 
 pub returns-then-frame-head : goal.returns-then-frame-head
 returns-then-frame-head c =
-    let full : length c.args.head.bytes ≡ capacity = search rules in
-    count-fails c.args.head.count c.args.head.bytes _ _ _ (omega arith) c.if-frame-head.true
+    let full : length c.args.head.now.bytes ≡ capacity = search rules in
+    count-fails c.args.head.now.count c.args.head.now.bytes _ _ _ (omega arith) c.if-frame-head.true
 
 pub loop-i-init : goal.loop-i-init
 unfolding begins
@@ -52,7 +52,7 @@ loop-i-init c = refl
 
 pub returns-then-frame-i : goal.returns-then-frame-i
 returns-then-frame-i c =
-    let head = c.args.head in
+    let head = c.args.head.now in
     let full : length head.bytes ≡ capacity = search rules in
     let inside : c.loop-i.i < head.count = omega (arith, size head full (omega arith), c.loop-i-test.true) in
     byte-fails head.count head.bytes _ _ _ (omega arith) c.loop-i.i inside
@@ -60,15 +60,15 @@ returns-then-frame-i c =
 
 pub loop-i-preserved : goal.loop-i-preserved
 loop-i-preserved c =
-    let head = c.args.head in
+    let head = c.args.head.now in
     let full : length head.bytes ≡ capacity = search rules in
-    let whole : length c.args.frame.bytes ≡ capacity = search rules in
+    let whole : length c.args.frame.now.bytes ≡ capacity = search rules in
     let inside : c.loop-i.i < head.count = omega (arith, size head full (omega arith), c.loop-i-test.true) in
     begins-more _ _ c.loop-i.i (omega arith) (c.if-frame-i.false ∙ byte-is head full (omega arith) c.loop-i.i inside) c.loop-i.invariant
 
 pub returns : goal.returns
 returns c =
-    let head = c.args.head in
+    let head = c.args.head.now in
     let full : length head.bytes ≡ capacity = search rules in
     frame-due head.count head.bytes _ _ _ (omega arith) c.loop-i.i (omega (arith, size head full (omega arith), c.loop-i-test.false))
     c.if-frame-head.false c.loop-i.invariant
