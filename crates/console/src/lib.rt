@@ -102,6 +102,7 @@ impl<'r, 'b, R> Console<'r, 'b, R> {
     // The next byte of the input's block, unless none is left.
     fn in_block(&mut self) -> Option<u8>
         ensures value { (result, self.new) ≡ in_block self.old }
+        ensures input { self.new.input ≡ self.old.input }
         ensures output { self.new.output ≡ self.old.output }
     {
         if self.at < self.count {
@@ -128,6 +129,7 @@ impl<'r, 'b, R: Input + Print> Console<'r, 'b, R> {
     // is pending goes out before. An input that cannot be read counts as ended.
     fn next_block(&mut self)
         ensures fresh { Fresh self.new }
+        ensures input { length self.new.input ≡ length self.old.input }
         ensures output { self.new.output ≡ self.old.output }
     {
         self.flush();
@@ -138,6 +140,7 @@ impl<'r, 'b, R: Input + Print> Console<'r, 'b, R> {
     // The next byte of the input, whose end is not asked for again.
     pub fn next_byte(&mut self) -> Option<u8>
         ensures value { NextRead self.old result self.new }
+        ensures input { length self.new.input ≡ length self.old.input }
         ensures output { self.new.output ≡ self.old.output }
     {
         let left = self.in_block();
@@ -154,6 +157,7 @@ impl<'r, 'b, R: Input + Print> Console<'r, 'b, R> {
     pub fn read_start(&mut self, bytes: &mut [u8]) -> Option<LineStart>
         ensures start { MatchOption result (self.new.ended ≡ true) (λ start. StartRead bytes.new start self.new) }
         ensures taken { Takes self.old (start_bytes result bytes.new) self.new }
+        ensures input { length self.new.input ≡ length self.old.input }
         ensures output { self.new.output ≡ self.old.output }
     {
         for (count, place) in bytes.iter_mut().enumerate() {
@@ -183,6 +187,7 @@ impl<'r, 'b, R: Input + Print> Console<'r, 'b, R> {
     pub fn read_line(&mut self) -> Option<Line>
         ensures line { MatchOption result (self.new.ended ≡ true) (λ line. LineRead line self.new) }
         ensures taken { Takes self.old (line_bytes result) self.new }
+        ensures input { length self.new.input ≡ length self.old.input }
         ensures output { self.new.output ≡ self.old.output }
     {
         let mut bytes = [0u8; KEPT];
