@@ -11,6 +11,7 @@ ghost use Rattle.std.specs.Prelude.{◌≡◌, true, false, length, MatchOption}
 ghost use Rattle.console.specs.Counts.{came_count};
 ghost use Rattle.console.specs.Reading.{
   in_block,
+  left_in,
   with_block,
   Fresh,
   NextRead,
@@ -20,6 +21,8 @@ ghost use Rattle.console.specs.Reading.{
   StartRead,
   LineRead,
 };
+ghost use Rattle.console.specs.Resuming.{places_of, placed, within_blocks};
+ghost use Rattle.console.specs.Writing.{pending_in};
 
 pub use line::{KEPT, Line, LineEnd, LineStart};
 use std::io;
@@ -64,6 +67,16 @@ impl<'r, 'b, R> Model for Console<'r, 'b, R> {
     ghost invariant = { λ c. (c.count ≤ length c.input.now) × (c.pending ≤ length c.output.now) };
 }
 
+// Where a program is in its input and output, apart from the blocks: a copy, from which it may go on in any blocks, at any time.
+#[derive(Clone, Copy, Debug, PartialEq, Eq)]
+pub struct Places {
+    pub at: usize,
+    pub count: usize,
+    pub ended: bool,
+    pub pending: usize,
+    pub failed: bool,
+}
+
 // How many bytes a block has in a program that reads or writes whole sets.
 pub const BLOCK: usize = 4096;
 
@@ -89,6 +102,50 @@ impl<'r, 'b, R> Console<'r, 'b, R> {
             output,
             pending: 0,
             failed: false,
+        }
+    }
+
+    // Goes on in these blocks from these places, whatever they are. They are brought within the blocks, so what lies beyond a block is neither
+    // read nor written; what is left to be read and what is pending stay what they are by these places.
+    pub fn resume(
+        rt: &'r R,
+        input: &'b mut [u8],
+        output: &'b mut [u8],
+        places: Places,
+    ) -> Console<'r, 'b, R>
+        ensures value { result ≡ within_blocks (placed input.old output.old places) }
+        ensures next { (in_block result).0 ≡ (in_block (placed input.old output.old places)).0 }
+        ensures left { left_in result ≡ left_in (placed input.old output.old places) }
+        ensures pending { pending_in result ≡ pending_in (placed input.old output.old places) }
+    {
+        let count = places.count.min(input.len());
+        let pending = if places.pending <= output.len() {
+            places.pending
+        } else {
+            0
+        };
+        Console {
+            rt,
+            input,
+            at: places.at,
+            count,
+            ended: places.ended,
+            output,
+            pending,
+            failed: places.failed,
+        }
+    }
+
+    // Where the program is, to go on from there.
+    pub fn places(&self) -> Places
+        ensures { result ≡ places_of self.now }
+    {
+        Places {
+            at: self.at,
+            count: self.count,
+            ended: self.ended,
+            pending: self.pending,
+            failed: self.failed,
         }
     }
 
