@@ -5,8 +5,7 @@ use Rattle.set_files.proofs.answer_next.Goals as goal
 
 pub returns-clause-led : goal.returns-clause-led
 returns-clause-led g c =
-    let read = c.read_set-came in
-    (
+    let read = c.read_set-came in (
       read.new.console.input,
       record { to = read.new.console; stands = refl; led = read.ensures.led },
       λ keeps.

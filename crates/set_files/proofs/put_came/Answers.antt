@@ -10,6 +10,6 @@ returns-in-Ok-true g c =
     record {
       blocks = λ keeps.
           let before : KeepsBlocks c.args.console.now c.if-any.console =
-              elim c.if-any.branch [ then-any w ↦ search rules | else-any w ↦ search rules ] in
+          elim c.if-any.branch [ then-any w ↦ search rules | else-any w ↦ search rules ] in
           kept-more c.args.console.now c.if-any.console c.put_answer.new.arg2 before (keeps _ _ _ _ _ c.put_answer.ensures);
     }
