@@ -180,13 +180,13 @@ impl Reading {
     pub fn is_finished(self) -> bool
         ensures { result ≡ finished self }
     {
-        if self.taken == 0 {
+        if self.taken == 0 || !is_possible(self) {
             return false;
         }
-        match self.design.checked() {
-            Ok(legal) => self.taken as u64 == line_count(legal),
-            Err(_) => false,
-        }
+        let legal = LegalDesign {
+            design: self.design,
+        };
+        self.taken as u64 == line_count(legal)
     }
 
     // inner: whether the reading is not inside a set: no line is taken, or all of a set's are.
