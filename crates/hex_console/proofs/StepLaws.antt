@@ -9,7 +9,8 @@ use lib.IntN.{ℤ}
 use Rattle.refusal.specs.declared.Cause.{Cause}
 use Rattle.refusal.specs.Verdict.{Verdict}
 use Rattle.design.specs.declared.Design.{Design}
-use Rattle.frames.specs.DesignText.{design_line}
+use Rattle.refusal.proofs.Answers.{answer-refused}
+use Rattle.frames.specs.DesignText.{design_line, design_line_verdict}
 use Rattle.frames.proofs.DesignLaws.{line-design}
 use Rattle.record_reading.specs.declared.HexReading.{HexReading}
 use Rattle.record_reading.specs.declared.HexRead.{HexRead}
@@ -18,13 +19,18 @@ use Rattle.record_storage.specs.Loading.{hex_feed}
 use Rattle.record_storage.proofs.Feeding.{refused-stands}
 use Rattle.set_console.specs.declared.Came.{Came}
 use Rattle.set_console.specs.Reading.{came_of}
-use Rattle.hex_console.specs.Loaded.{DesignCame, HexStepped}
+use Rattle.hex_console.specs.Loaded.{DesignCame, DesignRefused, HexStepped}
 
 -- The design on a line that passes
 pub design-came : (line : List ℕ) (d : Design) → design_line line ≡ Ok d → DesignCame d
 design-came line d e =
     let told = line-design line d e in
     record { line = line; passed = told.0; held = told.1; legal = told.2 }
+
+-- A line that is refused
+pub design-refused : (line : List ℕ) (cause : Cause) → design_line line ≡ Err cause → DesignRefused cause
+unfolding design_line
+design-refused line cause e = record { line = line; refused = answer-refused (design_line_verdict line) _ e }
 
 -- No record came: the reading stands, and there is no more to take.
 pub none-taken : (d : Design) (s : HexSession) → HexStepped d s s (Ok Came.Nothing)

@@ -19,11 +19,16 @@ pub record DesignCame (d : Design) : Type 0 where
   pub held : frame_design (bytes_of line) ≡ d
   pub legal : Legal d
 
+-- A design that was refused: some line that has to hold one is refused for this cause.
+pub record DesignRefused (cause : Cause) : Type 0 where
+  pub line : List ℕ
+  pub refused : design_line_verdict line ≡ Err cause
+
 -- What came of reading one: the design, if there is a line and it is not refused
 abbrev pub DesignRead : Result (Option Design) Cause → Type 0
 DesignRead (Ok (Some d)) = DesignCame d
 DesignRead (Ok None) = Unit {0}
-DesignRead (Err cause) = Unit {0}
+DesignRead (Err cause) = DesignRefused cause
 
 -- Taking a record, or none, leads from one reading to the next: it is fed to the reader.
 pub record HexStepped (d : Design) (before next : HexSession) (came : Outcome) : Type 0 where

@@ -80,12 +80,8 @@ fn with_held(state: HexReading, k: usize, window: &mut [u8; CAPACITY])
     requires k_lt_entry_bytes { k < entry_bytes }
     ensures { drop (4 - k) window.new ≡ take k (state.first ∷ state.second ∷ []) ++ drop 4 window.old }
 {
-    if k == 1 {
-        window[3] = state.first;
-    } else if k == 2 {
-        window[2] = state.first;
-        window[3] = state.second;
-    }
+    let held = [state.first, state.second];
+    window[HEAD_BYTES - k..HEAD_BYTES].copy_from_slice(&held[..k]);
 }
 
 // Stores entry e, which is an initial entry if it is one of the first `initials`. By its number: a record names no `Slot`.
