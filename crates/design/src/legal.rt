@@ -73,8 +73,8 @@ fn cut_verdict(d: &Design) -> Result<(), Cause>
 }
 
 impl Design {
-    // inner: the pair of a table that is read, also of a design that is not legal. The places are literals: an array that is read at a place
-    // that only the run tells is copied to the stack at each call.
+    // inner: the pair of a table that is read, also of a design that is not legal. The places are literals: an array that is indexed at run time
+    // is copied to the stack at each call.
     pub fn pair(self, i: u32) -> Pair
         requires { (i < self.m) × (self.m ≤ most_tables) }
         ensures { result ≡ pair_at self i }
@@ -88,8 +88,8 @@ impl Design {
     }
 
     // The first refusal, if there is one. A function of its own, so that `checked` can be inlined: behind a call its design would be copied, and
-    // read before the copy is written. It stays a call, as its loops would stand beside those over words, which the compiler then makes for
-    // fewer forms of function.
+    // reading it waits for the copy. It stays a call: inlined, its loops would stand beside those over words, and the compiler would specialise
+    // these for fewer forms of function.
     #[inline(never)]
     fn refusal(&self) -> Result<(), Cause>
         ensures { result ≡ design_verdict self.now }

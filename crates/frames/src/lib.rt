@@ -81,7 +81,7 @@ pub fn decode_digits(digits: &[u8]) -> Option<Decoded>
     Some(frame)
 }
 
-// The bytes of a line, or the refusal 15. Always inlined: behind a call they are copied before they are stored.
+// The bytes of a line, or the refusal 15. Always inlined: behind a call they are copied, and the copy waits until they are stored.
 #[inline(always)]
 pub fn decode(line: &[u8]) -> Result<Decoded, Cause>
     ensures { result ≡ decoded line.now }

@@ -6,8 +6,8 @@ pub mod record_reader;
 pub mod set_records;
 pub mod text;
 
-ghost use Rattle.std.specs.Prelude.{◌≡◌, true, length, Ok, None};
-ghost use Rattle.hex_console.specs.Loaded.{DesignRead};
+ghost use Rattle.std.specs.Prelude.{◌≡◌, length};
+ghost use Rattle.hex_console.specs.Loaded.{DesignRead, DesignTold};
 
 use console::Console;
 use design::Design;
@@ -19,7 +19,7 @@ use text::{KEPT, read_text};
 // 1 to 9, an empty one too.
 pub fn read_design(console: &mut Console<impl Input + Print>) -> Result<Option<Design>, Cause>
     ensures design { DesignRead result }
-    ensures over { result ≡ Ok None → console.new.ended ≡ true }
+    ensures told { DesignTold console.old console.new result }
     ensures input { length console.new.input ≡ length console.old.input }
     ensures output { console.new.output ≡ console.old.output }
 {

@@ -58,8 +58,8 @@ fn put_came<R: Print, F: Fn(&mut Console<R>, Design, &[u32], &[i32])>(
     }
 }
 
-// Answers the next set, if there is one. The result is whether a set came. Where each answer keeps the blocks, the input's is the one up to
-// which was read.
+// Answers the next set, if there is one. The result is whether a set came. Where each answer keeps the blocks, the input's block is still the
+// one that the last line came from.
 fn answer_next<R: Input + Print, F: Fn(&mut Console<R>, Design, &[u32], &[i32])>(
     console: &mut Console<R>,
     separator: &[u8],

@@ -47,7 +47,7 @@ fn add_offset(sum: TableUnits, offsets: &[i32], place: u32) -> TableUnits
 }
 
 // Whether Y is out of range, not 0 ≤ Y < limit. By numbers, and by no design: one that is handed on for each word is copied for each word, and
-// read before the copy is written.
+// reading it waits for the copy.
 #[inline(always)]
 fn is_outside(limit: u64, sum: TableUnits) -> bool
     requires { limit ≤ entry_bound }
