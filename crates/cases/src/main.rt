@@ -29,6 +29,12 @@ fn g() -> Design {
     of_one_table(8, 5, 3, 3)
 }
 
+// Writes a text at once: what is written so far stands where the program is stopped.
+fn show(console: &mut Console<impl Print>, text: &[u8]) {
+    console.put(text);
+    console.flush();
+}
+
 // A line of G's set, if there is one.
 fn show_line(
     console: &mut Console<impl Print>,
@@ -37,10 +43,11 @@ fn show_line(
     offsets: &[i32],
     number: usize,
 ) {
-    console.put(label);
+    show(console, label);
     if !put_line(console, g(), initial, offsets, number) {
         console.put(b"none\n");
     }
+    console.flush();
 }
 
 // The check of a filled set with its initial entry 0 changed.
@@ -53,8 +60,9 @@ fn check_changed(
 ) {
     let mut initial = filled;
     initial[0] = first;
-    console.put(label);
+    show(console, label);
     put_checked(console, check(g(), &initial, offsets));
+    console.flush();
 }
 
 fn show_lines(console: &mut Console<impl Print>, initial: &[u32], offsets: &[i32]) {
@@ -93,6 +101,7 @@ fn show_verdict(console: &mut Console<impl Print>, verdict: Result<(), Cause>) {
         Ok(()) => console.put(b"passes\n"),
         Err(cause) => console.put_refused(cause),
     }
+    console.flush();
 }
 
 // Whether a value is refused.
@@ -105,13 +114,13 @@ fn show_value(
     g: u32,
     x: u32,
 ) {
-    console.put(label);
+    show(console, label);
     show_verdict(console, values::value(kind, w, q, g, x).map(|_| ()));
 }
 
 // Whether a design of 16 bits, of which 8 are initial, is refused.
 fn show_legal(console: &mut Console<impl Print>, label: &[u8], a: u32, b: u32) {
-    console.put(label);
+    show(console, label);
     show_verdict(
         console,
         design::budget(of_one_table(16, 8, a, b)).map(|_| ()),
@@ -129,13 +138,15 @@ fn refusals(console: &mut Console<impl Print>) {
 }
 
 fn show_number(console: &mut Console<impl Print>, label: &[u8], n: u64) {
-    console.put(label);
+    show(console, label);
     console.put_decimal(n);
+    console.flush();
 }
 
 fn show_smallest(console: &mut Console<impl Print>, label: &[u8], kind: u32, w: u32, q: u32) {
-    console.put(label);
-    match smallest(kind, w, q) {
+    let found = smallest(kind, w, q);
+    show(console, label);
+    match found {
         Ok(best) => {
             let d = best.design;
             show_number(console, b"bits ", best.bits);
@@ -146,6 +157,7 @@ fn show_smallest(console: &mut Console<impl Print>, label: &[u8], kind: u32, w: 
         }
         Err(cause) => console.put_refused(cause),
     }
+    console.flush();
 }
 
 fn smallest_designs(console: &mut Console<impl Print>) {
@@ -162,5 +174,4 @@ fn main(rt: HostRuntime) {
     filled_set(&mut console);
     refusals(&mut console);
     smallest_designs(&mut console);
-    console.flush();
 }

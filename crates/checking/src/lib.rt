@@ -27,7 +27,8 @@ struct Interval<'a> {
 }
 
 impl Interval<'_> {
-    // A word whose sum is refused counts as unfaithful.
+    // A word whose sum is refused counts as unfaithful. Always inlined: a call for each word would copy what the words share.
+    #[inline(always)]
     fn is_faithful(self, x: u32) -> bool
         requires { SameInterval self.set.tables.design self.near x }
         ensures { let set = self.entry.set in result ≡ faithful_at set.tables.design set.initial.now set.tables.offsets.now x }

@@ -6,7 +6,7 @@ use mathlib.Core.List.{List, [], ◌++◌, append_assoc}
 use Prim.Native.Nat.{ℕ, ◌+◌, ◌-◌, ◌≤◌, ◌<◌}
 use native.Mathlib.Decide.{dec_le}
 use native.Mathlib.Omega.{arith}
-use lib.Dec.{leb}
+use lib.Dec.{ltb, leb}
 use lib.ListN.{length, get_or, take, drop, length-append}
 use lib.Seq.{take_at, length-take-le, drop-drop}
 use borrow.Author.Tests.{lt-ltb, le-ltb, le-leb, lt-leb}
@@ -19,13 +19,17 @@ use Rattle.console.specs.Writing.{flushed, with_room, pending_with}
 use Rattle.console.proofs.TakeLaws.{left_of}
 
 module _ (c : Blocks) where
-  pub byte_left : c.at < c.count → c.count ≤ length c.input → (Some (get_or c.input c.at 0), record c { at = c.at + 1 }) ≡ in_block c
+  pub byte_left : c.at < c.count → ltb c.at (length c.input) ≡ true → (Some (get_or c.input c.at 0), record c { at = c.at + 1 }) ≡ in_block c
   unfolding in_block
-  byte_left h within = rw (lt-ltb c.at c.count h, lt-ltb c.at (length c.input) (omega arith))
+  byte_left h k = rw (lt-ltb c.at c.count h, k)
 
   pub used-up : c.count ≤ c.at → (None, c) ≡ in_block c
   unfolding in_block
   used-up h = rw (le-ltb c.at c.count h)
+
+  pub beyond : c.at < c.count → ltb c.at (length c.input) ≡ false → (None, c) ≡ in_block c
+  unfolding in_block
+  beyond h k = rw (lt-ltb c.at c.count h, k)
 
 -- The byte that is left, the end of the input, or the first of the next block
 module _ (c next : Blocks) (byte : Option ℕ) (next-is : (byte, next) ≡ in_block c) where

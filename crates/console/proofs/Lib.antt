@@ -5,3 +5,4 @@ pub mod TakeLaws
 pub mod BlockLaws
 pub mod PutLaws
 pub mod FoldLaws
+pub mod ResumeLaws

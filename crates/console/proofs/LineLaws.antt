@@ -30,7 +30,7 @@ cut-fails bytes rest n fits long =
 
 -- What is read of a line, by how it ended
 module _ (next : Blocks) (bytes : List ℕ) (n : ℕ) (fits : n ≤ length bytes) (none : NoNewline bytes n) where
-  ended : (end : LineEnd) → (end ≡ LineEnd.Cut → n ≡ length bytes) → (end ≡ LineEnd.Input → 0 < n)
+  pub ended : (end : LineEnd) → (end ≡ LineEnd.Cut → n ≡ length bytes) → (end ≡ LineEnd.Input → 0 < n)
       → (end ≡ LineEnd.Input → next.ended ≡ true) → StartRead bytes (record { count = n; end = end }) next
   ended end full some over = record { counts = prefix_len_of_le _ _ fits; no-newline = none; full = full; over = over; some = some }
 

@@ -4,3 +4,4 @@ pub mod Counts
 pub mod Reading
 pub mod Writing
 pub mod Folding
+pub mod Resuming

@@ -38,6 +38,10 @@ pub record NextRead (c : Blocks) (byte : Option ℕ) (next : Blocks) : Type 0 wh
 abbrev pub KeepsInput : Blocks → Blocks → Type 0
 KeepsInput c next = (next.input ≡ c.input) × (next.at ≡ c.at) × (next.count ≡ c.count) × (next.ended ≡ c.ended)
 
+-- The same, and the length of the output's block
+abbrev pub KeepsBlocks : Blocks → Blocks → Type 0
+KeepsBlocks c next = KeepsInput c next × (length next.output ≡ length c.output)
+
 -- What is left in the block
 abbrev pub left_in : Blocks → List ℕ
 left_in c = drop c.at (take c.count c.input)

@@ -1,5 +1,5 @@
 // Lines of any length.
-ghost use Rattle.std.specs.Prelude.{◌≡◌, IfSome};
+ghost use Rattle.std.specs.Prelude.{◌≡◌, length, IfSome};
 ghost use Rattle.console.specs.Folding.{LineFolded};
 
 use crate::Console;
@@ -10,6 +10,7 @@ impl<'r, 'b, R: Input + Print> Console<'r, 'b, R> {
     pub fn fold_line<T: Copy, F: Fn(T, u8) -> T>(&mut self, start: T, with: F) -> Option<T>
         requires { F.IsAlwaysCallable with }
         ensures line { IfSome result (λ text. LineFolded (λ t b u. F.post with t b u) self.old start text self.new) }
+        ensures input { length self.new.input ≡ length self.old.input }
         ensures output { self.new.output ≡ self.old.output }
     {
         let mut text = start;

@@ -11,6 +11,7 @@ ghost use Rattle.std.specs.Prelude.{◌≡◌, true, false, length, MatchOption}
 ghost use Rattle.console.specs.Counts.{came_count};
 ghost use Rattle.console.specs.Reading.{
   in_block,
+  left_in,
   with_block,
   Fresh,
   NextRead,
@@ -20,6 +21,8 @@ ghost use Rattle.console.specs.Reading.{
   StartRead,
   LineRead,
 };
+ghost use Rattle.console.specs.Resuming.{places_of, placed, within_blocks};
+ghost use Rattle.console.specs.Writing.{pending_in};
 
 pub use line::{KEPT, Line, LineEnd, LineStart};
 use std::io;
@@ -64,6 +67,16 @@ impl<'r, 'b, R> Model for Console<'r, 'b, R> {
     ghost invariant = { λ c. (c.count ≤ length c.input.now) × (c.pending ≤ length c.output.now) };
 }
 
+// Where a program is in its input and output, apart from the blocks: a copy, from which it may go on in any blocks, at any time.
+#[derive(Clone, Copy, Debug, PartialEq, Eq)]
+pub struct Places {
+    pub at: usize,
+    pub count: usize,
+    pub ended: bool,
+    pub pending: usize,
+    pub failed: bool,
+}
+
 // How many bytes a block has in a program that reads or writes whole sets.
 pub const BLOCK: usize = 4096;
 
@@ -92,6 +105,50 @@ impl<'r, 'b, R> Console<'r, 'b, R> {
         }
     }
 
+    // Goes on in these blocks from these places, whatever they are. They are brought within the blocks, so what lies beyond a block is neither
+    // read nor written; what is left to be read and what is pending stay what they are by these places.
+    pub fn resume(
+        rt: &'r R,
+        input: &'b mut [u8],
+        output: &'b mut [u8],
+        places: Places,
+    ) -> Console<'r, 'b, R>
+        ensures value { result ≡ within_blocks (placed input.old output.old places) }
+        ensures next { (in_block result).0 ≡ (in_block (placed input.old output.old places)).0 }
+        ensures left { left_in result ≡ left_in (placed input.old output.old places) }
+        ensures pending { pending_in result ≡ pending_in (placed input.old output.old places) }
+    {
+        let count = places.count.min(input.len());
+        let pending = if places.pending <= output.len() {
+            places.pending
+        } else {
+            0
+        };
+        Console {
+            rt,
+            input,
+            at: places.at,
+            count,
+            ended: places.ended,
+            output,
+            pending,
+            failed: places.failed,
+        }
+    }
+
+    // Where the program is, to go on from there.
+    pub fn places(&self) -> Places
+        ensures { result ≡ places_of self.now }
+    {
+        Places {
+            at: self.at,
+            count: self.count,
+            ended: self.ended,
+            pending: self.pending,
+            failed: self.failed,
+        }
+    }
+
     // Whether something could not be written.
     pub fn has_failed(&self) -> bool
         ensures { result ≡ self.now.failed }
@@ -102,6 +159,7 @@ impl<'r, 'b, R> Console<'r, 'b, R> {
     // The next byte of the input's block, unless none is left.
     fn in_block(&mut self) -> Option<u8>
         ensures value { (result, self.new) ≡ in_block self.old }
+        ensures input { self.new.input ≡ self.old.input }
         ensures output { self.new.output ≡ self.old.output }
     {
         if self.at < self.count {
@@ -128,6 +186,7 @@ impl<'r, 'b, R: Input + Print> Console<'r, 'b, R> {
     // is pending goes out before. An input that cannot be read counts as ended.
     fn next_block(&mut self)
         ensures fresh { Fresh self.new }
+        ensures input { length self.new.input ≡ length self.old.input }
         ensures output { self.new.output ≡ self.old.output }
     {
         self.flush();
@@ -138,6 +197,7 @@ impl<'r, 'b, R: Input + Print> Console<'r, 'b, R> {
     // The next byte of the input, whose end is not asked for again.
     pub fn next_byte(&mut self) -> Option<u8>
         ensures value { NextRead self.old result self.new }
+        ensures input { length self.new.input ≡ length self.old.input }
         ensures output { self.new.output ≡ self.old.output }
     {
         let left = self.in_block();
@@ -154,6 +214,7 @@ impl<'r, 'b, R: Input + Print> Console<'r, 'b, R> {
     pub fn read_start(&mut self, bytes: &mut [u8]) -> Option<LineStart>
         ensures start { MatchOption result (self.new.ended ≡ true) (λ start. StartRead bytes.new start self.new) }
         ensures taken { Takes self.old (start_bytes result bytes.new) self.new }
+        ensures input { length self.new.input ≡ length self.old.input }
         ensures output { self.new.output ≡ self.old.output }
     {
         for (count, place) in bytes.iter_mut().enumerate() {
@@ -183,6 +244,7 @@ impl<'r, 'b, R: Input + Print> Console<'r, 'b, R> {
     pub fn read_line(&mut self) -> Option<Line>
         ensures line { MatchOption result (self.new.ended ≡ true) (λ line. LineRead line self.new) }
         ensures taken { Takes self.old (line_bytes result) self.new }
+        ensures input { length self.new.input ≡ length self.old.input }
         ensures output { self.new.output ≡ self.old.output }
     {
         let mut bytes = [0u8; KEPT];

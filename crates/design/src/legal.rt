@@ -1,8 +1,9 @@
 // Refusals 1 to 9 of a design, in document 01's order.
-ghost use Rattle.std.specs.Prelude.{◌≡◌, ◌≤◌, IfOk, length};
+ghost use Rattle.std.specs.Prelude.{◌≡◌, ◌≤◌, ◌<◌, IfOk, length};
 ghost use Rattle.std.specs.List.{list_any, sum_by};
 ghost use Rattle.refusal.specs.Checks.{verdict, verdict_of};
 ghost use Rattle.design.specs.Limits.{most_tables};
+ghost use Rattle.design.specs.Cut.{pair_at};
 ghost use Rattle.design.specs.Legal.{cut_checks, design_verdict};
 ghost use Rattle.design.specs.Legal as Legal;
 
@@ -48,8 +49,9 @@ fn offset_bits(tables: &[Pair]) -> u64
     tables.iter().map(|pair| u64::from(pair.b)).sum()
 }
 
-fn cut_verdict(d: Design) -> Result<(), Cause>
-    ensures { result ≡ verdict (cut_checks d) }
+// By reference: tables are a part of the design's array, so one by value would be copied to the stack for them.
+fn cut_verdict(d: &Design) -> Result<(), Cause>
+    ensures { result ≡ verdict (cut_checks d.now) }
 {
     if outside(LEAST_INITIAL_BITS, MOST_INITIAL_BITS, d.alpha) || d.w <= d.alpha {
         return Err(Cause::InitialBits);
@@ -71,13 +73,38 @@ fn cut_verdict(d: Design) -> Result<(), Cause>
 }
 
 impl Design {
+    // inner: the pair of a table that is read, also of a design that is not legal. The places are literals: an array that is indexed at run time
+    // is copied to the stack at each call.
+    pub fn pair(self, i: u32) -> Pair
+        requires { (i < self.m) × (self.m ≤ most_tables) }
+        ensures { result ≡ pair_at self i }
+    {
+        match i {
+            0 => self.pairs[0],
+            1 => self.pairs[1],
+            2 => self.pairs[2],
+            _ => self.pairs[3],
+        }
+    }
+
+    // The first refusal, if there is one. A function of its own, so that `checked` can be inlined: behind a call its design would be copied, and
+    // reading it waits for the copy. It stays a call: inlined, its loops would stand beside those over words, and the compiler would specialise
+    // these for fewer forms of function.
+    #[inline(never)]
+    fn refusal(&self) -> Result<(), Cause>
+        ensures { result ≡ design_verdict self.now }
+    {
+        width_verdict(limits_of(self.kind), self.kind, self.w, self.q, self.g)?;
+        cut_verdict(self)
+    }
+
     // The design as a legal one, or the first refusal.
+    #[inline(always)]
     pub fn checked(self) -> Result<LegalDesign, Cause>
         ensures verdict { verdict_of result ≡ design_verdict self }
         ensures same { IfOk result (λ legal. legal.design ≡ self) }
     {
-        width_verdict(limits_of(self.kind), self.kind, self.w, self.q, self.g)?;
-        cut_verdict(self)?;
+        self.refusal()?;
         Ok(LegalDesign { design: self })
     }
 }

@@ -3,7 +3,6 @@ ghost use Rattle.std.specs.Prelude.{◌≡◌, ◌≤◌, ◌<◌};
 ghost use Rattle.values.specs.Room.{finest_unit};
 ghost use Rattle.values.specs.Slopes.{largest_slopes};
 ghost use Rattle.design.specs.Stored.{offset_count, offset_total};
-ghost use Rattle.design.specs.Limits.{most_tables};
 ghost use Rattle.design.specs.Cut.{pair_at};
 ghost use Rattle.design.specs.Cut as Cut;
 ghost use Rattle.design.specs.Budget.{table_budget, budget, limit};
@@ -20,14 +19,6 @@ impl Design {
         ensures { result ≡ limit self }
     {
         pow2(self.g + 17)
-    }
-
-    // inner: the pair of a table that is read, also of a design that is not legal.
-    pub fn pair(self, i: u32) -> Pair
-        requires { (i < self.m) × (self.m ≤ most_tables) }
-        ensures { result ≡ pair_at self i }
-    {
-        self.pairs[i as usize]
     }
 }
 

@@ -8,7 +8,7 @@ use native.Mathlib.Omega.{arith}
 use lib.ListN.{length, get_or, take, set}
 use lib.Seq.{length-take-le, take-suc, take_all}
 use Rattle.general.specs.Lists.{total, over}
-use Rattle.general.proofs.WritingLaws.{over_none, over-length, over-more, over-one}
+use Rattle.general.proofs.WritingLaws.{over_none, over-more, over-one}
 use Rattle.general.proofs.ListLaws.{total-append}
 use Rattle.encoding.specs.Encode.{digit_of, hex_of, sum_byte, with_sum, line_of}
 use Rattle.encoding.specs.Inputs.{PutInput}

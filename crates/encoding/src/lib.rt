@@ -27,10 +27,9 @@ impl Frame {
         ensures result_value { held result ≡ kind ∷ [] }
         ensures count_value { result.count ≡ 1 }
     {
-        Frame {
-            bytes: [kind; CAPACITY],
-            count: 1,
-        }
+        let mut bytes = [0; CAPACITY];
+        bytes[0] = kind;
+        Frame { bytes, count: 1 }
     }
 
     // inner: the frame with a number of `width` bytes behind what it has. Byte by byte: with `copy_from_slice` of the last of `to_be_bytes`
@@ -40,11 +39,12 @@ impl Frame {
         ensures result_value { held result ≡ held self ++ big_endian width number }
         ensures count_value { result.count ≡ self.count + width }
     {
+        let mut at = self.count;
         for left in (0..width).rev() {
-            let at = self.count;
             self.bytes[at] = ((number >> (8 * left)) % 256) as u8;
-            self.count = at + 1;
+            at += 1;
         }
+        self.count = at;
         self
     }
 }

@@ -58,7 +58,10 @@ pub fn decode_digits(digits: &[u8]) -> Option<Decoded>
     ensures { result ≡ decoded_digits digits.now }
 {
     let numbers = DIGITS;
-    let mut bytes = [0u8; CAPACITY];
+    let mut frame = Decoded {
+        bytes: [0; CAPACITY],
+        count: digits.len() / 2,
+    };
     let mut sum: u32 = 0;
     for (i, pair) in digits.chunks_exact(2).enumerate() {
         let high = digit(&numbers, pair[0]);
@@ -68,20 +71,18 @@ pub fn decode_digits(digits: &[u8]) -> Option<Decoded>
         }
         let byte = 16 * high + low;
         if i < CAPACITY {
-            bytes[i] = byte;
+            frame.bytes[i] = byte;
         }
         sum += byte as u32;
     }
     if sum % 256 != 0 {
         return None;
     }
-    Some(Decoded {
-        bytes,
-        count: digits.len() / 2,
-    })
+    Some(frame)
 }
 
-// The bytes of a line, or the refusal 15.
+// The bytes of a line, or the refusal 15. Always inlined: behind a call they are copied, and the copy waits until they are stored.
+#[inline(always)]
 pub fn decode(line: &[u8]) -> Result<Decoded, Cause>
     ensures { result ≡ decoded line.now }
 {

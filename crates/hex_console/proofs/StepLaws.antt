@@ -1,7 +1,7 @@
 -- One line more: the design's, or a record.
-use Rattle.std.specs.Prelude.{Ok, Err}
+use Rattle.std.specs.Prelude.{Result, Ok, Err, Option, Some}
 use mathlib.Core.Path.{◌≡◌, refl, sym, ap, ◌∙◌}
-use mathlib.Core.Bool.{Bool, true, false, true≢false}
+use mathlib.Core.Bool.{Bool, true, false}
 use mathlib.Core.List.{List, [], ◌∷◌}
 use Prim.Native.Nat.{ℕ}
 use native.Mathlib.Omega.{arith}
@@ -9,7 +9,11 @@ use lib.IntN.{ℤ}
 use Rattle.refusal.specs.declared.Cause.{Cause}
 use Rattle.refusal.specs.Verdict.{Verdict}
 use Rattle.design.specs.declared.Design.{Design}
-use Rattle.frames.specs.DesignText.{design_line}
+use Rattle.refusal.specs.Checks.{answer}
+use Rattle.refusal.proofs.Answers.{answer-refused, answer-given}
+use Rattle.frames.specs.Hex.{bytes_of}
+use Rattle.frames.specs.DesignFrame.{frame_design}
+use Rattle.frames.specs.DesignText.{design_line, design_line_verdict}
 use Rattle.frames.proofs.DesignLaws.{line-design}
 use Rattle.record_reading.specs.declared.HexReading.{HexReading}
 use Rattle.record_reading.specs.declared.HexRead.{HexRead}
@@ -25,6 +29,21 @@ pub design-came : (line : List ℕ) (d : Design) → design_line line ≡ Ok d �
 design-came line d e =
     let told = line-design line d e in
     record { line = line; passed = told.0; held = told.1; legal = told.2 }
+
+-- What a line comes to, whether it is refused
+module _ (line : List ℕ) where
+  abbrev told : Result (Option Design) Cause
+  told = answer (design_line_verdict line) (Some (frame_design (bytes_of line)))
+
+  pub design-refused : (cause : Cause) → design_line line ≡ Err cause → Err cause ≡ told
+  unfolding design_line
+  design-refused cause e = rw (answer-refused (design_line_verdict line) _ e) refl
+
+  pub design-held : (d : Design) → design_line line ≡ Ok d → Ok (Some d) ≡ told
+  unfolding design_line
+  design-held d e =
+      let given = answer-given (design_line_verdict line) _ e in
+      rw (given.0, given.1) refl
 
 -- No record came: the reading stands, and there is no more to take.
 pub none-taken : (d : Design) (s : HexSession) → HexStepped d s s (Ok Came.Nothing)

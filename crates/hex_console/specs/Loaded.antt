@@ -1,6 +1,7 @@
 -- What can be said of a set that is read from records, whatever lines come.
-use Rattle.std.specs.Prelude.{◌≡◌, Bool, true, false, List, ℕ, ◌+◌, length, ℤ, Result, Ok, Err, Option, Some, None}
+use Rattle.std.specs.Prelude.{◌≡◌, Bool, true, false, List, ℕ, ◌+◌, length, take, ℤ, Result, Ok, Err, Option, Some, None}
 use Rattle.refusal.specs.declared.Cause.{Cause}
+use Rattle.refusal.specs.Checks.{answer}
 use Rattle.design.specs.declared.Design.{Design}
 use Rattle.design.specs.Legal.{Legal}
 use Rattle.frames.specs.Hex.{bytes_of}
@@ -9,6 +10,9 @@ use Rattle.frames.specs.DesignText.{design_line_verdict}
 use Rattle.records.specs.SetBytes.{byte_count}
 use Rattle.record_reading.specs.ReadRecord.{hex_possible, hex_finished, HexSession, hex_session}
 use Rattle.record_storage.specs.Loading.{no_record, hex_feed}
+use Rattle.console.specs.Blocks.{Blocks}
+use Rattle.console.specs.declared.line.LineStart.{LineStart}
+use Rattle.hex_console.specs.LineTexts.{TextCame}
 use Rattle.set_console.specs.declared.Came.{Came}
 use Rattle.set_console.specs.Reading.{Outcome}
 
@@ -24,6 +28,20 @@ abbrev pub DesignRead : Result (Option Design) Cause → Type 0
 DesignRead (Ok (Some d)) = DesignCame d
 DesignRead (Ok None) = Unit {0}
 DesignRead (Err cause) = Unit {0}
+
+-- The answer to a line that was read, if there is one: the design on it, or what it is refused for
+abbrev pub design_answer : List ℕ → Option LineStart → Result (Option Design) Cause
+design_answer bytes None = Ok None
+design_answer bytes (Some line) =
+    let text = take line.count bytes in
+    answer (design_line_verdict text) (Some (frame_design (bytes_of text)))
+
+-- What came is the answer to the line that was taken from the input
+pub record DesignTold (from to : Blocks) (result : Result (Option Design) Cause) : Type 0 where
+  pub bytes : List ℕ
+  pub line : Option LineStart
+  pub came : TextCame bytes line from to
+  pub told : result ≡ design_answer bytes line
 
 -- Taking a record, or none, leads from one reading to the next: it is fed to the reader.
 pub record HexStepped (d : Design) (before next : HexSession) (came : Outcome) : Type 0 where

@@ -6,8 +6,8 @@ pub mod record_reader;
 pub mod set_records;
 pub mod text;
 
-ghost use Rattle.std.specs.Prelude.{◌≡◌};
-ghost use Rattle.hex_console.specs.Loaded.{DesignRead};
+ghost use Rattle.std.specs.Prelude.{◌≡◌, length};
+ghost use Rattle.hex_console.specs.Loaded.{DesignRead, DesignTold};
 
 use console::Console;
 use design::Design;
@@ -19,6 +19,8 @@ use text::{KEPT, read_text};
 // 1 to 9, an empty one too.
 pub fn read_design(console: &mut Console<impl Input + Print>) -> Result<Option<Design>, Cause>
     ensures design { DesignRead result }
+    ensures told { DesignTold console.old console.new result }
+    ensures input { length console.new.input ≡ length console.old.input }
     ensures output { console.new.output ≡ console.old.output }
 {
     let mut bytes = [0u8; KEPT];

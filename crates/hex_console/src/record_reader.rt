@@ -61,6 +61,7 @@ impl RecordReader {
         ensures design { self.new.design ≡ self.old.design }
         ensures stepped { HexStepped self.old.design (hex_session self.old.state initial.old offsets.old)
             (hex_session self.new.state initial.new offsets.new) result }
+        ensures input { length console.new.input ≡ length console.old.input }
         ensures output { console.new.output ≡ console.old.output }
     {
         let mut bytes = [0u8; KEPT];
@@ -82,6 +83,7 @@ impl RecordReader {
         ensures design { self.new.design ≡ self.old.design }
         ensures came { HexCame self.old.design initial.old offsets.old (hex_session self.new.state initial.new offsets.new) }
         ensures told { is_whole result ≡ hex_finished self.old.design self.new.state }
+        ensures input { length console.new.input ≡ length console.old.input }
         ensures output { console.new.output ≡ console.old.output }
     {
         *self = RecordReader::new(self.design);

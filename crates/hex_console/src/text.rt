@@ -41,6 +41,7 @@ fn text_length(bytes: &[u8], count: usize, end: LineEnd) -> usize
 pub fn read_text(console: &mut Console<impl Input + Print>, bytes: &mut [u8]) -> Option<LineStart>
     requires { longest_record + 2 ≤ length bytes.old }
     ensures read { TextCame bytes.new result console.old console.new }
+    ensures input { length console.new.input ≡ length console.old.input }
     ensures output { console.new.output ≡ console.old.output }
 {
     let start = console.read_start(bytes)?;

@@ -68,7 +68,9 @@ pub fn slot_of(legal: LegalDesign, n: usize) -> Slot
     Slot::End(line)
 }
 
-// inner: the frame of a line up to its entry.
+// inner: the frame of a line up to its entry. Always inlined: behind a call the frame is read by several bytes at a time, and waits until they
+// are stored one by one.
+#[inline(always)]
 pub fn head_of(legal: LegalDesign, slot: Slot) -> Frame
     ensures result_value { held result ≡ frame_head legal.design slot }
     ensures count_value { result.count ≡ length (frame_head legal.design slot) }

@@ -65,13 +65,21 @@ fn is_possible(state: Reading) -> bool
 }
 
 // inner: whether a frame, of a line or of a record, is not the one due, which begins as `head` does and has `width` bytes more and a sum
-// byte behind that.
-pub fn head_fails(head: Frame, width: usize, frame: Decoded) -> bool
-    requires { head.count + width ≤ capacity }
-    ensures { result ≡ head_fails (held head) width frame.bytes frame.count }
+// byte behind that. Byte by byte, as both were put together: `starts_with` loads several at a time, and waits until they are stored.
+#[inline(always)]
+pub fn head_fails(head: &Frame, width: usize, frame: &Decoded) -> bool
+    requires { head.now.count + width ≤ capacity }
+    ensures { result ≡ head_fails (held head.now) width frame.now.bytes frame.now.count }
 {
-    let due = &head.bytes[..head.count];
-    frame.count != head.count + width + 1 || !frame.bytes.starts_with(due)
+    if frame.count != head.count + width + 1 {
+        return true;
+    }
+    for (i, due) in head.bytes[..head.count].iter().enumerate() {
+        if frame.bytes[i] != *due {
+            return true;
+        }
+    }
+    false
 }
 
 // Stores the entry of a line, which is given as the number in its bytes.
@@ -148,7 +156,7 @@ fn later_line(
     let slot = slot_of(legal, state.taken);
     let head = head_of(legal, slot);
     let width = entry_width(slot);
-    if head_fails(head, width, frame) {
+    if head_fails(&head, width, &frame) {
         return Err(Cause::Frame);
     }
     let number = number_in(&frame.bytes[head.count..head.count + width]);
@@ -172,13 +180,13 @@ impl Reading {
     pub fn is_finished(self) -> bool
         ensures { result ≡ finished self }
     {
-        if self.taken == 0 {
+        if self.taken == 0 || !is_possible(self) {
             return false;
         }
-        match self.design.checked() {
-            Ok(legal) => self.taken as u64 == line_count(legal),
-            Err(_) => false,
-        }
+        let legal = LegalDesign {
+            design: self.design,
+        };
+        self.taken as u64 == line_count(legal)
     }
 
     // inner: whether the reading is not inside a set: no line is taken, or all of a set's are.

@@ -74,14 +74,15 @@ fn is_possible(total: usize, state: HexReading) -> bool
     state.taken <= record_count(total) && !unused_fail(held_count(total, state.taken), state)
 }
 
-// Puts the k bytes that are held right before a record's data, in the place of the end of its head.
+// Puts the k bytes that are held right before a record's data, in the place of the end of its head. What stands before them is not read, so two
+// are stored, whatever k is.
 fn with_held(state: HexReading, k: usize, window: &mut [u8; CAPACITY])
     requires window_len { length window.old ≡ capacity }
     requires k_lt_entry_bytes { k < entry_bytes }
     ensures { drop (4 - k) window.new ≡ take k (state.first ∷ state.second ∷ []) ++ drop 4 window.old }
 {
-    let held = [state.first, state.second];
-    window[HEAD_BYTES - k..HEAD_BYTES].copy_from_slice(&held[..k]);
+    window[HEAD_BYTES - 2] = state.first;
+    window[HEAD_BYTES - 1] = if k == 1 { state.first } else { state.second };
 }
 
 // Stores entry e, which is an initial entry if it is one of the first `initials`. By its number: a record names no `Slot`.
@@ -144,7 +145,7 @@ fn take_record(
     }
     let before = bytes_before(total, n);
     let length = bytes_before(total, n + 1) - before;
-    if head_fails(head_of(total, n), length, frame) {
+    if head_fails(&head_of(total, n), length, &frame) {
         return Err(Cause::RecordDue);
     }
     let held = before % ENTRY_BYTES;

@@ -151,10 +151,14 @@ take_min n l =
     ]
 
 module _ (bytes : List ℕ) (n : ℕ) where
-  -- Record n holds as many bytes as its length says,
+  -- Record n holds as many bytes as its length says, the ones from 16n on,
   pub data-length : length (data_in bytes n) ≡ length_at (length bytes) n
   unfolding data_in length_at bytes_before
   data-length = rw (length-take, length-drop) (omega arith)
+
+  pub data-at : (i : ℕ) → i < data_bytes → get_or (data_in bytes n) i 0 ≡ get_or bytes (data_bytes * n + i) 0
+  unfolding data_in
+  data-at i h = rw (get_or-take, get_or-drop)
 
   -- and they follow those of the records before it.
   pub data-next : take (bytes_before (length bytes) (n + 1)) bytes ≡ take (bytes_before (length bytes) n) bytes ++ data_in bytes n

@@ -30,7 +30,11 @@ module _ (total n : ℕ) where
   unfolding length_at bytes_before
   before-next = omega arith
 
-  -- The records before a data record hold 16 bytes each;
+  -- A data record holds some bytes, and those before it 16 each;
+  pub data-some : n < data_count total → 0 < length_at total n
+  unfolding data_count length_at bytes_before
+  data-some h = omega arith
+
   pub data-start : n < data_count total → bytes_before total n ≡ data_bytes * n
   unfolding data_count bytes_before
   data-start h = omega arith

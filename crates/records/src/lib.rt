@@ -86,7 +86,9 @@ pub fn decode_record(text: &[u8]) -> Result<Decoded, Cause>
     if text.len() % 2 == 0 || LONGEST_RECORD < text.len() || text[0] != b':' {
         return Err(Cause::Record);
     }
-    let decoded = decode_digits(&text[1..]).ok_or(Cause::Record)?;
+    let Some(decoded) = decode_digits(&text[1..]) else {
+        return Err(Cause::Record);
+    };
     if decoded.count != decoded.bytes[0] as usize + OTHER_BYTES {
         return Err(Cause::Record);
     }

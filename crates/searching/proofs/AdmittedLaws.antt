@@ -1,4 +1,4 @@
--- What is not better than the best, though it is admitted: designs whose budget is too large already, and none where none is legal.
+-- What is not better than the best, though it is admitted: designs whose size or budget is too large already, and none where none is legal.
 use Rattle.std.specs.Prelude.{Option}
 use mathlib.Core.Path.{◌≡◌, sym}
 use mathlib.Core.Bool.{true, false, true≢false}
@@ -23,7 +23,7 @@ use Rattle.searching.specs.declared.SizedDesign.{SizedDesign}
 use Rattle.searching.specs.Designs.{continued}
 use Rattle.searching.specs.Best.{is_admitted}
 use Rattle.searching.specs.Search.{size_before, budget_before}
-use Rattle.searching.proofs.BestLaws.{Reached, NotBetter}
+use Rattle.searching.proofs.BestLaws.{Reached, reached-more, NotBetter}
 use Rattle.searching.proofs.PrefixLaws.{
   Agrees,
   continued-agrees,
@@ -58,7 +58,11 @@ module _ (best : Option SizedDesign) (n : ℕ) (d : Design) (i : ℕ) where
   none-better none =
       all_weaker (λ e same admitted. none e same (admitted-so e admitted)) (continued n d i) (continued-agrees n d i)
 
-  -- for their budget is too large,
+  -- for they have too many bits already,
+  pub too_many : i ≤ d.m → Reached best (size_before d i) → All (NotBetter best) (continued n d i)
+  too_many h many = none-better (λ e same admitted. reached-more best _ _ many (no-fewer d e i same h))
+
+  -- or too large a budget,
   pub too_large : i ≤ d.m → limit d ≤ budget_before d i → All (NotBetter best) (continued n d i)
   too_large h large =
       none-better

@@ -8,3 +8,4 @@ pub mod TableLaws
 pub mod RestLaws
 pub mod TurnLaws
 pub mod BeginLaws
+pub mod VerdictLaws

@@ -3,7 +3,6 @@ use Rattle.std.specs.Prelude.{Ok}
 use mathlib.Core.Path.{◌≡◌}
 use Prim.Native.Nat.{ℕ, ◌+◌, ◌<◌}
 use native.Mathlib.Omega.{arith}
-use Rattle.design.specs.Legal.{Legal}
 use Rattle.design.specs.Limits.{most_initial, most_offsets}
 use Rattle.design.proofs.StoredLaws.{initial-count-small, offset-total-small}
 use Rattle.design.proofs.LegalLaws.{limits}

@@ -93,8 +93,9 @@ pub record Led (before next : Session) (from to : Blocks) (first last : ℕ) (ca
   pub ends : All (λ (l : InputLine). l.end ≡ LineEnd.Input → to.ended ≡ true) lines
 
 -- The same, where more was done than reading: the place in the input was then some place.
-pub record LedFrom (before next : Session) (from : Blocks) (first last : ℕ) (came : Outcome) : Type 0 where
+pub record LedFrom (before next : Session) (from : Blocks) (block : List ℕ) (first last : ℕ) (came : Outcome) : Type 0 where
   pub to : Blocks
+  pub stands : to.input ≡ block
   pub led : Led before next from to first last came
 
 -- A reading that some lines led to from one "begun with no line taken"

@@ -8,7 +8,8 @@ use refusal::Cause;
 
 // Puts a number behind its label.
 fn put_number(console: &mut Console<impl Print>, label: &[u8], n: u64)
-    ensures { KeepsInput console.old console.new }
+    ensures input { KeepsInput console.old console.new }
+    ensures room { length console.new.output ≡ length console.old.output }
 {
     console.put(label);
     console.put_decimal(n);
@@ -16,7 +17,8 @@ fn put_number(console: &mut Console<impl Print>, label: &[u8], n: u64)
 
 // Puts that the input ended before a set did, by the lines that were accepted before.
 pub fn put_unfinished(console: &mut Console<impl Print>, lines: u64)
-    ensures { KeepsInput console.old console.new }
+    ensures input { KeepsInput console.old console.new }
+    ensures room { length console.new.output ≡ length console.old.output }
 {
     put_number(console, b"UNFINISHED ", lines);
     console.put(b"\n");
@@ -24,7 +26,8 @@ pub fn put_unfinished(console: &mut Console<impl Print>, lines: u64)
 
 // Puts why a line is refused, by the lines that were accepted before.
 pub fn put_refused_line(console: &mut Console<impl Print>, lines: u64, cause: Cause)
-    ensures { KeepsInput console.old console.new }
+    ensures input { KeepsInput console.old console.new }
+    ensures room { length console.new.output ≡ length console.old.output }
 {
     put_number(console, b"LINE ", lines);
     console.put(b" ");
@@ -33,7 +36,8 @@ pub fn put_refused_line(console: &mut Console<impl Print>, lines: u64, cause: Ca
 
 // Puts the answer of a check.
 pub fn put_checked(console: &mut Console<impl Print>, checked: Result<Option<u32>, Cause>)
-    ensures { KeepsInput console.old console.new }
+    ensures input { KeepsInput console.old console.new }
+    ensures room { length console.new.output ≡ length console.old.output }
 {
     match checked {
         Ok(None) => console.put(b"FAITHFUL\n"),
@@ -47,7 +51,8 @@ pub fn put_checked(console: &mut Console<impl Print>, checked: Result<Option<u32
 
 // Puts the five counts.
 fn put_counts(console: &mut Console<impl Print>, counts: Counts)
-    ensures { KeepsInput console.old console.new }
+    ensures input { KeepsInput console.old console.new }
+    ensures room { length console.new.output ≡ length console.old.output }
 {
     put_number(console, b"OUTSIDE ", u64::from(counts.outside));
     put_number(console, b" NEAREST ", u64::from(counts.nearest));
@@ -59,7 +64,8 @@ fn put_counts(console: &mut Console<impl Print>, counts: Counts)
 
 // Puts the answer of a count.
 pub fn put_counted(console: &mut Console<impl Print>, counted: Result<Counts, Cause>)
-    ensures { KeepsInput console.old console.new }
+    ensures input { KeepsInput console.old console.new }
+    ensures room { length console.new.output ≡ length console.old.output }
 {
     match counted {
         Ok(counts) => put_counts(console, counts),

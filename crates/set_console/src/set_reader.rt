@@ -72,6 +72,7 @@ impl SetReader {
             console.old console.new self.old.lines self.new.lines result }
         ensures counted { self.new.lines ≡ lines_with result self.old.lines }
         ensures few { self.new.lines < 2 ^ 64 }
+        ensures input { length console.new.input ≡ length console.old.input }
         ensures output { console.new.output ≡ console.old.output }
     {
         if self.lines == u64::MAX {
@@ -101,6 +102,7 @@ impl SetReader {
         ensures reached { Reached (session self.new.state initial.new offsets.new) }
         ensures storable { result ≡ Ok true
             → Storable (record { design = self.new.state.design; initial = initial.new; offsets = offsets.new }) }
+        ensures input { length console.new.input ≡ length console.old.input }
         ensures output { console.new.output ≡ console.old.output }
     {
         'lines: loop {

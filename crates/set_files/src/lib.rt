@@ -1,10 +1,11 @@
 // Going through a file of sets: what `check_set`, `count_set` and `set_to_hex` share. They differ in what they write of each set.
 #![tactic(auto)]
 
-ghost use Rattle.std.specs.Prelude.{◌≡◌, true, ◌^◌, ◌<◌, length, Ok, Err};
+ghost use Rattle.std.specs.Prelude.{◌≡◌, true, ◌^◌, ◌<◌, List, ℕ, length, Ok, Err};
 ghost use Rattle.refusal.specs.declared.Cause.{Cause};
 ghost use Rattle.reading.specs.ReadLine.{session};
 ghost use Rattle.storage.specs.Sets.{Storable};
+ghost use Rattle.console.specs.Reading.{KeepsBlocks};
 ghost use Rattle.set_console.specs.Reading.{HoldsEverySet, LedFrom, Reached, set_came};
 ghost use Rattle.set_files.specs.Whole.{is_whole};
 
@@ -27,7 +28,7 @@ fn is_whole(came: Result<bool, Cause>, any: bool, state: Reading) -> bool
 }
 
 // Writes what there is to say of what came: of a set, which is one that can be stored, its answer, of the end of a whole file nothing, else
-// why there is no set. The separator stands behind a set before it.
+// why there is no set. The separator stands behind a set before it. The blocks are kept where each answer keeps them.
 fn put_came<R: Print, F: Fn(&mut Console<R>, Design, &[u32], &[i32])>(
     console: &mut Console<R>,
     separator: &[u8],
@@ -41,6 +42,8 @@ fn put_came<R: Print, F: Fn(&mut Console<R>, Design, &[u32], &[i32])>(
     requires callable { (c : _) (d : _) (i : _) (o : _) → Storable (record { design = d; initial = i.now; offsets = o.now })
         → F.pre put_answer.now c d i o }
     requires storable { came ≡ Ok true → Storable (record { design = reader.state.design; initial = initial.now; offsets = offsets.now }) }
+    ensures blocks { ((c : _) (d : _) (i : _) (o : _) (n : _) → F.post put_answer.now c d i o tt n → KeepsBlocks c.now n.now)
+        → KeepsBlocks console.old console.new }
 {
     if is_whole(came, any, reader.state) {
         return;
@@ -55,7 +58,8 @@ fn put_came<R: Print, F: Fn(&mut Console<R>, Design, &[u32], &[i32])>(
     }
 }
 
-// Answers the next set, if there is one. The result is whether a set came.
+// Answers the next set, if there is one. The result is whether a set came. Where each answer keeps the blocks, the input's block is still the
+// one that the last line came from.
 fn answer_next<R: Input + Print, F: Fn(&mut Console<R>, Design, &[u32], &[i32])>(
     console: &mut Console<R>,
     separator: &[u8],
@@ -69,8 +73,12 @@ fn answer_next<R: Input + Print, F: Fn(&mut Console<R>, Design, &[u32], &[i32])>
         → F.pre put_answer.now c d i o }
     requires holds_every_set { HoldsEverySet (length initial.old) (length offsets.old) }
     requires begun { Reached (session reader.old.state initial.old offsets.old) }
-    ensures led { LedFrom (session reader.old.state initial.old offsets.old) (session reader.new.state initial.new offsets.new)
-        console.old reader.old.lines reader.new.lines (set_came result) }
+    ensures led { (block : List ℕ)
+        × LedFrom (session reader.old.state initial.old offsets.old) (session reader.new.state initial.new offsets.new)
+        console.old block reader.old.lines reader.new.lines (set_came result)
+        × (((c : _) (d : _) (i : _) (o : _) (n : _) → F.post put_answer.now c d i o tt n → KeepsBlocks c.now n.now)
+        → (block ≡ console.new.input) × (length console.new.input ≡ length console.old.input)
+        × (length console.new.output ≡ length console.old.output)) }
     ensures later { result ≡ Ok true → reader.old.lines < reader.new.lines }
     ensures few { reader.new.lines < 2 ^ 64 }
     ensures held { result ≡ Err Cause.TablesShort → ⊥ }
@@ -94,6 +102,8 @@ fn answer_all<R: Input + Print, F: Fn(&mut Console<R>, Design, &[u32], &[i32])>(
     requires callable { (c : _) (d : _) (i : _) (o : _) → Storable (record { design = d; initial = i.now; offsets = o.now })
         → F.pre put_answer c d i o }
     requires holds_every_set { HoldsEverySet (length initial.old) (length offsets.old) }
+    ensures { ((c : _) (d : _) (i : _) (o : _) (n : _) → F.post put_answer c d i o tt n → KeepsBlocks c.now n.now)
+        → (length console.new.input ≡ length console.old.input) × (length console.new.output ≡ length console.old.output) }
 {
     let mut reader = SetReader::new();
     let mut any = false;

@@ -6,14 +6,14 @@ use native.Mathlib.Decide.{dec_lt}
 use native.Mathlib.Omega.{arith}
 use lib.Pow.{pow_mono, pow_pos}
 use Rattle.general.specs.Digits.{Digits}
-use Rattle.general.proofs.Sums.{sum-congruence, largest-reached}
+use Rattle.general.proofs.Sums.{sum-bounded, sum-congruence, largest-reached}
 use Rattle.values.specs.declared.rows.Row.{Row}
 use Rattle.values.specs.Room.{finest_unit}
 use Rattle.values.specs.Inputs.{SlopeInput}
 use Rattle.values.specs.Slopes.{slope_sum, largest_sum}
 use Rattle.design.specs.declared.Pair.{Pair}
 use Rattle.design.specs.declared.Design.{Design}
-use Rattle.design.specs.Limits.{least_initial_bits, most_initial_bits, most_table_bits, most_initial, most_in_table}
+use Rattle.design.specs.Limits.{least_initial_bits, most_initial_bits, most_tables, most_table_bits, most_initial, most_in_table}
 use Rattle.design.specs.Cut.{pair_at, a_of, b_of, row, fraction_bits, position}
 use Rattle.design.specs.Stored.{initial_count}
 use Rattle.design.specs.Same.{Same}
@@ -94,3 +94,13 @@ size_same d e s =
     let tables = sum-congruence d.m (table_size d) (table_size e)
     (λ i h. table-size-same d e i s.kind s.w s.q s.g (pair_same d e s i) (position-same d e s i)) in
     rw (tables, s.alpha, s.q, s.g, s.m)
+
+pub size_small : (d : Design) → Limits d → size d ≤ initial_bound + most_tables * table_bound
+unfolding size initial_size initial_count
+size_small d l =
+    omega (
+      arith,
+      initial-by-small _ _ l.alpha-high l.widths.room.s-small,
+      sum-bounded d.m table_bound (table_size d) (λ i h. table-size-small d i l h),
+      l.m-high,
+    )

@@ -13,8 +13,11 @@ use Rattle.general.specs.Below.{signed_sum}
 use Rattle.general.proofs.Tests.{neither}
 use Rattle.general.proofs.Sums.{signed-next, signed-first}
 use Rattle.values.specs.declared.TableUnits.{TableUnits}
+use Rattle.values.specs.Room.{finest_unit, entry_bound}
 use Rattle.design.specs.declared.Design.{Design}
 use Rattle.design.specs.Cut.{sum_limit}
+use Rattle.design.specs.Legal.{Legal}
+use Rattle.design.proofs.LegalLaws.{limits, sum-limit-small}
 use Rattle.tables.specs.Inputs.{sum_above}
 use Rattle.tables.specs.Sum.{offset_for, sum_from, sum_outside}
 
@@ -79,3 +82,10 @@ pub in-range : (d : Design) (Y : ℤ) → sum_outside d Y ≡ false → T (non_n
 unfolding sum_outside
 in-range d (pos n) e = (tt, leb-false _ _ (neither (ltb n 0) (leb (sum_limit d) n) e).1)
 in-range d (negsuc n) e = absurd (true≢false e)
+
+-- Its word is a division of a number that the machine holds.
+pub small-in-range : (d : Design) → Legal d → (Y : ℤ) → sum_outside d Y ≡ false
+    → (d.g ≤ finest_unit) × T (non_neg Y) × (nat_abs Y < entry_bound)
+small-in-range d legal Y e =
+    let inside = in-range d Y e in
+    (omega (arith, (limits d legal).widths), inside.0, omega (arith, inside.1, sum-limit-small d (limits d legal)))

@@ -20,7 +20,9 @@ pub fn tables_short(legal: LegalDesign, initial: usize, offsets: usize) -> bool
     (initial as u64) < pow2(legal.design.alpha) || (offsets as u64) < legal.offset_total()
 }
 
-// The design of a set, or the first of the refusals 1 to 10 of any call that takes the set, by the lengths of its tables.
+// The design of a set, or the first of the refusals 1 to 10 of any call that takes the set, by the lengths of its tables. Inlined, as
+// `Design::checked` is.
+#[inline(always)]
 pub fn checked_set(d: Design, initial: usize, offsets: usize) -> Result<LegalDesign, Cause>
     ensures verdict { verdict_of result ≡ verdict (set_checks d initial offsets) }
     ensures same { IfOk result (λ legal. legal.design ≡ d) }

@@ -1,6 +1,7 @@
 // The sum Y of an input word over any tables, whoever filled them, and the word that it comes to.
-ghost use Rattle.std.specs.Prelude.{◌≡◌, false, ◌+◌, ◌^◌, ◌≤◌, ◌<◌, length, get_or, pos, ◌+ℤ◌, IfOk};
-ghost use Rattle.std.specs.Int.Signed.{mag};
+ghost use Rattle.std.specs.Prelude.{◌≡◌, false, ◌||◌, T, ◌+◌, ◌/◌, ◌^◌, ◌≤◌, ◌<◌, length, get_or, pos, nat_abs, ◌+ℤ◌, IfOk};
+ghost use Rattle.std.specs.Int.Signed.{mag, non_neg, lt_z, le_z};
+ghost use Rattle.values.specs.Room.{finest_unit, entry_bound};
 ghost use Rattle.refusal.specs.Checks.{verdict, verdict_of};
 ghost use Rattle.design.specs.Stored.{initial_count, offset_total};
 ghost use Rattle.design.specs.Legal.{Legal};
@@ -12,6 +13,7 @@ ghost use Rattle.tables.specs.Sum.{offset_for, sum_from, sum_at, sum_outside, wo
 use crate::checked_set;
 use crate::lookups::{Lookup, Lookups, lookups_of, place_of};
 use design::{Design, LegalDesign};
+use general::pow2;
 use refusal::Cause;
 use values::{OutputUnits, TableUnits};
 
@@ -44,24 +46,42 @@ fn add_offset(sum: TableUnits, offsets: &[i32], place: u32) -> TableUnits
     TableUnits(sum.0 + offset as i64)
 }
 
+// Whether Y is out of range, not 0 ≤ Y < limit. By numbers, and by no design: one that is handed on for each word is copied for each word, and
+// reading it waits for the copy.
+#[inline(always)]
+fn is_outside(limit: u64, sum: TableUnits) -> bool
+    requires { limit ≤ entry_bound }
+    ensures { result ≡ (lt_z sum.0 (pos 0) || le_z (pos limit) sum.0) }
+{
+    let limit = limit as i64;
+    sum.0 < 0 || limit <= sum.0
+}
+
+// floor(Y / 2^g): the only place where table units become output units. By numbers, for the same reason.
+#[inline(always)]
+fn divided(g: u32, sum: TableUnits) -> OutputUnits
+    requires { (g ≤ finest_unit) × T (non_neg sum.0) × (nat_abs sum.0 < entry_bound) }
+    ensures { result ≡ record { 0 = nat_abs sum.0 / 2 ^ g } }
+{
+    let word = (sum.count() >> g) as u32;
+    OutputUnits(word)
+}
+
 // inner: whether Y is out of range, not 0 ≤ Y < 2^(P+2).
 #[inline(always)]
 pub fn sum_outside(legal: LegalDesign, sum: TableUnits) -> bool
     ensures { result ≡ sum_outside legal.design sum.0 }
 {
-    let limit = legal.sum_limit() as i64;
-    sum.0 < 0 || limit <= sum.0
+    is_outside(legal.sum_limit(), sum)
 }
 
-// inner: the word, floor(Y / 2^g): the only place where table units become output units.
+// inner: the word, floor(Y / 2^g).
 #[inline(always)]
 pub fn word_of(legal: LegalDesign, sum: TableUnits) -> OutputUnits
     requires { sum_outside legal.design sum.0 ≡ false }
     ensures { result ≡ record { 0 = word_of legal.design sum.0 } }
 {
-    let g = legal.design.g;
-    let word = (sum.count() >> g) as u32;
-    OutputUnits(word)
+    divided(legal.design.g, sum)
 }
 
 impl OffsetTables<'_> {
@@ -131,7 +151,7 @@ impl OffsetTables<'_> {
     pub fn sum_outside(self, sum: TableUnits) -> bool
         ensures { result ≡ sum_outside self.entry.design sum.0 }
     {
-        sum_outside(self.legal(), sum)
+        is_outside(pow2(self.design.q + self.design.g + 2), sum)
     }
 
     // inner: the word that Y comes to.
@@ -140,7 +160,7 @@ impl OffsetTables<'_> {
         requires { sum_outside self.design sum.0 ≡ false }
         ensures { result ≡ record { 0 = word_of self.entry.design sum.0 } }
     {
-        word_of(self.legal(), sum)
+        divided(self.design.g, sum)
     }
 }
 

@@ -1,7 +1,11 @@
 -- `frames::decode_digits` meets its contract: the loop keeps `BytesRead`, and each way out cites a law that refuses or accepts the digits.
-use mathlib.Core.Path.{◌∙◌}
+use mathlib.Core.Path.{ap, refl, ◌∙◌}
+use mathlib.Core.List.{List}
+use Prim.Native.Nat.{ℕ}
+use Rattle.std.specs.Prelude.{Some}
 use mathlib.Core.Logic.{inl, inr}
 use native.Mathlib.Omega.{arith}
+use Rattle.frames.specs.declared.Decoded.{Decoded}
 use Rattle.frames.proofs.HexLaws.{two-digits}
 use Rattle.frames.proofs.Decoding.{start, step, step-full, broken, sum-wrong, finished}
 use Rattle.frames.proofs.decode_digits.Goals as goal
@@ -13,12 +17,16 @@ use Rattle.frames.proofs.decode_digits.Goals.{
   then-i-lt-CAPACITY,
 }
 
+-- what is kept, by its parts
+abbrev kept : List ℕ → ℕ → Decoded
+kept bytes count = record { bytes = bytes; count = count }
+
 pub loop-i-init : goal.loop-i-init
 loop-i-init c =
     let items = c.enumerate-i-items.ensures in
     let chunks = c.chunks_exact.ensures in
     rw (c.into_iter-i-iterator.ensures.into_iter_gives, items.source, items.count)
-    (record { two = chunks.size; so_far = start _ chunks.rest c.requires })
+    (record { two = chunks.size; so_far = start _ chunks.rest c.requires; count = refl })
 
 pub returns-then-high-ge16 : goal.returns-then-high-ge16
 returns-then-high-ge16 c =
@@ -40,7 +48,9 @@ loop-i-preserved c =
       two = steps.0.0 ∙ c.loop-i.invariant.two;
       so_far =
           rw steps.2
-          (elim c.if-i-lt-CAPACITY.branch [ then-i-lt-CAPACITY w ↦ rw (w.bytes-is, steps.1) (step so_far pair high low (omega (arith, w.if-i-lt-CAPACITY.true, steps.1))) | else-i-lt-CAPACITY w ↦ rw w.bytes-is (step-full so_far pair high low (omega (arith, w.if-i-lt-CAPACITY.false, steps.1))) ]);
+          (elim c.if-i-lt-CAPACITY.branch [ then-i-lt-CAPACITY w ↦ rw (w.frame-is, steps.1) (step so_far pair high low (omega (arith, w.if-i-lt-CAPACITY.true, steps.1))) | else-i-lt-CAPACITY w ↦ rw w.frame-is (step-full so_far pair high low (omega (arith, w.if-i-lt-CAPACITY.false, steps.1))) ]);
+      count =
+          elim c.if-i-lt-CAPACITY.branch [ then-i-lt-CAPACITY w ↦ rw w.frame-is c.loop-i.invariant.count | else-i-lt-CAPACITY w ↦ rw w.frame-is c.loop-i.invariant.count ];
     }
 
 pub returns-then-sum-ne0 : goal.returns-then-sum-ne0
@@ -51,4 +61,6 @@ returns-then-sum-ne0 c =
 pub returns : goal.returns
 returns c =
     let end = c.in-None.ensures.steps.0.1.0 in
-    finished c.loop-i.invariant.so_far (omega (arith, c.loop-i.invariant.two, end)) c.if-sum-ne0.false
+    let frame = c.loop-i.frame in
+    ap (λ (n : ℕ). Some (kept frame.bytes n)) c.loop-i.invariant.count
+    ∙ finished c.loop-i.invariant.so_far (omega (arith, c.loop-i.invariant.two, end)) c.if-sum-ne0.false

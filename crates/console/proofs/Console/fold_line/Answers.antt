@@ -4,7 +4,7 @@ use Rattle.console.proofs.FoldLaws.{folding-none, folding-more, folded-newline, 
 use Rattle.console.proofs.Console.fold_line.Goals as goal
 
 pub line-init : goal.line-init
-line-init g c = record { folding = folding-none _ _ _; output = refl }
+line-init g c = record { folding = folding-none _ _ _; input = refl; output = refl }
 
 pub line-preserved : goal.line-preserved
 line-preserved g c =
@@ -12,6 +12,7 @@ line-preserved g c =
     let read = c.next_byte.ensures in
     record {
       folding = folding-more _ _ _ _ _ _ _ inv.folding c.in-Some.b _ (rw c.in-Some.is at read.value) c.in-Some.b-test.1 c.with-text.ensures;
+      input = read.input ∙ inv.input;
       output = read.output ∙ inv.output;
     }
 

@@ -41,5 +41,6 @@ loop-count-preserved g c =
     record {
       taken = line-more _ _ _ l.bytes l.count b (omega arith) l.invariant.taken (takes-byte _ _ _ c.next_byte.ensures.value b c.in-Some.is);
       no-newline = one_more l.bytes l.count b (omega arith) l.invariant.no-newline c.in-Some.b-test.1;
+      input = c.next_byte.ensures.input ∙ l.invariant.input;
       output = c.next_byte.ensures.output ∙ l.invariant.output;
     }

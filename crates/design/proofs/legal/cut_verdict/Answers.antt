@@ -61,7 +61,7 @@ module _ (d : Design) (places : most_tables ≤ length d.pairs) (alpha : outside
 pub returns-then-some_breaks : goal.returns-then-some_breaks
 returns-then-some_breaks c =
     rw (
-      judged c.args.d (omega (arith, c.well_formed)) (tested c.outside.ensures c.if-outside.false) c.if-d.false
+      judged c.args.d.now (omega arith) (tested c.outside.ensures c.if-outside.false) c.if-d.false
           (tested c.outside-2.ensures c.if-outside-2.false),
       tested c.some_breaks.ensures c.if-some_breaks.true,
     )
@@ -69,7 +69,7 @@ returns-then-some_breaks c =
 pub returns-then-some_breaks-2 : goal.returns-then-some_breaks-2
 returns-then-some_breaks-2 c =
     rw (
-      judged c.args.d (omega (arith, c.well_formed)) (tested c.outside.ensures c.if-outside.false) c.if-d.false
+      judged c.args.d.now (omega arith) (tested c.outside.ensures c.if-outside.false) c.if-d.false
           (tested c.outside-2.ensures c.if-outside-2.false),
       tested c.some_breaks.ensures c.if-some_breaks.false,
       tested c.some_breaks-2.ensures c.if-some_breaks-2.true,
@@ -78,7 +78,7 @@ returns-then-some_breaks-2 c =
 pub returns-then-offset_bits-d : goal.returns-then-offset_bits-d
 returns-then-offset_bits-d c =
     rw (
-      judged c.args.d (omega (arith, c.well_formed)) (tested c.outside.ensures c.if-outside.false) c.if-d.false
+      judged c.args.d.now (omega arith) (tested c.outside.ensures c.if-outside.false) c.if-d.false
           (tested c.outside-2.ensures c.if-outside-2.false),
       tested c.some_breaks.ensures c.if-some_breaks.false,
       tested c.some_breaks-2.ensures c.if-some_breaks-2.false,
@@ -88,7 +88,7 @@ returns-then-offset_bits-d c =
 pub returns : goal.returns
 returns c =
     rw (
-      judged c.args.d (omega (arith, c.well_formed)) (tested c.outside.ensures c.if-outside.false) c.if-d.false
+      judged c.args.d.now (omega arith) (tested c.outside.ensures c.if-outside.false) c.if-d.false
           (tested c.outside-2.ensures c.if-outside-2.false),
       tested c.some_breaks.ensures c.if-some_breaks.false,
       tested c.some_breaks-2.ensures c.if-some_breaks-2.false,

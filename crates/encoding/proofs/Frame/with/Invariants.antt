@@ -3,4 +3,4 @@ use Rattle.encoding.proofs.NumberBytes.{Appending}
 use Rattle.encoding.proofs.Frame.with.Given as goal
 
 abbrev pub invariant-loop-left : goal.invariant-loop-left
-invariant-loop-left l = Appending l.initial.self.bytes l.self.bytes l.initial.self.count l.width l.number l.self.count l.left
+invariant-loop-left l = Appending l.initial.self.bytes l.self.bytes l.initial.self.count l.width l.number l.at l.left

@@ -1,17 +1,18 @@
--- `reading::Reading::is_finished` meets its contract: with lines taken it goes by the design and by their number.
+-- `reading::Reading::is_finished` meets its contract: a possible state with lines taken is finished by their number.
 use mathlib.Core.Path.{sym}
 use native.Mathlib.Omega.{arith}
-use Rattle.reading.proofs.ReadLaws.{not-begun, legal-finish, illegal-finish}
+use Rattle.general.proofs.Tests.{tested}
+use Rattle.reading.proofs.ReadLaws.{begun, not-begun, not-possible, by_count}
 use Rattle.reading.proofs.Reading.is_finished.Goals as goal
+use Rattle.reading.proofs.Reading.is_finished.Goals.{then-self-eq0-via-then-self-eq0, then-self-eq0-via-else-self-eq0+then-not-is_possible}
 
 pub returns-then-self-eq0 : goal.returns-then-self-eq0
-returns-then-self-eq0 c = sym (not-begun _ c.if-self-eq0.true)
+returns-then-self-eq0 c =
+    sym (elim c.then-self-eq0.branch [ then-self-eq0-via-then-self-eq0 w ↦ not-begun _ w.if-self-eq0.true | then-self-eq0-via-else-self-eq0+then-not-is_possible w ↦ not-possible _ (tested w.is_possible.ensures w.if-not-is_possible.true) ])
 
-pub returns-in-Ok : goal.returns-in-Ok
-returns-in-Ok c =
-    let verdict = rw c.in-Ok.is at c.checked.ensures.verdict in
-    let same = rw c.in-Ok.is at c.checked.ensures.same in
-    rw (c.line_count.ensures, same) (legal-finish c.args.self (omega (arith, c.if-self-eq0.false)) (sym verdict))
+pub invariant_of-legal : goal.invariant_of-legal
+invariant_of-legal c =
+    record { legal = (begun _ (omega (arith, c.if-self-eq0.false)) (tested c.is_possible.ensures c.if-not-is_possible.false)).legal }
 
-pub returns-in-Err : goal.returns-in-Err
-returns-in-Err c = illegal-finish _ (omega (arith, c.if-self-eq0.false)) _ (sym (rw c.in-Err.is at c.checked.ensures.verdict))
+pub returns : goal.returns
+returns c = rw c.line_count.ensures (sym (by_count _ (tested c.is_possible.ensures c.if-not-is_possible.false)))

@@ -9,7 +9,7 @@ use Rattle.hex_console.proofs.record_reader.RecordReader.read_set.Goals as goal
 pub records-init : goal.records-init
 records-init g c =
     let new = c.new.ensures in
-    record { design = new.0; came = rw new.1 (loaded-none _ _ _); unfinished = rw new.1 (unfinished_none _); output = refl }
+    record { design = new.0; came = rw new.1 (loaded-none _ _ _); unfinished = rw new.1 (unfinished_none _); input = refl; output = refl }
 
 pub records-preserved : goal.records-preserved
 records-preserved g c =
@@ -20,6 +20,7 @@ records-preserved g c =
       design = step.design ∙ inv.design;
       came = loaded-more _ _ _ _ _ _ inv.came stepped;
       unfinished = stepped.unfinished (c.in_ok-take_record.was ∙ ap Ok c.in-Line.is);
+      input = step.input ∙ inv.input;
       output = step.output ∙ inv.output;
     }
 

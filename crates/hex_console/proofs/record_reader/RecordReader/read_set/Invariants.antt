@@ -3,6 +3,7 @@
 use mathlib.Core.Path.{◌≡◌}
 use mathlib.Core.Bool.{false}
 use Prim.Native.Nat.{◌-◌}
+use lib.ListN.{length}
 use Rattle.records.specs.IntelHex.{record_count}
 use Rattle.records.specs.SetBytes.{byte_count}
 use Rattle.record_reading.specs.ReadRecord.{hex_finished, hex_session}
@@ -16,6 +17,7 @@ invariant-records g l =
       design : l.self.design ≡ l.fn.self.design;
       came : HexCame l.fn.self.design i.initial' i.offsets (hex_session l.self.state l.initial' l.offsets);
       unfinished : hex_finished l.fn.self.design l.self.state ≡ false;
+      input : length l.console.input ≡ length i.console.input;
       output : l.console.output ≡ i.console.output;
     }
 

@@ -12,7 +12,7 @@ same-cause : {a b : Cause} → ◌≡◌ {A = Result Bool Cause} (Err a) (Err b)
 same-cause e = cc
 
 pub lines-init : goal.lines-init
-lines-init g c = record { led = none_yet _ _ _; initial_length = refl; offsets_length = refl; output = refl }
+lines-init g c = record { led = none_yet _ _ _; initial_length = refl; offsets_length = refl; input = refl; output = refl }
 
 pub lines-preserved : goal.lines-preserved
 lines-preserved g c =
@@ -22,6 +22,7 @@ lines-preserved g c =
       led = led-more _ _ _ _ _ _ _ _ _ _ inv.led (rw line at c.take_line.ensures.led);
       initial_length = search rules;
       offsets_length = search rules;
+      input = search rules;
       output = search rules;
     }
 

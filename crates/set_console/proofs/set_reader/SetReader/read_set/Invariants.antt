@@ -16,6 +16,7 @@ invariant-lines g l =
           (Ok Came.Line);
       initial_length : length l.initial' ≡ length i.initial';
       offsets_length : length l.offsets ≡ length i.offsets;
+      input : length l.console.input ≡ length i.console.input;
       output : l.console.output ≡ i.console.output;
     }
 

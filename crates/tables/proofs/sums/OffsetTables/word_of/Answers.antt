@@ -1,8 +1,11 @@
--- `tables::sums::OffsetTables::word_of` meets its contract: the design is the tables'.
+-- `tables::sums::OffsetTables::word_of` meets its contract: a sum in range is small.
+use Rattle.tables.specs.Sum.{word_of}
+use Rattle.tables.proofs.SumLaws.{small-in-range}
 use Rattle.tables.proofs.sums.OffsetTables.word_of.Goals as goal
 
-pub word_of-requires : goal.word_of-requires
-word_of-requires c = rw c.legal.ensures c.requires
+pub divided-requires : goal.divided-requires
+divided-requires c = small-in-range _ c.args.self.legal _ c.requires
 
 pub returns : goal.returns
-returns c = rw c.legal.ensures at c.word_of.ensures
+unfolding word_of
+returns c = c.divided.ensures

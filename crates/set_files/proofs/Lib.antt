@@ -1,0 +1,2 @@
+-- Laws of going through a file of sets.
+mod KeptLaws
